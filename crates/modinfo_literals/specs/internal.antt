@@ -1,2 +1,3 @@
--- How the program holds elements. No contract of a public function names them.
+-- The steps of the code. No contract of a public function names them.
+pub mod Step
 pub mod Read

@@ -2,8 +2,9 @@
 
 ghost use Rattle.std.specs.Prelude.{◌≡◌, ◌<◌, ◌++◌, Some, None, IfOk, IfSome, OnOk};
 ghost use Rattle.std.specs.Str.{chars};
-ghost use Rattle.modinfo_literals.specs.Literal.{string_element, template_element, units_of};
-ghost use Rattle.modinfo_literals.specs.internal.Read.{IsElement, HasCodePoint, AreUnits, first_element};
+ghost use Rattle.modinfo_literals.specs.Literal.{units_of};
+ghost use Rattle.modinfo_literals.specs.internal.Read.{IsStep, HasCodePoint, AreUnits, first_step};
+ghost use Rattle.modinfo_literals.specs.internal.Step.{string_step, template_step};
 
 use crate::escape::{string_escape, template_escape};
 use crate::text::{after, after_carriage_return, split_first};
@@ -57,7 +58,7 @@ impl<'a> Piece<'a> {
 
 /// Reads the first element of a string literal's text after the first quote.
 fn string_element(text: &str, quote: char) -> Option<Piece<'_>>
-    ensures element { IsElement result (string_element quote (chars text.now)) }
+    ensures step { IsStep result (string_step quote (chars text.now)) }
     ensures code_point { HasCodePoint result }
 {
     let (first, rest) = split_first(text)?;
@@ -72,7 +73,7 @@ fn string_element(text: &str, quote: char) -> Option<Piece<'_>>
 
 /// Reads the first element of a template's part.
 fn template_element(text: &str) -> Option<Piece<'_>>
-    ensures element { IsElement result (template_element (chars text.now)) }
+    ensures step { IsStep result (template_step (chars text.now)) }
     ensures code_point { HasCodePoint result }
 {
     let (first, rest) = split_first(text)?;
@@ -87,7 +88,7 @@ fn template_element(text: &str) -> Option<Piece<'_>>
 
 /// Reads the first element of a literal.
 fn first_element(form: Form, text: &str) -> Option<Piece<'_>>
-    ensures element { IsElement result (first_element form (chars text.now)) }
+    ensures step { IsStep result (first_step form (chars text.now)) }
     ensures code_point { HasCodePoint result }
 {
     match form {

@@ -1,11 +1,13 @@
 //! Reads the escapes of literals, without their backslash.
 
-ghost use Rattle.std.specs.Prelude.{◌≡◌, ◌==◌, ◌≤◌, true, Some, length, drop, min};
+ghost use Rattle.std.specs.Prelude.{◌≡◌, ◌≤◌, ℕ, List, ◌<◌, [], ◌∷◌, MatchOption, IfSome, Some, length, drop, min};
+ghost use Rattle.std.specs.Char.{is_digit};
 ghost use Rattle.std.specs.Str.{chars};
-ghost use Rattle.modinfo_literals.specs.Escape.{digits, number, hex_digits, braced_digits, unicode_escape};
-ghost use Rattle.modinfo_literals.specs.Escape.{octal_escape, single_escape, common_escape};
-ghost use Rattle.modinfo_literals.specs.Escape.{string_escape, template_escape, begins_with, is_digit};
-ghost use Rattle.modinfo_literals.specs.internal.Read.{IsElement, HasCodePoint};
+ghost use Rattle.modinfo_literals.specs.Escape.{begins_with, number};
+ghost use Rattle.modinfo_literals.specs.internal.Read.{IsStep, HasCodePoint, IsFirstDigit};
+ghost use Rattle.modinfo_literals.specs.internal.Step.{digits_of, hex_step, braced_step, unicode_step};
+ghost use Rattle.modinfo_literals.specs.internal.Step.{octal_step, single_escape, common_step};
+ghost use Rattle.modinfo_literals.specs.internal.Step.{string_escape_step, template_escape_step};
 
 use crate::element::Piece;
 use crate::text::{after, after_carriage_return, split_first};
@@ -29,6 +31,10 @@ struct Digits<'a> {
 fn next_digit(text: &str, base: u32, most: usize) -> Option<(u32, &str)>
     requires low { 2 ≤ base }
     requires high { base ≤ 36 }
+    ensures cases { MatchOption result (digits_of base most (chars text.now) ≡ [])
+        (λ r. IsFirstDigit base most (chars text.now) r.0 (chars r.1.now)) }
+    ensures shorter { IfSome result (λ r. length r.1.now < length text.now) }
+    ensures more { IfSome result (λ r. 0 < most) }
 {
     if most == 0 {
         return None;
@@ -41,10 +47,10 @@ fn next_digit(text: &str, base: u32, most: usize) -> Option<(u32, &str)>
 fn read_digits(text: &str, base: u32, most: usize) -> Digits<'_>
     requires low { 2 ≤ base }
     requires high { base ≤ 36 }
-    ensures value { result.value ≡ min (number base (digits base most (chars text.now))) LIMIT }
-    ensures count { result.count ≡ length (digits base most (chars text.now)) }
+    ensures value { result.value ≡ min (number base (digits_of base most (chars text.now))) LIMIT }
+    ensures count { result.count ≡ length (digits_of base most (chars text.now)) }
     ensures rest { chars result.rest.now
-        ≡ drop (length (digits base most (chars text.now))) (chars text.now) }
+        ≡ drop (length (digits_of base most (chars text.now))) (chars text.now) }
 {
     let mut value = 0;
     let mut count = 0;
@@ -60,7 +66,7 @@ fn read_digits(text: &str, base: u32, most: usize) -> Digits<'_>
 /// Reads exactly `count` hexadecimal digits.
 fn hex_digits(text: &str, count: usize) -> Option<Piece<'_>>
     requires { count ≤ 4 }
-    ensures element { IsElement result (hex_digits count (chars text.now)) }
+    ensures step { IsStep result (hex_step count (chars text.now)) }
     ensures code_point { HasCodePoint result }
 {
     let found = read_digits(text, 16, count);
@@ -73,7 +79,7 @@ fn hex_digits(text: &str, count: usize) -> Option<Piece<'_>>
 
 /// Reads the hexadecimal digits of a code point and the `}` after them.
 fn braced_digits(text: &str) -> Option<Piece<'_>>
-    ensures element { IsElement result (braced_digits (chars text.now)) }
+    ensures step { IsStep result (braced_step (chars text.now)) }
     ensures code_point { HasCodePoint result }
 {
     let found = read_digits(text, 16, text.len());
@@ -85,7 +91,7 @@ fn braced_digits(text: &str) -> Option<Piece<'_>>
 
 /// Reads a Unicode escape after its `u`: four digits, or digits in braces.
 fn unicode_escape(text: &str) -> Option<Piece<'_>>
-    ensures element { IsElement result (unicode_escape (chars text.now)) }
+    ensures step { IsStep result (unicode_step (chars text.now)) }
     ensures code_point { HasCodePoint result }
 {
     match after(text, '{') {
@@ -94,10 +100,10 @@ fn unicode_escape(text: &str) -> Option<Piece<'_>>
     }
 }
 
-/// Reads a legacy octal escape, of which `first` is the first digit.
+/// Reads a legacy octal escape, `text`, of which `first` is the first digit.
 fn octal_escape(text: &str, first: char) -> Piece<'_>
-    requires { begins_with (λ c. c == first) (chars text.now) ≡ true }
-    ensures element { IsElement (Some result) (octal_escape (chars text.now)) }
+    ensures step { (rest : List ℕ) → chars text.now ≡ first ∷ rest
+        → IsStep (Some result) (octal_step first rest) }
     ensures code_point { HasCodePoint (Some result) }
 {
     let found = read_digits(text, 8, if first < '4' { 3 } else { 2 });
@@ -121,7 +127,7 @@ fn single_escape(c: char) -> char
 
 /// Reads an escape that doesn't begin with a digit: `first` and what belongs to it of `rest`.
 fn common_escape(first: char, rest: &str) -> Option<Piece<'_>>
-    ensures element { IsElement result (common_escape first (chars rest.now)) }
+    ensures step { IsStep result (common_step first (chars rest.now)) }
     ensures code_point { HasCodePoint result }
 {
     match first {
@@ -135,20 +141,22 @@ fn common_escape(first: char, rest: &str) -> Option<Piece<'_>>
 
 /// Reads an escape of a string literal.
 pub(crate) fn string_escape(text: &str) -> Option<Piece<'_>>
-    ensures element { IsElement result (string_escape (chars text.now)) }
+    ensures step { IsStep result (string_escape_step (chars text.now)) }
     ensures code_point { HasCodePoint result }
 {
     let (first, rest) = split_first(text)?;
     if first.is_digit(8) {
-        Some(octal_escape(text, first))
-    } else {
-        common_escape(first, rest)
+        return Some(octal_escape(text, first));
     }
+    if first.is_digit(10) {
+        return Some(Piece::standing_for(u32::from(first), rest));
+    }
+    common_escape(first, rest)
 }
 
 /// Reads an escape of a template. No digit but a `0` alone is one.
 pub(crate) fn template_escape(text: &str) -> Option<Piece<'_>>
-    ensures element { IsElement result (template_escape (chars text.now)) }
+    ensures step { IsStep result (template_escape_step (chars text.now)) }
     ensures code_point { HasCodePoint result }
 {
     let (first, rest) = split_first(text)?;
@@ -164,7 +172,7 @@ pub(crate) fn template_escape(text: &str) -> Option<Piece<'_>>
 
 /// Returns whether a text begins with a decimal digit.
 fn begins_with_digit(text: &str) -> bool
-    ensures { result ≡ begins_with (is_digit 10) (chars text.now) }
+    ensures { result ≡ begins_with (λ c. is_digit c 10) (chars text.now) }
 {
     match split_first(text) {
         Some((first, _)) => first.is_digit(10),

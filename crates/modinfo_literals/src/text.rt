@@ -3,7 +3,8 @@
 ghost use Rattle.std.specs.Prelude.{◌≡◌, ◌==◌, ◌<◌, [], ◌∷◌, false, MatchOption, IfSome, length};
 ghost use Rattle.std.specs.Char.{IsScalar};
 ghost use Rattle.std.specs.Str.{chars};
-ghost use Rattle.modinfo_literals.specs.Escape.{after_carriage_return, begins_with};
+ghost use Rattle.modinfo_literals.specs.Escape.{begins_with};
+ghost use Rattle.modinfo_literals.specs.internal.Step.{after_carriage_return};
 
 /// Returns the first character of a text and the text after it, or `None` if the text is empty.
 pub(crate) fn split_first(text: &str) -> Option<(char, &str)>

@@ -1,0 +1,4 @@
+mod Digits
+mod Complete
+mod Sound
+mod Chains
