@@ -27,13 +27,33 @@ use Rattle.std.proofs.Common.{
   inr,
   ⊎_elim,
   arith,
+  min,
+  ◌-◌,
+  append_assoc,
+  length-append,
 }
+use Rattle.std.proofs.Math.Nat.{mul-le-mul_left, min-eq_left, min-eq_right}
+use Rattle.std.proofs.lemmas.List.Sums.{fold-append}
+use Rattle.modinfo_literals.specs.internal.Read.{IsFirstDigit}
 use Rattle.std.specs.Char.{digit_value, is_digit}
-use Rattle.std.proofs.lemmas.Bool.{cases_Bool, ltb-true}
+use Rattle.std.proofs.lemmas.Bool.{cases_Bool, cases_lt, ltb-true}
 use Rattle.modinfo_literals.specs.Escape.{AreDigits, begins_with, number}
 use Rattle.modinfo_literals.specs.internal.Step.{digits_of}
 
+-- what was read so far: digits, the number that they stand for, and the rest of the text
+pub record IsSoFar (base most : ℕ) (text : List ℕ) (value count : ℕ) (rest : List ℕ) : Type 0 where
+  pub done : List ℕ
+  pub digits : digits_of base most text ≡ done ++ digits_of base (most - count) rest
+  pub within : count ≤ most
+  pub value_is : value ≡ min (number base done) 0x11_0000
+  pub count_is : count ≡ length done
+  pub rest_is : text ≡ done ++ rest
+
 module _ (base : ℕ) where
+  pub digits_of-first : (most c : ℕ) (text : List ℕ) → is_digit c base ≡ true
+      → digits_of base (suc most) (c ∷ text) ≡ c ∷ digits_of base most text
+  digits_of-first most c text is = rw is refl
+
   -- the digits are digits, at the start of the text, as many as there are up to the limit
   pub AreDigits-digits_of : (most : ℕ) (text : List ℕ) → AreDigits base (digits_of base most text)
   AreDigits-digits_of zero text = tt
@@ -86,3 +106,41 @@ drop-append (c ∷ front) back = drop-append front back
 below : (a b c d : ℕ) → a < 16 → b < 16 → c < 16 → d < 16
     → ((((0 * 16 + a) * 16 + b) * 16 + c) * 16 + d) < 0x11_0000
 below a b c d la lb lc ld = omega arith
+
+-- numbers up to a limit
+times_more : (n base : ℕ) → 1 ≤ base → n ≤ n * base
+times_more n base h = omega (arith, mul-le-mul_left n h)
+
+min_step : (n base d limit : ℕ) → 1 ≤ base → min (min n limit * base + d) limit ≡ min (n * base + d) limit
+min_step n base d limit h =
+    ⊎_elim
+    (λ (le : n ≤ limit). ap (λ m. min (m * base + d) limit) (min-eq_left le))
+    (λ (lt : limit < n).
+    let large : limit ≤ n = omega arith in
+    let at_limit = min-eq_right (omega (arith, times_more limit base h)) in
+    let above = min-eq_right (omega (arith, times_more n base h)) in
+    ap (λ m. min (m * base + d) limit) (min-eq_right large) ∙ at_limit ∙ sym above)
+    (⊎_elim (λ lt. inr lt) (λ le. inl le) (cases_lt limit n))
+
+-- one more digit is read
+pub IsSoFar-more : (base most : ℕ) (text : List ℕ) (value count : ℕ) (rest : List ℕ) → 1 ≤ base
+    → 0 < most - count → IsSoFar base most text value count rest → (digit : ℕ) (after : List ℕ)
+    → IsFirstDigit base (most - count) rest digit after → (new : ℕ) → new ≡ min (value * base + digit) 0x11_0000
+    → IsSoFar base most text new (count + 1) after
+IsSoFar-more base most text value count rest h more so_far digit after first new is =
+    let d = first.digit in
+    let left : most - count ≡ suc (most - (count + 1)) = omega arith in
+    let next : digits_of base (most - count) rest ≡ d ∷ digits_of base (most - (count + 1)) after =
+    (λ i. digits_of base (left i) (first.whole i)) ∙ digits_of-first base (most - (count + 1)) d after first.is_digit_of in
+    record {
+      done = so_far.done ++ d ∷ [];
+      digits = so_far.digits ∙ ap (λ l. so_far.done ++ l) next
+          ∙ sym (append_assoc so_far.done (d ∷ []) _);
+      within = omega (arith, so_far.within);
+      value_is = is
+          ∙ (λ i. min (so_far.value_is i * base + first.value_is i) 0x11_0000)
+          ∙ min_step (number base so_far.done) base (digit_value d) 0x11_0000 h
+          ∙ ap (λ n. min n 0x11_0000) (sym (fold-append _ 0 so_far.done (d ∷ [])));
+      count_is = ap (λ n. n + 1) so_far.count_is ∙ sym (length-append so_far.done (d ∷ []));
+      rest_is = so_far.rest_is ∙ ap (λ l. so_far.done ++ l) first.whole ∙ sym (append_assoc so_far.done (d ∷ []) after);
+    }
