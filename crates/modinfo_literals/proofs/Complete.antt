@@ -133,11 +133,13 @@ pub braced_step-append : (digits after : List ℕ) → AreDigits 16 digits → 0
     → braced_step (digits ++ 125 ∷ after) ≡ stands_for (number 16 digits) after
 unfolding braced_step
 braced_step-append digits after are some le =
-    rw (digits_of-append 16 (length (digits ++ 125 ∷ after)) digits (125 ∷ after) are
-    (omega (arith, length-append digits (125 ∷ after))) (inr refl),
-    lt-ltb 0 (length digits) some,
-    le-leb (number 16 digits) 0x10_FFFF le,
-    drop-append digits (125 ∷ after)) refl
+    rw (
+      digits_of-append 16 (length (digits ++ 125 ∷ after)) digits (125 ∷ after) are
+          (omega (arith, length-append digits (125 ∷ after))) (inr refl),
+      lt-ltb 0 (length digits) some,
+      le-leb (number 16 digits) 0x10_FFFF le,
+      drop-append digits (125 ∷ after),
+    ) refl
 
 pub unicode_step-braced : (digits after : List ℕ) → AreDigits 16 digits → 0 < length digits
     → number 16 digits ≤ 0x10_FFFF

@@ -1,4 +1,5 @@
 mod Digits
 mod Complete
 mod Sound
+mod Steps
 mod Chains

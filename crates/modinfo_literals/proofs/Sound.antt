@@ -194,24 +194,29 @@ braced_step-sound text step e =
 module _ (step : Step) where
   hex_found : (rest : List ℕ) → hex_step 2 rest ≡ Some step → Found IsCommonEscape (120 ∷ rest) step
   hex_found rest e =
-      let found = hex_step-sound 2 rest step e in
-      (120 ∷ found.digits, ap (λ l. 120 ∷ l) found.whole,
-      subst (IsCommonEscape step.rest (120 ∷ found.digits)) found.point_is (hex found.digits found.are found.long))
+      let found = hex_step-sound 2 rest step e in (
+        120 ∷ found.digits,
+        ap (λ l. 120 ∷ l) found.whole,
+        subst (IsCommonEscape step.rest (120 ∷ found.digits)) found.point_is (hex found.digits found.are found.long),
+      )
 
   unicode_found : (rest : List ℕ) → hex_step 4 rest ≡ Some step → Found IsCommonEscape (117 ∷ rest) step
   unicode_found rest e =
-      let found = hex_step-sound 4 rest step e in
-      (117 ∷ found.digits, ap (λ l. 117 ∷ l) found.whole,
-      subst (IsCommonEscape step.rest (117 ∷ found.digits)) found.point_is
-      (unicode found.digits found.are found.long))
+      let found = hex_step-sound 4 rest step e in (
+        117 ∷ found.digits,
+        ap (λ l. 117 ∷ l) found.whole,
+        subst (IsCommonEscape step.rest (117 ∷ found.digits)) found.point_is
+            (unicode found.digits found.are found.long),
+      )
 
   braced_found : (rest : List ℕ) → braced_step rest ≡ Some step → Found IsCommonEscape (117 ∷ 123 ∷ rest) step
   braced_found rest e =
-      let found = braced_step-sound rest step e in
-      (117 ∷ 123 ∷ (found.digits ++ codes "}"),
-      ap (λ l. 117 ∷ 123 ∷ l) (found.whole ∙ sym (append_assoc found.digits (codes "}") step.rest)),
-      subst (IsCommonEscape step.rest (117 ∷ 123 ∷ (found.digits ++ codes "}"))) found.point_is
-      (code_point found.digits found.are found.some found.le))
+      let found = braced_step-sound rest step e in (
+        117 ∷ 123 ∷ (found.digits ++ codes "}"),
+        ap (λ l. 117 ∷ 123 ∷ l) (found.whole ∙ sym (append_assoc found.digits (codes "}") step.rest)),
+        subst (IsCommonEscape step.rest (117 ∷ 123 ∷ (found.digits ++ codes "}"))) found.point_is
+            (code_point found.digits found.are found.some found.le),
+      )
 
   unicode_step-sound : (rest : List ℕ) → unicode_step rest ≡ Some step → Found IsCommonEscape (117 ∷ rest) step
   unfolding unicode_step
@@ -274,11 +279,13 @@ octal_found : (c : ℕ) (rest : List ℕ) (n : ℕ) → is_digit c 8 ≡ true �
       rest = drop (length (digits_of 8 n rest)) rest;
     })
 octal_found c rest n is most =
-    let ds = digits_of 8 n rest in
-    (c ∷ ds, ap (λ l. c ∷ l) (digits_of-drop 8 n rest),
-    octal (c ∷ ds) (is, AreDigits-digits_of 8 n rest) (omega arith)
-    (omega (arith, length-digits_of 8 n rest, most))
-    (⊎_elim (λ e. inl (ap suc e ∙ most)) (λ e. inr e) (digits_of-end 8 n rest)))
+    let ds = digits_of 8 n rest in (
+      c ∷ ds,
+      ap (λ l. c ∷ l) (digits_of-drop 8 n rest),
+      octal (c ∷ ds) (is, AreDigits-digits_of 8 n rest) (omega arith)
+          (omega (arith, length-digits_of 8 n rest, most))
+          (⊎_elim (λ e. inl (ap suc e ∙ most)) (λ e. inr e) (digits_of-end 8 n rest)),
+    )
 
 -- the digits of an octal escape, of which the first is known
 digits_of-first : (c : ℕ) (rest : List ℕ) (n : ℕ) → is_digit c 8 ≡ true
@@ -371,7 +378,9 @@ template-sound (c ∷ rest) step e =
     (some_same (Found IsTemplateElement (13 ∷ rest)) _ step is
     (after_carriage_return-found IsTemplateElement (Some 10) rest
     (λ after. carriage_return_line_feed_element) (λ after alone. carriage_return_element alone)))) (λ r is.
-    some_same (Found IsTemplateElement (c ∷ rest)) _ step is
-    (c ∷ [], refl,
-    by_cases (c == 36) (λ same. dollar-found c rest same d)
-    (λ other. template_character c (or_from _ _ b (or_from _ _ k (or_from _ _ other r)))))))))
+    some_same (Found IsTemplateElement (c ∷ rest)) _ step is (
+      c ∷ [],
+      refl,
+      by_cases (c == 36) (λ same. dollar-found c rest same d)
+          (λ other. template_character c (or_from _ _ b (or_from _ _ k (or_from _ _ other r)))),
+    )))))

@@ -35,27 +35,6 @@ pub(crate) struct Units<'a> {
     pub(crate) end: &'a str,
 }
 
-impl<'a> Piece<'a> {
-    /// Returns a piece that stands for a code point.
-    pub(crate) fn standing_for(point: u32, rest: &'a str) -> Piece<'a>
-        ensures point { result.point ≡ Some point }
-        ensures rest { result.rest.now ≡ rest.now }
-    {
-        Piece {
-            point: Some(point),
-            rest,
-        }
-    }
-
-    /// Returns a piece that stands for nothing.
-    pub(crate) fn standing_for_nothing(rest: &'a str) -> Piece<'a>
-        ensures point { result.point ≡ None }
-        ensures rest { result.rest.now ≡ rest.now }
-    {
-        Piece { point: None, rest }
-    }
-}
-
 /// Reads the first element of a string literal's text after the first quote.
 fn string_element(text: &str, quote: char) -> Option<Piece<'_>>
     ensures step { IsStep result (string_step quote (chars text.now)) }
@@ -68,7 +47,10 @@ fn string_element(text: &str, quote: char) -> Option<Piece<'_>>
     if first == quote || first == '\n' || first == '\r' {
         return None;
     }
-    Some(Piece::standing_for(u32::from(first), rest))
+    Some(Piece {
+        point: Some(u32::from(first)),
+        rest,
+    })
 }
 
 /// Reads the first element of a template's part.
@@ -81,8 +63,14 @@ fn template_element(text: &str) -> Option<Piece<'_>>
         '\\' => template_escape(rest),
         '`' => None,
         '$' if after(rest, '{').is_some() => None,
-        '\r' => Some(Piece::standing_for(10, after_carriage_return(rest))),
-        _ => Some(Piece::standing_for(u32::from(first), rest)),
+        '\r' => Some(Piece {
+            point: Some(10),
+            rest: after_carriage_return(rest),
+        }),
+        _ => Some(Piece {
+            point: Some(u32::from(first)),
+            rest,
+        }),
     }
 }
 

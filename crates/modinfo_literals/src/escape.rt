@@ -71,7 +71,10 @@ fn hex_digits(text: &str, count: usize) -> Option<Piece<'_>>
 {
     let found = read_digits(text, 16, count);
     if found.count == count {
-        Some(Piece::standing_for(found.value, found.rest))
+        Some(Piece {
+            point: Some(found.value),
+            rest: found.rest,
+        })
     } else {
         None
     }
@@ -86,7 +89,10 @@ fn braced_digits(text: &str) -> Option<Piece<'_>>
     if found.count == 0 || found.value == LIMIT {
         return None;
     }
-    Some(Piece::standing_for(found.value, after(found.rest, '}')?))
+    Some(Piece {
+        point: Some(found.value),
+        rest: after(found.rest, '}')?,
+    })
 }
 
 /// Reads a Unicode escape after its `u`: four digits, or digits in braces.
@@ -107,7 +113,10 @@ fn octal_escape(text: &str, first: char) -> Piece<'_>
     ensures code_point { HasCodePoint (Some result) }
 {
     let found = read_digits(text, 8, if first < '4' { 3 } else { 2 });
-    Piece::standing_for(found.value, found.rest)
+    Piece {
+        point: Some(found.value),
+        rest: found.rest,
+    }
 }
 
 /// Returns the code point that a character stands for after a backslash.
@@ -133,9 +142,15 @@ fn common_escape(first: char, rest: &str) -> Option<Piece<'_>>
     match first {
         'x' => hex_digits(rest, 2),
         'u' => unicode_escape(rest),
-        '\r' => Some(Piece::standing_for_nothing(after_carriage_return(rest))),
-        '\n' | '\u{2028}' | '\u{2029}' => Some(Piece::standing_for_nothing(rest)),
-        _ => Some(Piece::standing_for(u32::from(single_escape(first)), rest)),
+        '\r' => Some(Piece {
+            point: None,
+            rest: after_carriage_return(rest),
+        }),
+        '\n' | '\u{2028}' | '\u{2029}' => Some(Piece { point: None, rest }),
+        _ => Some(Piece {
+            point: Some(u32::from(single_escape(first))),
+            rest,
+        }),
     }
 }
 
@@ -149,7 +164,10 @@ pub(crate) fn string_escape(text: &str) -> Option<Piece<'_>>
         return Some(octal_escape(text, first));
     }
     if first.is_digit(10) {
-        return Some(Piece::standing_for(u32::from(first), rest));
+        return Some(Piece {
+            point: Some(u32::from(first)),
+            rest,
+        });
     }
     common_escape(first, rest)
 }
@@ -164,7 +182,10 @@ pub(crate) fn template_escape(text: &str) -> Option<Piece<'_>>
         return common_escape(first, rest);
     }
     if first == '0' && !begins_with_digit(rest) {
-        Some(Piece::standing_for(0, rest))
+        Some(Piece {
+            point: Some(0),
+            rest,
+        })
     } else {
         None
     }

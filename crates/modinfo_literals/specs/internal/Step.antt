@@ -41,7 +41,7 @@ unfoldable pub braced_step : List ℕ → Option Step
 braced_step text =
     let digits = digits_of 16 (length text) text in
     if nat_lt 0 (length digits) && nat_le (number 16 digits) 0x10_FFFF then
-      close_brace (number 16 digits) (drop (length digits) text) else None
+    close_brace (number 16 digits) (drop (length digits) text) else None
 
 unfoldable pub unicode_step : List ℕ → Option Step
 unicode_step [] = None
@@ -72,7 +72,7 @@ unfoldable pub template_escape_step : List ℕ → Option Step
 template_escape_step [] = None
 template_escape_step (c ∷ rest) =
     if is_digit c 10 then
-      if c == 48 && not (begins_with (λ d. is_digit d 10) rest) then stands_for 0 rest else None
+    if c == 48 && not (begins_with (λ d. is_digit d 10) rest) then stands_for 0 rest else None
     else common_step c rest
 
 unfoldable pub string_step : ℕ → List ℕ → Option Step
