@@ -23,6 +23,7 @@ use Rattle.std.proofs.Common.{
   nat_lt,
   nat_le,
   cond,
+  not,
   suc,
   zero,
   refl,
@@ -36,7 +37,7 @@ use Rattle.std.specs.Str.{chars, IsUtf8}
 use Rattle.std.proofs.lemmas.Str.{length-le-encodes, encodes-chars}
 use Rattle.std.proofs.Math.Nat.{min-eq_left}
 use Rattle.std.proofs.lemmas.Bool.{ltb-true, eq-eqb, ne_eqb, and_left, and_right, and_from, cond_both, cond-true, cond-false, lt-ltb, le-leb, le-ltb, lt-leb}
-use Rattle.modinfo_literals.specs.Escape.{AreDigits, begins_with, number}
+use Rattle.modinfo_literals.specs.Escape.{AreDigits, begins_with, is_line_terminator, number}
 use Rattle.modinfo_literals.specs.internal.Step.{
   Step,
   stands_for,
@@ -46,6 +47,14 @@ use Rattle.modinfo_literals.specs.internal.Step.{
   braced_step,
   unicode_step,
   octal_step,
+  stands_for_nothing,
+  after_carriage_return,
+  single_escape,
+  common_step,
+  string_escape_step,
+  template_escape_step,
+  string_step,
+  template_step,
 }
 use Rattle.modinfo_literals.proofs.Digits.{AreDigits-digits_of, length-digits_of}
 
@@ -211,3 +220,68 @@ module _ (first most : ℕ) (most_is : most ≡ cond (nat_lt first 52) 3 2) (tex
       (λ i. stands_for (below_limit value _ _ value_is octal_number i) (after_is i))
       ∙ (λ i. let digits = digits_of 8 (most_is i) (whole i) in
       stands_for (number 8 digits) (drop (length digits) (whole i)))
+
+-- escapes that both literals have
+module _ (c : ℕ) (rest : List ℕ) where
+  pub common_step-hex : c ≡ 120 → common_step c rest ≡ hex_step 2 rest
+  unfolding common_step
+  common_step-hex same = cond-true _ _ _ (eq-eqb c 120 same)
+
+  pub common_step-unicode : c ≡ 117 → common_step c rest ≡ unicode_step rest
+  unfolding common_step
+  common_step-unicode same = ap (λ d. common_step d rest) same
+
+  pub common_step-carriage_return : c ≡ 13
+      → common_step c rest ≡ stands_for_nothing (after_carriage_return rest)
+  unfolding common_step
+  common_step-carriage_return same = ap (λ d. common_step d rest) same
+
+  module _ (x : c ≡ 120 → ⊥) (u : c ≡ 117 → ⊥) (r : c ≡ 13 → ⊥) where
+    other_step : common_step c rest
+        ≡ cond (is_line_terminator c) (stands_for_nothing rest) (stands_for (single_escape c) rest)
+    unfolding common_step
+    other_step =
+        cond-false _ _ _ (ne_eqb c 120 x) ∙ cond-false _ _ _ (ne_eqb c 117 u) ∙ cond-false _ _ _ (ne_eqb c 13 r)
+
+    pub common_step-line : is_line_terminator c ≡ true → common_step c rest ≡ stands_for_nothing rest
+    common_step-line line = other_step ∙ cond-true _ _ _ line
+
+    pub common_step-other : is_line_terminator c ≡ false → common_step c rest ≡ stands_for (single_escape c) rest
+    common_step-other line = other_step ∙ cond-false _ _ _ line
+
+-- escapes of a string literal
+pub string_escape_step-nil : (text : List ℕ) → text ≡ [] → string_escape_step text ≡ None
+unfolding string_escape_step
+string_escape_step-nil text empty = ap string_escape_step empty
+
+pub template_escape_step-nil : (text : List ℕ) → text ≡ [] → template_escape_step text ≡ None
+unfolding template_escape_step
+template_escape_step-nil text empty = ap template_escape_step empty
+
+module _ (text : List ℕ) (c : ℕ) (rest : List ℕ) (whole : text ≡ c ∷ rest) where
+  pub string_escape_step-octal : is_digit c 8 ≡ true → string_escape_step text ≡ octal_step c rest
+  unfolding string_escape_step
+  string_escape_step-octal octal = ap string_escape_step whole ∙ cond-true _ _ _ octal
+
+  pub string_escape_step-decimal : is_digit c 8 ≡ false → is_digit c 10 ≡ true
+      → string_escape_step text ≡ stands_for c rest
+  unfolding string_escape_step
+  string_escape_step-decimal octal decimal =
+      ap string_escape_step whole ∙ cond-false _ _ _ octal ∙ cond-true _ _ _ decimal
+
+  pub string_escape_step-other : is_digit c 8 ≡ false → is_digit c 10 ≡ false
+      → string_escape_step text ≡ common_step c rest
+  unfolding string_escape_step
+  string_escape_step-other octal decimal =
+      ap string_escape_step whole ∙ cond-false _ _ _ octal ∙ cond-false _ _ _ decimal
+
+  -- escapes of a template
+  pub template_escape_step-other : is_digit c 10 ≡ false → template_escape_step text ≡ common_step c rest
+  unfolding template_escape_step
+  template_escape_step-other decimal = ap template_escape_step whole ∙ cond-false _ _ _ decimal
+
+  pub template_escape_step-digit : is_digit c 10 ≡ true
+      → template_escape_step text
+      ≡ cond (c == 48 && not (begins_with (λ d. is_digit d 10) rest)) (stands_for 0 rest) None
+  unfolding template_escape_step
+  template_escape_step-digit decimal = ap template_escape_step whole ∙ cond-true _ _ _ decimal

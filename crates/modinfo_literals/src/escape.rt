@@ -3,7 +3,7 @@
 ghost use Rattle.std.specs.Prelude.{◌≡◌, ◌≤◌, ℕ, List, ◌<◌, [], ◌∷◌, MatchOption, IfSome, Some, length, drop, min};
 ghost use Rattle.std.specs.Char.{is_digit};
 ghost use Rattle.std.specs.Str.{chars};
-ghost use Rattle.modinfo_literals.specs.Escape.{begins_with, number};
+ghost use Rattle.modinfo_literals.specs.Escape.{begins_with, is_line_terminator, number};
 ghost use Rattle.modinfo_literals.specs.internal.Read.{IsStep, HasCodePoint, IsFirstDigit};
 ghost use Rattle.modinfo_literals.specs.internal.Step.{digits_of, hex_step, braced_step, unicode_step};
 ghost use Rattle.modinfo_literals.specs.internal.Step.{octal_step, single_escape, common_step};
@@ -134,6 +134,13 @@ fn single_escape(c: char) -> char
     }
 }
 
+/// Returns whether a character ends a line.
+fn is_line_terminator(c: char) -> bool
+    ensures { result ≡ is_line_terminator c }
+{
+    c == '\n' || c == '\r' || c == '\u{2028}' || c == '\u{2029}'
+}
+
 /// Reads an escape that doesn't begin with a digit: `first` and what belongs to it of `rest`.
 fn common_escape(first: char, rest: &str) -> Option<Piece<'_>>
     ensures step { IsStep result (common_step first (chars rest.now)) }
@@ -146,7 +153,7 @@ fn common_escape(first: char, rest: &str) -> Option<Piece<'_>>
             point: None,
             rest: after_carriage_return(rest),
         }),
-        '\n' | '\u{2028}' | '\u{2029}' => Some(Piece { point: None, rest }),
+        _ if is_line_terminator(first) => Some(Piece { point: None, rest }),
         _ => Some(Piece {
             point: Some(u32::from(single_escape(first))),
             rest,
