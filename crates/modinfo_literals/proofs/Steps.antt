@@ -7,6 +7,7 @@ use Rattle.std.proofs.Common.{
   ◌<◌,
   ◌≤◌,
   ◌&&◌,
+  ◌||◌,
   ◌==◌,
   true,
   false,
@@ -36,7 +37,7 @@ use Rattle.std.specs.Char.{digit_value, is_digit}
 use Rattle.std.specs.Str.{chars, IsUtf8}
 use Rattle.std.proofs.lemmas.Str.{length-le-encodes, encodes-chars}
 use Rattle.std.proofs.Math.Nat.{min-eq_left}
-use Rattle.std.proofs.lemmas.Bool.{ltb-true, eq-eqb, ne_eqb, and_left, and_right, and_from, cond_both, cond-true, cond-false, lt-ltb, le-leb, le-ltb, lt-leb}
+use Rattle.std.proofs.lemmas.Bool.{ltb-true, eq-eqb, ne_eqb, or_left, or_right, or_from, and_left, and_right, and_from, cond_both, cond-true, cond-false, lt-ltb, le-leb, le-ltb, lt-leb}
 use Rattle.modinfo_literals.specs.Escape.{AreDigits, begins_with, is_line_terminator, number}
 use Rattle.modinfo_literals.specs.internal.Step.{
   Step,
@@ -285,3 +286,66 @@ module _ (text : List ℕ) (c : ℕ) (rest : List ℕ) (whole : text ≡ c ∷ r
       ≡ cond (c == 48 && not (begins_with (λ d. is_digit d 10) rest)) (stands_for 0 rest) None
   unfolding template_escape_step
   template_escape_step-digit decimal = ap template_escape_step whole ∙ cond-true _ _ _ decimal
+
+-- elements of a string literal
+pub string_step-nil : (quote : ℕ) (text : List ℕ) → text ≡ [] → string_step quote text ≡ None
+unfolding string_step
+string_step-nil quote text empty = ap (string_step quote) empty
+
+pub template_step-nil : (text : List ℕ) → text ≡ [] → template_step text ≡ None
+unfolding template_step
+template_step-nil text empty = ap template_step empty
+
+module _ (text : List ℕ) (c : ℕ) (rest : List ℕ) (whole : text ≡ c ∷ rest) where
+  pub string_step-escape : (quote : ℕ) → c ≡ 92 → string_step quote text ≡ string_escape_step rest
+  unfolding string_step
+  string_step-escape quote same = ap (string_step quote) whole ∙ cond-true _ _ _ (eq-eqb c 92 same)
+
+  module _ (quote : ℕ) (b : c ≡ 92 → ⊥) where
+    after_backslash : string_step quote text
+        ≡ cond (c == quote || (c == 10 || c == 13)) None (stands_for c rest)
+    unfolding string_step
+    after_backslash = ap (string_step quote) whole ∙ cond-false _ _ _ (ne_eqb c 92 b)
+
+    pub string_step-quote : c ≡ quote → string_step quote text ≡ None
+    string_step-quote same = after_backslash ∙ cond-true _ _ _ (or_left _ _ (eq-eqb c quote same))
+
+    pub string_step-line_feed : c ≡ 10 → string_step quote text ≡ None
+    string_step-line_feed same =
+        after_backslash ∙ cond-true _ _ _ (or_right (c == quote) _ (or_left _ _ (eq-eqb c 10 same)))
+
+    pub string_step-carriage_return : c ≡ 13 → string_step quote text ≡ None
+    string_step-carriage_return same =
+        after_backslash ∙ cond-true _ _ _ (or_right (c == quote) _ (or_right (c == 10) _ (eq-eqb c 13 same)))
+
+    pub string_step-character : (c ≡ quote → ⊥) → (c ≡ 10 → ⊥) → (c ≡ 13 → ⊥)
+        → string_step quote text ≡ stands_for c rest
+    string_step-character q l r =
+        after_backslash
+        ∙ cond-false _ _ _ (or_from _ _ (ne_eqb c quote q) (or_from _ _ (ne_eqb c 10 l) (ne_eqb c 13 r)))
+
+  -- elements of a template
+  pub template_step-escape : c ≡ 92 → template_step text ≡ template_escape_step rest
+  unfolding template_step
+  template_step-escape same = ap template_step whole ∙ cond-true _ _ _ (eq-eqb c 92 same)
+
+  pub template_step-backtick : c ≡ 96 → template_step text ≡ None
+  unfolding template_step
+  template_step-backtick same = ap template_step whole ∙ ap (λ d. template_step (d ∷ rest)) same
+
+  pub template_step-dollar : c ≡ 36 → begins_with (λ d. d == 123) rest ≡ true → template_step text ≡ None
+  unfolding template_step
+  template_step-dollar same brace =
+      ap template_step whole ∙ ap (λ d. template_step (d ∷ rest)) same ∙ cond-true _ _ _ brace
+
+  pub template_step-carriage_return : c ≡ 13 → template_step text ≡ stands_for 10 (after_carriage_return rest)
+  unfolding template_step
+  template_step-carriage_return same = ap template_step whole ∙ ap (λ d. template_step (d ∷ rest)) same
+
+  pub template_step-character : (c ≡ 92 → ⊥) → (c ≡ 96 → ⊥)
+      → (c == 36 && begins_with (λ d. d == 123) rest) ≡ false → (c ≡ 13 → ⊥)
+      → template_step text ≡ stands_for c rest
+  unfolding template_step
+  template_step-character b k d r =
+      ap template_step whole ∙ cond-false _ _ _ (ne_eqb c 92 b) ∙ cond-false _ _ _ (ne_eqb c 96 k)
+      ∙ cond-false _ _ _ d ∙ cond-false _ _ _ (ne_eqb c 13 r)

@@ -1,13 +1,14 @@
 //! Reads the elements of literals.
 
-ghost use Rattle.std.specs.Prelude.{◌≡◌, ◌<◌, ◌++◌, Some, None, IfOk, IfSome, OnOk};
+ghost use Rattle.std.specs.Prelude.{◌≡◌, ◌==◌, ◌&&◌, ◌<◌, ◌++◌, Some, None, IfOk, IfSome, OnOk};
 ghost use Rattle.std.specs.Str.{chars};
+ghost use Rattle.modinfo_literals.specs.Escape.{begins_with};
 ghost use Rattle.modinfo_literals.specs.Literal.{units_of};
 ghost use Rattle.modinfo_literals.specs.internal.Read.{IsStep, HasCodePoint, AreUnits, first_step};
 ghost use Rattle.modinfo_literals.specs.internal.Step.{string_step, template_step};
 
 use crate::escape::{string_escape, template_escape};
-use crate::text::{after, after_carriage_return, split_first};
+use crate::text::{after_carriage_return, begins_with, split_first};
 use std::alloc::{AllocError, Global};
 
 /// A form of literal.
@@ -53,6 +54,13 @@ fn string_element(text: &str, quote: char) -> Option<Piece<'_>>
     })
 }
 
+/// Returns whether `first`, before `rest`, is the `$` of `${`.
+fn opens_substitution(first: char, rest: &str) -> bool
+    ensures { result ≡ (first == 36 && begins_with (λ c. c == 123) (chars rest.now)) }
+{
+    first == '$' && begins_with(rest, '{')
+}
+
 /// Reads the first element of a template's part.
 fn template_element(text: &str) -> Option<Piece<'_>>
     ensures step { IsStep result (template_step (chars text.now)) }
@@ -62,11 +70,11 @@ fn template_element(text: &str) -> Option<Piece<'_>>
     match first {
         '\\' => template_escape(rest),
         '`' => None,
-        '$' if after(rest, '{').is_some() => None,
         '\r' => Some(Piece {
             point: Some(10),
             rest: after_carriage_return(rest),
         }),
+        _ if opens_substitution(first, rest) => None,
         _ => Some(Piece {
             point: Some(u32::from(first)),
             rest,

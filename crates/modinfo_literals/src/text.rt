@@ -27,6 +27,16 @@ pub(crate) fn after(text: &str, wanted: char) -> Option<&str>
     if first == wanted { Some(rest) } else { None }
 }
 
+/// Returns whether a text begins with this character.
+pub(crate) fn begins_with(text: &str, wanted: char) -> bool
+    ensures { result ≡ begins_with (λ c. c == wanted) (chars text.now) }
+{
+    match split_first(text) {
+        Some((first, _)) => first == wanted,
+        None => false,
+    }
+}
+
 /// Returns the text after a carriage return, without the line feed that belongs to it.
 pub(crate) fn after_carriage_return(rest: &str) -> &str
     ensures { chars result.now ≡ after_carriage_return (chars rest.now) }
