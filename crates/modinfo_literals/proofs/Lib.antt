@@ -2,4 +2,5 @@ mod Digits
 mod Complete
 mod Sound
 mod Steps
+mod Reading
 mod Chains
