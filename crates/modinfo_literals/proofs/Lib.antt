@@ -4,3 +4,4 @@ mod Sound
 mod Steps
 mod Reading
 mod Chains
+mod Values

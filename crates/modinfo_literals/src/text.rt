@@ -1,6 +1,6 @@
 //! Steps through the characters of a text.
 
-ghost use Rattle.std.specs.Prelude.{◌≡◌, ◌==◌, ◌<◌, [], ◌∷◌, false, MatchOption, IfSome, length};
+ghost use Rattle.std.specs.Prelude.{◌≡◌, ◌==◌, ◌<◌, [], ◌∷◌, false, MatchBool, MatchOption, IfSome, length};
 ghost use Rattle.std.specs.Char.{IsScalar};
 ghost use Rattle.std.specs.Str.{chars};
 ghost use Rattle.modinfo_literals.specs.Escape.{begins_with};
@@ -33,6 +33,24 @@ pub(crate) fn begins_with(text: &str, wanted: char) -> bool
 {
     match split_first(text) {
         Some((first, _)) => first == wanted,
+        None => false,
+    }
+}
+
+/// Returns whether nothing is left of a text.
+pub(crate) fn is_at_end(rest: &str) -> bool
+    ensures { MatchBool result (chars rest.now ≡ []) (chars rest.now ≡ [] → ⊥) }
+{
+    rest.is_empty()
+}
+
+/// Returns whether a text is this character alone.
+pub(crate) fn is_alone(text: &str, character: char) -> bool
+    ensures { MatchBool result (chars text.now ≡ character ∷ [])
+        (chars text.now ≡ character ∷ [] → ⊥) }
+{
+    match split_first(text) {
+        Some((first, rest)) => first == character && is_at_end(rest),
         None => false,
     }
 }

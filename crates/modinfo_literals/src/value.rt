@@ -1,12 +1,11 @@
 //! The values that literals spell.
 
-ghost use Rattle.std.specs.Prelude.{◌≡◌, ◌↔◌, ℕ, List, [], ◌∷◌, IfOk, IsTrue, MatchOption};
-ghost use Rattle.std.specs.Str.{chars};
+ghost use Rattle.std.specs.Prelude.{◌≡◌, ◌↔◌, ℕ, List, IfOk, IsTrue, MatchOption};
 ghost use Rattle.modinfo_literals.specs.Literal.{Spells, SpellsCooked};
 
 use crate::element::{Form, read_units};
 use crate::plain::{plain_text, split_quote};
-use crate::text::after;
+use crate::text::{is_alone, is_at_end};
 use deno_graph_base::text::JsString;
 use std::alloc::{AllocError, Global};
 
@@ -32,7 +31,7 @@ pub fn cooked_value(alloc: Global, slice: &str) -> Result<Option<JsString>, Allo
         (SpellsCooked slice.now)) }
 {
     let read = read_units(alloc, Form::Template, slice)?;
-    if read.end.is_empty() {
+    if is_at_end(read.end) {
         Ok(Some(JsString::from_units(alloc, read.units.as_slice())?))
     } else {
         Ok(None)
@@ -45,7 +44,10 @@ pub fn spells(alloc: Global, slice: &str, value: &JsString) -> Result<bool, Allo
     ensures { IfOk result (λ is. IsTrue is ↔ Spells slice.now value.now) }
 {
     if let Some(text) = plain_text(slice) {
-        return Ok(value.as_str() == Some(text));
+        return Ok(match value.as_str() {
+            Some(characters) => characters == text,
+            None => false,
+        });
     }
     match escaped_value(alloc, slice)? {
         Some(spelled) => Ok(spelled == *value),
@@ -68,11 +70,4 @@ fn escaped_value(alloc: Global, slice: &str) -> Result<Option<JsString>, AllocEr
     } else {
         Ok(None)
     }
-}
-
-/// Returns whether a text is this character alone.
-fn is_alone(text: &str, character: char) -> bool
-    ensures { IsTrue result ↔ (chars text.now ≡ character ∷ []) }
-{
-    after(text, character).is_some_and(|rest| rest.is_empty())
 }
