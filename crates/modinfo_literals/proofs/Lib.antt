@@ -5,3 +5,4 @@ mod Steps
 mod Reading
 mod Chains
 mod Values
+mod PlainTexts

@@ -1,8 +1,10 @@
 //! String literals without escapes, which spell the text between their quotes.
 
 ghost use Rattle.std.specs.Prelude.{◌≡◌, ℕ, ◌⊎◌, List, ◌∷◌, MatchOption, IfSome};
+ghost use Rattle.std.specs.List.{list_any};
 ghost use Rattle.std.specs.Str.{chars};
 ghost use Rattle.modinfo_literals.specs.Literal.{Spells};
+ghost use Rattle.modinfo_literals.specs.internal.Plain.{is_special_byte};
 
 use crate::text::split_first;
 
@@ -19,10 +21,12 @@ pub(crate) fn split_quote(slice: &str) -> Option<(char, &str)>
     }
 }
 
-/// Returns whether each byte of a text may stand between two quotes for itself.
-fn is_plain(text: &str, quote: u8) -> bool {
+/// Returns whether some byte of a text may not stand between two of these quotes for itself.
+fn has_special(text: &str, quote: u8) -> bool
+    ensures { result ≡ list_any (is_special_byte quote) text.now }
+{
     text.bytes()
-        .all(|b| b != quote && b != b'\\' && b != b'\n' && b != b'\r')
+        .any(|b| b == b'\\' || b == quote || b == b'\n' || b == b'\r')
 }
 
 /// Returns the text between the quotes of a string literal that has no escapes, and `None` for any
@@ -32,9 +36,9 @@ pub(crate) fn plain_text(slice: &str) -> Option<&str>
 {
     let (quote, inside) = split_quote(slice)?;
     let text = inside.strip_suffix(quote)?;
-    if is_plain(text, quote as u8) {
-        Some(text)
-    } else {
+    if has_special(text, quote as u8) {
         None
+    } else {
+        Some(text)
     }
 }
