@@ -6,3 +6,4 @@ mod Reading
 mod Chains
 mod Values
 mod PlainTexts
+mod Compared
