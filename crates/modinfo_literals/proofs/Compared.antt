@@ -1,5 +1,5 @@
 -- Whether the value of a literal without escapes is another string.
-use Rattle.std.proofs.Common.{◌≡◌, ℕ, Bool, true, false, List, ◌↔◌, IsTrue, encode_utf8_all, sym, ap, ◌∙◌, subst}
+use Rattle.std.proofs.Common.{◌≡◌, ℕ, List, encode_utf8_all, sym, ap, ◌∙◌, subst}
 use Rattle.std.specs.Str.{chars, IsUtf8}
 use Rattle.std.proofs.lemmas.Str.{encodes-chars, encodes_same}
 use Rattle.deno_graph_base.specs.JsString.{IsReadable}

@@ -1,53 +1,7 @@
 -- The step over each element of the definitions.
-use Rattle.std.proofs.Common.{
-  ◌≡◌,
-  ℕ,
-  ◌+◌,
-  ◌<◌,
-  ◌≤◌,
-  ◌⊎◌,
-  ◌==◌,
-  ◌||◌,
-  true,
-  false,
-  Option,
-  Some,
-  None,
-  List,
-  [],
-  ◌∷◌,
-  ◌++◌,
-  length,
-  nat_lt,
-  nat_eq,
-  codes,
-  cond,
-  refl,
-  sym,
-  ap,
-  ◌∙◌,
-  subst,
-  inl,
-  inr,
-  ⊎_elim,
-  arith,
-  append_assoc,
-  length-append,
-}
+use Rattle.std.proofs.Common.{◌≡◌, ℕ, ◌<◌, ◌≤◌, ◌⊎◌, ◌==◌, true, false, Option, Some, None, List, [], ◌∷◌, ◌++◌, length, nat_eq, codes, refl, sym, ap, ◌∙◌, subst, inl, inr, ⊎_elim, arith, append_assoc, length-append}
 use Rattle.std.specs.Char.{digit_value, is_digit}
-use Rattle.std.proofs.lemmas.Bool.{
-  or_parts,
-  or_cases,
-  and_from,
-  eqb-true,
-  eq-eqb,
-  ne_eqb,
-  ltb-false,
-  le-ltb,
-  lt-ltb,
-  le-leb,
-  false≢true,
-}
+use Rattle.std.proofs.lemmas.Bool.{or_parts, or_cases, eqb-true, eq-eqb, ne_eqb, ltb-false, le-ltb, lt-ltb, le-leb, false≢true}
 use Rattle.modinfo_literals.specs.Escape.{
   AreDigits,
   begins_with,
@@ -86,24 +40,7 @@ use Rattle.modinfo_literals.specs.Literal.IsTemplateElement.{
   escape as template_escape,
 }
 use Rattle.std.specs.List.{list_any}
-use Rattle.modinfo_literals.specs.internal.Step.{
-  Step,
-  stands_for,
-  stands_for_nothing,
-  after_carriage_return,
-  digits_of,
-  hex_step,
-  close_brace,
-  braced_step,
-  unicode_step,
-  octal_step,
-  single_escape,
-  common_step,
-  string_escape_step,
-  template_escape_step,
-  string_step,
-  template_step,
-}
+use Rattle.modinfo_literals.specs.internal.Step.{stands_for, stands_for_nothing, after_carriage_return, hex_step, braced_step, unicode_step, octal_step, single_escape, common_step, string_escape_step, template_escape_step, string_step, template_step}
 use Rattle.modinfo_literals.proofs.Digits.{digits_of-append, drop-append}
 
 -- digits

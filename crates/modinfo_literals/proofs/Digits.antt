@@ -1,42 +1,10 @@
 -- The digits that a text begins with.
-use Rattle.std.proofs.Common.{
-  ◌≡◌,
-  ℕ,
-  ◌+◌,
-  ◌*◌,
-  ◌<◌,
-  ◌≤◌,
-  ◌^◌,
-  ◌⊎◌,
-  true,
-  false,
-  List,
-  [],
-  ◌∷◌,
-  ◌++◌,
-  length,
-  drop,
-  fold,
-  zero,
-  suc,
-  refl,
-  sym,
-  ap,
-  ◌∙◌,
-  inl,
-  inr,
-  ⊎_elim,
-  arith,
-  min,
-  ◌-◌,
-  append_assoc,
-  length-append,
-}
+use Rattle.std.proofs.Common.{◌≡◌, ℕ, ◌+◌, ◌*◌, ◌<◌, ◌≤◌, ◌⊎◌, true, false, List, [], ◌∷◌, ◌++◌, length, drop, zero, suc, refl, sym, ap, ◌∙◌, inl, inr, ⊎_elim, arith, min, ◌-◌, append_assoc, length-append}
 use Rattle.std.proofs.Math.Nat.{mul-le-mul_left, min-eq_left, min-eq_right}
 use Rattle.std.proofs.lemmas.List.Sums.{fold-append}
 use Rattle.modinfo_literals.specs.internal.Read.{IsFirstDigit}
 use Rattle.std.specs.Char.{digit_value, is_digit}
-use Rattle.std.proofs.lemmas.Bool.{cases_Bool, cases_lt, ltb-true}
+use Rattle.std.proofs.lemmas.Bool.{cases_Bool, cases_lt}
 use Rattle.modinfo_literals.specs.Escape.{AreDigits, begins_with, number}
 use Rattle.modinfo_literals.specs.internal.Step.{digits_of}
 

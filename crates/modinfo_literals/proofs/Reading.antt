@@ -64,8 +64,12 @@ pub step_shorter : (form : Form) (text : List ℕ) (step : Step) → Some step �
     → length step.rest < length text
 step_shorter form text step e =
     let found = step_found form text step e in
-    omega (arith, ap length found.1, length-append found.0 step.rest,
-    element_some form step.rest found.0 step.point found.2)
+    omega (
+      arith,
+      ap length found.1,
+      length-append found.0 step.rest,
+      element_some form step.rest found.0 step.point found.2,
+    )
 
 -- one more element
 Consists-more : (IsElement : List ℕ → List ℕ → Option ℕ → Type 0) (points : List (Option ℕ)) (text end : List ℕ)

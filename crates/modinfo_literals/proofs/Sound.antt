@@ -1,73 +1,9 @@
 -- What a step over an element finds is an element of the definitions.
-use Rattle.std.proofs.Common.{
-  ◌≡◌,
-  ℕ,
-  ◌+◌,
-  ◌<◌,
-  ◌≤◌,
-  ◌⊎◌,
-  ◌==◌,
-  ◌||◌,
-  ◌&&◌,
-  not,
-  Bool,
-  true,
-  false,
-  Option,
-  Some,
-  None,
-  List,
-  [],
-  ◌∷◌,
-  ◌++◌,
-  length,
-  drop,
-  nat_lt,
-  nat_le,
-  nat_eq,
-  codes,
-  cond,
-  suc,
-  refl,
-  sym,
-  ap,
-  ◌∙◌,
-  subst,
-  inl,
-  inr,
-  ⊎_elim,
-  arith,
-  append_assoc,
-  unwrap_or,
-}
-use Rattle.std.specs.Char.{digit_value, is_digit}
+use Rattle.std.proofs.Common.{◌≡◌, ℕ, ◌<◌, ◌≤◌, ◌==◌, ◌&&◌, not, Bool, true, false, Option, Some, None, List, [], ◌∷◌, ◌++◌, length, drop, nat_lt, nat_le, nat_eq, codes, cond, suc, refl, sym, ap, ◌∙◌, subst, inl, inr, ⊎_elim, arith, append_assoc, unwrap_or}
+use Rattle.std.specs.Char.{is_digit}
 use Rattle.std.specs.List.{list_any}
-use Rattle.std.proofs.lemmas.Bool.{
-  or_from,
-  or_parts,
-  and_parts,
-  and_from,
-  cases_Bool,
-  cond-true,
-  cond-false,
-  eqb-true,
-  ltb-true,
-  leb-true,
-  false≢true,
-  not-true,
-}
-use Rattle.modinfo_literals.specs.Escape.{
-  AreDigits,
-  begins_with,
-  number,
-  is_line_terminator,
-  is_special,
-  most_octal_digits,
-  IsLineEnd,
-  IsCommonEscape,
-  IsStringEscape,
-  IsTemplateEscape,
-}
+use Rattle.std.proofs.lemmas.Bool.{or_from, and_parts, cases_Bool, cond-true, cond-false, eqb-true, ltb-true, leb-true, not-true}
+use Rattle.modinfo_literals.specs.Escape.{AreDigits, begins_with, number, is_line_terminator, is_special, IsCommonEscape, IsStringEscape, IsTemplateEscape}
 use Rattle.modinfo_literals.specs.Escape.IsLineEnd.{carriage_return_line_feed, carriage_return, other_terminator}
 use Rattle.modinfo_literals.specs.Escape.IsCommonEscape.{
   backspace,
@@ -93,24 +29,7 @@ use Rattle.modinfo_literals.specs.Literal.IsTemplateElement.{
   carriage_return as carriage_return_element,
   escape as template_escape,
 }
-use Rattle.modinfo_literals.specs.internal.Step.{
-  Step,
-  stands_for,
-  stands_for_nothing,
-  after_carriage_return,
-  digits_of,
-  hex_step,
-  close_brace,
-  braced_step,
-  unicode_step,
-  octal_step,
-  single_escape,
-  common_step,
-  string_escape_step,
-  template_escape_step,
-  string_step,
-  template_step,
-}
+use Rattle.modinfo_literals.specs.internal.Step.{Step, after_carriage_return, digits_of, hex_step, close_brace, braced_step, unicode_step, octal_step, single_escape, common_step, string_escape_step, template_escape_step, string_step, template_step}
 use Rattle.modinfo_literals.proofs.Digits.{AreDigits-digits_of, digits_of-drop, digits_of-end, length-digits_of}
 
 -- the text begins with an element, which the step is over

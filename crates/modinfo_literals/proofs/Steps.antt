@@ -1,38 +1,5 @@
 -- The steps over digits, by what the program reads.
-use Rattle.std.proofs.Common.{
-  ◌≡◌,
-  ℕ,
-  ◌+◌,
-  ◌*◌,
-  ◌<◌,
-  ◌≤◌,
-  ◌&&◌,
-  ◌||◌,
-  ◌==◌,
-  true,
-  false,
-  Option,
-  Some,
-  None,
-  List,
-  [],
-  ◌∷◌,
-  ◌++◌,
-  length,
-  drop,
-  min,
-  nat_lt,
-  nat_le,
-  cond,
-  not,
-  suc,
-  zero,
-  refl,
-  sym,
-  ap,
-  ◌∙◌,
-  arith,
-}
+use Rattle.std.proofs.Common.{◌≡◌, ℕ, ◌+◌, ◌*◌, ◌<◌, ◌≤◌, ◌&&◌, ◌||◌, ◌==◌, true, false, Option, None, List, [], ◌∷◌, length, drop, min, nat_lt, nat_le, cond, not, suc, zero, refl, sym, ap, ◌∙◌, arith}
 use Rattle.std.specs.Char.{digit_value, is_digit}
 use Rattle.std.specs.Str.{chars, IsUtf8}
 use Rattle.std.proofs.lemmas.Str.{length-le-encodes, encodes-chars}
@@ -69,11 +36,17 @@ number_16-below [] are le = omega arith
 number_16-below (a ∷ []) are le =
     omega (arith, hex_below 0 0 0 (digit_value a) (omega arith) (omega arith) (omega arith) (ltb-true _ _ are.0))
 number_16-below (a ∷ b ∷ []) are le =
-    omega (arith, hex_below 0 0 (digit_value a) (digit_value b) (omega arith) (omega arith) (ltb-true _ _ are.0)
-    (ltb-true _ _ are.1.0))
+    omega (
+      arith,
+      hex_below 0 0 (digit_value a) (digit_value b) (omega arith) (omega arith) (ltb-true _ _ are.0)
+          (ltb-true _ _ are.1.0),
+    )
 number_16-below (a ∷ b ∷ c ∷ []) are le =
-    omega (arith, hex_below 0 (digit_value a) (digit_value b) (digit_value c) (omega arith) (ltb-true _ _ are.0)
-    (ltb-true _ _ are.1.0) (ltb-true _ _ are.1.1.0))
+    omega (
+      arith,
+      hex_below 0 (digit_value a) (digit_value b) (digit_value c) (omega arith) (ltb-true _ _ are.0)
+          (ltb-true _ _ are.1.0) (ltb-true _ _ are.1.1.0),
+    )
 number_16-below (a ∷ b ∷ c ∷ d ∷ []) are le =
     hex_below (digit_value a) (digit_value b) (digit_value c) (digit_value d) (ltb-true _ _ are.0)
     (ltb-true _ _ are.1.0) (ltb-true _ _ are.1.1.0) (ltb-true _ _ are.1.1.1.0)
@@ -87,8 +60,11 @@ number_8-below [] are le = omega arith
 number_8-below (a ∷ []) are le =
     omega (arith, octal_below 0 0 (digit_value a) (omega arith) (omega arith) (ltb-true _ _ are.0))
 number_8-below (a ∷ b ∷ []) are le =
-    omega (arith, octal_below 0 (digit_value a) (digit_value b) (omega arith) (ltb-true _ _ are.0)
-    (ltb-true _ _ are.1.0))
+    omega (
+      arith,
+      octal_below 0 (digit_value a) (digit_value b) (omega arith) (ltb-true _ _ are.0)
+          (ltb-true _ _ are.1.0),
+    )
 number_8-below (a ∷ b ∷ c ∷ []) are le =
     octal_below (digit_value a) (digit_value b) (digit_value c) (ltb-true _ _ are.0) (ltb-true _ _ are.1.0)
     (ltb-true _ _ are.1.1.0)

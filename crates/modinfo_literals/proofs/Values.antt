@@ -1,20 +1,5 @@
 -- The value that the elements of a whole literal spell.
-use Rattle.std.proofs.Common.{
-  ◌≡◌,
-  ℕ,
-  ◌⊎◌,
-  Option,
-  None,
-  List,
-  [],
-  ◌∷◌,
-  drop,
-  get_or,
-  sym,
-  ap,
-  ◌∙◌,
-  subst,
-}
+use Rattle.std.proofs.Common.{◌≡◌, ℕ, ◌⊎◌, List, [], ◌∷◌, drop, get_or, sym, ap, ◌∙◌, subst}
 use Rattle.std.specs.Str.{chars}
 use Rattle.deno_graph_base.specs.JsString.{points_of_units}
 use Rattle.modinfo_literals.specs.Literal.{Consists, IsStringElement, Spells, SpellsCooked}

@@ -1,5 +1,5 @@
 -- The elements that the program reads.
-use Rattle.std.specs.Prelude.{◌≡◌, ℕ, ◌<◌, true, Option, Some, None, List, ◌∷◌, IfSome, option_map}
+use Rattle.std.specs.Prelude.{◌≡◌, ℕ, ◌<◌, true, Option, None, List, ◌∷◌, IfSome, option_map}
 use Rattle.std.specs.Char.{digit_value, is_digit}
 use Rattle.std.specs.List.{flat_map}
 use Rattle.std.specs.Str.{chars}

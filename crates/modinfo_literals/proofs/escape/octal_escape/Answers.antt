@@ -1,7 +1,7 @@
 -- Three digits at most after 0 to 3, two after 4 to 7.
-use Rattle.std.proofs.Common.{◌≡◌, nat_lt, cond, sym}
+use Rattle.std.proofs.Common.{◌≡◌, nat_lt, cond}
 use Rattle.std.proofs.lemmas.Bool.{lt-ltb, le-ltb}
-use Rattle.modinfo_literals.proofs.Steps.{octal_step-read, octal_value-below}
+use Rattle.modinfo_literals.proofs.Steps.{octal_step-read}
 use Rattle.modinfo_literals.proofs.escape.octal_escape.Goals as goal
 use Rattle.modinfo_literals.proofs.escape.octal_escape.Goals.{then-first-lt52, else-first-lt52}
 

@@ -1,8 +1,6 @@
 -- The first character decides which escape the text begins with.
-use Rattle.std.proofs.Common.{◌∙◌, sym, ap, not, None}
-use Rattle.std.specs.Str.{chars}
+use Rattle.std.proofs.Common.{◌∙◌, sym, ap, not}
 use Rattle.std.proofs.lemmas.Bool.{and_from, and_left, and_right, cond-true, cond-false, eq-eqb, ne_eqb}
-use Rattle.modinfo_literals.specs.internal.Step.{stands_for}
 use Rattle.modinfo_literals.proofs.Steps.{
   template_escape_step-nil,
   template_escape_step-other,

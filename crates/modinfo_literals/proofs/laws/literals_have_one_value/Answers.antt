@@ -1,4 +1,3 @@
-use Rattle.modinfo_literals.proofs.Sound.{Found}
 use Rattle.modinfo_literals.proofs.Chains.{Spells-unique, SpellsCooked-unique}
 use Rattle.modinfo_literals.proofs.laws.literals_have_one_value.Goals as goal
 

@@ -1,5 +1,4 @@
 -- The elements end where the literal does, or the literal has another end.
-use Rattle.std.proofs.Common.{refl}
 use Rattle.modinfo_literals.proofs.Values.{Spells-none}
 use Rattle.modinfo_literals.proofs.value.escaped_value.Goals as goal
 
