@@ -5,7 +5,7 @@ import subprocess
 from pathlib import Path
 
 import pytest
-from conftest import ROOT
+from installed import ROOT
 
 # Calls each function and uses each constant, so that a macro that isn't an expression is an error too.
 CALLS = "".join(

@@ -6,11 +6,8 @@ import subprocess
 from pathlib import Path
 
 import pytest
-from conftest import ROOT, VERSION, analyzed, run
+from installed import FUNCTIONS, ROOT, VERSION, analyzed, run
 
-FUNCTIONS = (
-    "analyze analyze_estree check check_convert check_estree check_reach convert lines reach run run_lines version"
-).split()
 CMAKE = """\
 cmake_minimum_required(VERSION 3.16)
 project(example C)
@@ -31,7 +28,7 @@ PAGE, PAGE_OUTPUT = ROOT / "examples/page.json", ROOT / "examples/page.out.json"
 
 def wanted(libraries: str) -> set[str]:
     """The files below a prefix."""
-    manuals = ["man1/module-info.1", *(f"man3/modinfo_{function}.3" for function in FUNCTIONS)]
+    manuals = ["man1/module-info.1", *(f"man3/{function}.3" for function in FUNCTIONS)]
     documents = ["copyright", "ESTREE.md", "FORMATS.md"]
     documents += [f"{name}.schema.json" for name in ("document", "module-info", "report")]
     names = [f"libmodinfo.{ending}" for ending in ("a", "so", "so.0", f"so.{VERSION}")]

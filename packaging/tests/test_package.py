@@ -6,7 +6,7 @@ import shutil
 from pathlib import Path
 
 import pytest
-from conftest import ROOT, VERSION, analyzed, run
+from installed import ROOT, VERSION, analyzed, run
 
 DEBS = [f"{name}_{VERSION}_amd64.deb" for name in ("libmodinfo0", "libmodinfo-dev", "modinfo-tool")]
 TARBALL = f"modinfo-{VERSION}-linux-x86_64.tar.gz"

@@ -5,7 +5,7 @@ import shutil
 import signal
 
 import pytest
-from conftest import CRATES, Repository, steps
+from repository import CRATES, Repository, steps
 
 MADE = "modinfo: the proved program is made: build/modinfo\n"
 SLEEP = "echo $$ > $ROOM/process; exec sleep 60"

@@ -1,7 +1,7 @@
 """Tests tools/check: the words of the prover, and libraries that are missing or have changed."""
 
 import pytest
-from conftest import Repository
+from repository import Repository
 
 
 def words_of_check(repository: Repository) -> list[str]:

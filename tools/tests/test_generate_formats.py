@@ -4,7 +4,7 @@ tables fit what is printed is tested by test_formats.py and by the packages."""
 import json
 
 import pytest
-from conftest import Repository, copy_tracked
+from repository import Repository, copy_tracked
 
 COMMAND = ["python3", "-B", "tools/generate_formats"]
 SCHEMA = "docs/module-info.schema.json"

@@ -5,7 +5,7 @@ import subprocess
 from pathlib import Path
 
 import pytest
-from conftest import Repository
+from repository import Repository
 from sources import ROOT
 
 

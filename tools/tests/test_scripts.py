@@ -7,7 +7,7 @@ import subprocess
 from pathlib import Path
 
 import pytest
-from conftest import Repository, copy_tracked
+from repository import Repository, copy_tracked
 from sources import ROOT, tracked
 
 VERSION = (ROOT / "VERSION").read_text().strip()

@@ -3,7 +3,7 @@
 import re
 
 import pytest
-from conftest import Repository
+from repository import Repository
 
 PARTS = """
 from dataclasses import dataclass, field
