@@ -12,8 +12,12 @@
  * @property {number} offset of the call in the text, in UTF-16 code units
  */
 
-/** The most characters that are searched for type arguments and after a call. */
+/** The most characters of the argument of a call, and the most parts. */
 const NEAR = 300;
+const MOST_PARTS = 20;
+
+/** The most characters of a text that is searched. */
+const LONGEST_TEXT = 2 ** 22;
 
 /** The beginning of a member of `import.meta`. */
 const META = String.raw`\bimport\s*\.\s*meta\s*\.\s*`;
@@ -22,7 +26,7 @@ const META = String.raw`\bimport\s*\.\s*meta\s*\.\s*`;
 const MOCKS = String.raw`\b(?:jest|vi|vitest)\s*\.\s*(?:(?:do)?[mM]ock|(?:require|import)(?:Actual|Mock))`;
 
 /** The parenthesis of a call, with type arguments before. */
-const TYPED_CALL = String.raw`\s*(?:<[^;]{0,300}?>\s*)?\(`;
+const TYPED_CALL = String.raw`\s*(?:<[^;]{0,100}?>\s*)?\(`;
 
 /** @type {{ call: RegExp, kind: ReasonKind, form?: LooseReference["form"] }[]} */
 const CALLS = [
@@ -39,7 +43,7 @@ const CALLS = [
 /** What leads to a module in a text that isn't parsed. */
 const IMPORTS = [
   /\bfrom\s*(?=["'])/g, /\bimport\s*(?=["'])/g, /\b(?:import|require)\s*\(/g,
-  /<script\b[^>]{0,300}?\bsrc\s*=\s*(?=["'])/gi,
+  /<script\b[^>]{0,100}?\bsrc\s*=\s*(?=["'])/gi,
 ];
 
 /** Whether a text may have any of the calls: most have none. */
@@ -55,7 +59,7 @@ function pattern(...parts) {
  * @returns {LooseReference[]} the calls
  */
 export function looseCalls(text) {
-  return ANY_CALL.test(text)
+  return text.length <= LONGEST_TEXT && ANY_CALL.test(text)
     ? CALLS.flatMap(({ call, kind, form = "name" }) => referencesAfter(text, call, { kind, form }))
     : [];
 }
@@ -66,7 +70,8 @@ export function looseCalls(text) {
  * @returns {LooseReference[]} the imports and the calls
  */
 export function looseImports(text, kind) {
-  const imports = IMPORTS.flatMap((each) => referencesAfter(text, each, { kind, form: "name" }));
+  const searched = text.length <= LONGEST_TEXT ? IMPORTS : [];
+  const imports = searched.flatMap((each) => referencesAfter(text, each, { kind, form: "name" }));
   return [...imports, ...looseCalls(text)];
 }
 
@@ -107,14 +112,14 @@ const PART = /\s+|\/\*[^]*?\*\/|"((?:[^"\\\n]|\\.)*)"|'((?:[^'\\\n]|\\.)*)'|`((?
  */
 function partsAt(text, start) {
   const near = text.slice(start, start + NEAR);
-  const isPath = /[,+]$/.test(text.slice(0, start).slice(-1));
+  const isPath = text[start - 1] === "," || text[start - 1] === "+";
   /** @type {(string | undefined)[]} */
   const parts = [];
   let isOpen = false;
   PART.lastIndex = 0;
   for (let found = PART.exec(near); found; found = PART.exec(near)) {
     const [whole, double, single, template] = found;
-    if (whole === "," && !isPath) {
+    if ((whole === "," && !isPath) || parts.length === MOST_PARTS) {
       break;
     }
     isOpen = whole === "+" || (isOpen && /^[\s/]/.test(whole));

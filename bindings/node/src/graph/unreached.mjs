@@ -226,7 +226,10 @@ class Search {
   #takeLoose(key, text, { kind, parts, form, offset }) {
     const name = parts.map((each) => each ?? "${..}").join("");
     for (const path of this.#pathsOf(fileURLToPath(key), parts, { form, kind })) {
-      this.#add(pathToFileURL(path).href, { kind, module: key, position: positionIn(text, offset), text: name });
+      const to = pathToFileURL(path).href;
+      if (this.#isOpen(to)) {
+        this.#add(to, { kind, module: key, position: positionIn(text, offset), text: name });
+      }
     }
   }
 
@@ -259,11 +262,19 @@ class Search {
   }
 
   /**
+   * Whether a module is neither reached nor found.
+   * @param {string} key
+   */
+  #isOpen(key) {
+    return !this.#reached.has(key) && !this.#found.has(key) && this.#graph.module(key) !== undefined;
+  }
+
+  /**
    * @param {string} key
    * @param {Reason} reason
    */
   #add(key, reason) {
-    if (!this.#reached.has(key) && !this.#found.has(key) && this.#graph.module(key)) {
+    if (this.#isOpen(key)) {
       this.#found.set(key, reason);
       this.#todo.add(key);
     }
