@@ -77,11 +77,13 @@ test("what bundlers find of a package: files without endings, module, and other 
     "node_modules/r/package.json": `{"exports":{"./x":{"import":"./i.js","require":"./r.js"}}}`,
     "node_modules/r/i.js": "", "node_modules/r/r.js": "",
     "node_modules/t/package.json": `{"types":"t.d.ts"}`, "node_modules/t/t.d.ts": "",
+    "node_modules/@types/estree/index.d.ts": "", "node_modules/@types/a__b/index.d.ts": "", "node_modules/@types/a__b/c.d.ts": "",
   });
-  assert.deepEqual(found(folder, "a.js", ["p", "p/map", "p/map?x", "r/x?y", "q", "q/t", "q/hidden.js", "t", "none"]), [
+  assert.deepEqual(found(folder, "a.js", ["p", "p/map", "p/map?x", "r/x?y", "q", "q/t", "q/hidden.js", "t", "none", "estree", "@a/b/c"]), [
     "node_modules/p/es/main.js by bundler", "node_modules/p/map.js by bundler", "node_modules/p/map.js by bundler", "node_modules/r/i.js by bundler",
     "node_modules/q/d.js by bundler", "types node_modules/q/t.d.ts by bundler", "missing",
-    "types node_modules/t/t.d.ts by bundler", "package",
+    "types node_modules/t/t.d.ts by bundler", "package", "types node_modules/@types/estree/index.d.ts by bundler",
+    "types node_modules/@types/a__b/c.d.ts by bundler",
   ]);
 });
 
@@ -284,4 +286,28 @@ test("JSON with comments is read in time that grows as its length", () => {
     assert.throws(() => parseWithComments(part.repeat(300_000)), { name: "SyntaxError" }, part);
   }
   assert.ok(process.cpuUsage(/** @type {any} */ ({ user: begin, system: 0 })).user < 5e6);
+});
+
+test("long names, and many of them, take no long time and no memory without end", () => {
+  const folder = folderOf({
+    "package.json": `{"name":"own","exports":{"./*":"./a/*"},"imports":{"#*":"./a/*.js"}}`, "a/b.js": "", "node_modules/p/index.js": "",
+  });
+  const resolver = createResolver({ root: folder });
+  const begin = process.cpuUsage().user;
+  const parts = ["a/", "../", "./", "a/../", "%61/", "node_modules/", "a", "*", "@a/", "\\", "?", "é", "!", "//"];
+  for (const part of parts) {
+    for (const start of ["./", "", "#", "own/", "p/", "/", "file:///", "@s/"]) {
+      const name = (start + part.repeat(4096)).slice(0, 4096);
+      for (const kind of /** @type {const} */ (["import", "require"])) {
+        const { class: word } = resolver.resolve(name, join(folder, "a/b.js"), { kind });
+        assert.ok(["missing", "package", "outside", "url", "file"].includes(word), word);
+      }
+    }
+  }
+  for (let at = 0; at < 20_000; at++) {
+    resolver.resolve(`./${"x".repeat(200)}${at}`, join(folder, "a/b.js"));
+    resolver.resolve(`#node_modules/${at}`, join(folder, "a/b.js"));
+  }
+  assert.ok(process.cpuUsage(/** @type {any} */ ({ user: begin, system: 0 })).user < 30e6);
+  assert.ok(resolver.takeNotices().length <= 10);
 });

@@ -29,6 +29,15 @@ const MAX_LINKS = 40;
 /** The most bytes of a package.json or a configuration: 4 MiB. */
 const MAX_BYTES = 4 * 2 ** 20;
 
+/** The most bytes of a name in a folder, with the slash before it. */
+const MAX_NAME = 256;
+
+/** How many paths are kept: names without number must not take memory without end. */
+const MAX_ENTRIES = 500_000;
+
+/** @type {Entry} */
+const ROOT = { kind: "folder", path: "/", links: 0 };
+
 /** @type {Entry} */
 const NONE = { kind: "none", path: "", links: 0 };
 
@@ -38,7 +47,7 @@ const READ_HERE = fs.constants.O_RDONLY | fs.constants.O_NONBLOCK | fs.constants
 export class RegularFiles {
   #system;
   /** @type {Map<string, Entry>} */
-  #entries = new Map([["/", { kind: "folder", path: "/", links: 0 }]]);
+  #entries = new Map();
   /** @type {Set<string>} */
   #roots = new Set();
   #hasAll = false;
@@ -84,12 +93,21 @@ export class RegularFiles {
    * @returns {Entry}
    */
   at(path) {
-    let entry = this.#entries.get(path);
-    if (entry === undefined) {
-      // A link that leads to itself leads to nothing.
-      this.#entries.set(path, NONE);
-      entry = this.#look(path);
-      this.#entries.set(path, entry);
+    const known = this.#entries.get(path);
+    if (known) {
+      return known;
+    }
+    // From above: a long path costs no more than the part of it that is there.
+    let entry = ROOT;
+    for (let begin = 0; begin < path.length && path !== "/";) {
+      if (entry.kind !== "folder") {
+        return NONE;
+      }
+      const next = path.indexOf("/", begin + 1);
+      const end = next < 0 ? path.length : next;
+      const each = path.slice(0, end);
+      entry = this.#entries.get(each) ?? (end - begin > MAX_NAME ? NONE : this.#look(entry, each));
+      begin = end;
     }
     return entry;
   }
@@ -162,19 +180,27 @@ export class RegularFiles {
   }
 
   /**
-   * @param {string} path
+   * @param {Entry} parent
+   * @param {string} path in it
    * @returns {Entry}
    */
-  #look(path) {
-    const slash = path.lastIndexOf("/");
-    const parent = this.at(path.slice(0, slash) || "/");
-    if (parent.kind !== "folder") {
-      return NONE;
+  #look(parent, path) {
+    if (this.#entries.size > MAX_ENTRIES) {
+      this.#entries.clear();
     }
-    const real = (parent.path === "/" ? "" : parent.path) + path.slice(slash);
-    if (real !== path) {
-      return behind(parent.links, this.at(real));
-    }
+    // A link that leads to itself leads to nothing.
+    this.#entries.set(path, NONE);
+    const real = (parent.path === "/" ? "" : parent.path) + path.slice(path.lastIndexOf("/"));
+    const entry = real === path ? this.#lookHere(path) : behind(parent.links, this.at(real));
+    this.#entries.set(path, entry);
+    return entry;
+  }
+
+  /**
+   * @param {string} path in a folder whose path has no links
+   * @returns {Entry}
+   */
+  #lookHere(path) {
     const status = this.#statusOf(path);
     if (!status) {
       return NONE;

@@ -29,7 +29,6 @@ const MODULES = "/node_modules/";
  * @property {string[]} [outDirs] those of the JavaScript and of the declarations
  * @property {string} [module] in lower case
  * @property {string[]} [moduleSuffixes]
- * @property {string[]} [customConditions]
  *
  * @typedef {object} Configuration
  * @property {string} path of its file
@@ -242,7 +241,6 @@ export class Configurations {
       outDirs: outDirs.length > 0 ? outDirs : undefined,
       module: own.text("module")?.toLowerCase(),
       moduleSuffixes: own.texts("moduleSuffixes"),
-      customConditions: own.texts("customConditions"),
     });
   }
 

@@ -51,6 +51,9 @@ const REQUIRED = /^((?:@[^/\\%]+\/)?[^./\\%][^/\\%]*)(\/.*)?$/s;
 const ENCODED_SEPARATOR = /%2f|%5c/i;
 const MANIFEST = "/package.json";
 
+/** How many look-ups of packages are kept. */
+const MAX_PACKAGES = 100_000;
+
 /** @type {Missing} */
 const NONE = { kind: "none" };
 
@@ -280,6 +283,9 @@ export class NodeRules {
   #nearestPackage(name, folder) {
     const key = `${folder}/\0${name}`;
     if (!this.#packages.has(key)) {
+      if (this.#packages.size > MAX_PACKAGES) {
+        this.#packages.clear();
+      }
       this.#packages.set(key, this.#findPackage(name, folder));
     }
     return this.#packages.get(key);

@@ -18,6 +18,8 @@ import { isObject } from "./package_targets.mjs";
  * @property {Record<string, unknown>} members all of them
  */
 
+const MAX_NOTICES = 10;
+
 /** @type {Map<string, Format>} */
 const BY_EXTENSION = new Map([
   [".mjs", "import"], [".mts", "import"], [".cjs", "require"], [".cts", "require"],
@@ -32,8 +34,8 @@ export class PackageManifests {
   #byFolder = new Map();
   /** @type {Map<string, Manifest | undefined>} */
   #scopes = new Map();
-  /** @type {Set<string>} */
-  #noticed = new Set();
+  /** @type {Map<string, Set<string>>} */
+  #noticed = new Map();
   /** @type {string[]} */
   #notices = [];
 
@@ -86,15 +88,16 @@ export class PackageManifests {
   }
 
   /**
-   * Notes once what is wrong with a manifest.
+   * Notes once what is wrong with a manifest, and of each manifest the first few faults.
    * @param {Manifest} manifest
    * @param {string} why
    */
   note({ path }, why) {
-    const notice = `${path}: ${why}`;
-    if (!this.#noticed.has(notice)) {
-      this.#noticed.add(notice);
-      this.#notices.push(notice);
+    const noticed = this.#noticed.get(path) ?? new Set();
+    if (!noticed.has(why) && noticed.size < MAX_NOTICES) {
+      noticed.add(why);
+      this.#noticed.set(path, noticed);
+      this.#notices.push(`${path}: ${why}`);
     }
   }
 

@@ -422,6 +422,7 @@ class Resolver {
       () => this.#node.require(name, importer.path),
       () => this.#anyCondition.import(name, importer.path),
       () => this.#inPackage(name, importer),
+      () => this.#inTypes(name, importer),
     ];
     for (const find of tries) {
       const found = find();
@@ -450,6 +451,22 @@ class Resolver {
     }
     const other = this.#bundler.inPackage(workspace, rest, importer);
     return other.kind === "none" ? found : other;
+  }
+
+  /**
+   * What has the types of a package that is compiled away, as one of types alone is.
+   * @param {string} specifier
+   * @param {Importer} importer
+   * @returns {Found}
+   */
+  #inTypes(specifier, importer) {
+    const { name, rest } = packageOf(specifier) ?? {};
+    if (name === undefined || rest === undefined) {
+      return NONE;
+    }
+    const own = `@types/${name.replace(/^@/, "").replace("/", "__")}`;
+    const folder = this.#node.packageFolder(own, importer.path);
+    return folder === undefined ? NONE : this.#bundler.inPackage(folder, rest, importer);
   }
 
   /**
