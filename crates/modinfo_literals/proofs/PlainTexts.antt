@@ -1,5 +1,6 @@
 -- A string literal without escapes spells the text between its quotes.
-use Rattle.std.proofs.Common.{◌≡◌, ℕ, ◌+◌, ◌-◌, ◌/◌, ◌%◌, ◌<◌, ◌≤◌, ◌⊎◌, true, false, Bool, Some, List, [], ◌∷◌, ◌++◌, map, encode_utf8, encode_utf8_all, suc, zero, refl, sym, ap, ◌∙◌, subst, ⊎_elim, arith}
+use Rattle.std.proofs.Common.{◌≡◌, ℕ, ◌+◌, ◌-◌, ◌/◌, ◌%◌, ◌<◌, ◌≤◌, ◌⊎◌, true, false, Bool, Some, List, [],
+    ◌∷◌, ◌++◌, map, encode_utf8, encode_utf8_all, suc, zero, refl, sym, ap, ◌∙◌, subst, ⊎_elim, arith}
 use Rattle.std.specs.Char.{IsScalar}
 use Rattle.std.specs.Char.Utf16.{is_high_surrogate, is_low_surrogate, surrogate_pair_char}
 use Rattle.std.specs.Char.Escape.{encode_utf16}
@@ -142,7 +143,8 @@ Spells-plain slice inside text quote is_quote opens utf8 closes none =
       points = map Some (chars text);
       is_quote = is_quote;
       opens = opens;
-      closes = subst (λ l. Consists (IsStringElement quote) (map Some (chars text)) l (quote ∷ [])) (sym whole)
+      closes = subst (λ l. Consists (IsStringElement quote) (map Some (chars text)) l (quote ∷ [])) (sym
+          whole)
           (Consists-plain quote small (chars text) bytes);
       is_value = sym (string_of-characters (chars text) (scalars-chars text utf8));
     }

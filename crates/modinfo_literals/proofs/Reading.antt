@@ -42,7 +42,8 @@ string_some : (quote : ℕ) (after text : List ℕ) (point : Option ℕ) → IsS
 string_some quote after _ _ (character c plain) = omega arith
 string_some quote after _ _ (escape text point is) = omega arith
 
-template_some : (after text : List ℕ) (point : Option ℕ) → IsTemplateElement after text point → 0 < length text
+template_some : (after text : List ℕ) (point : Option ℕ) → IsTemplateElement after text point → 0 < length
+    text
 template_some after _ _ (template_character c plain) = omega arith
 template_some after _ _ (dollar alone) = omega arith
 template_some after _ _ carriage_return_line_feed = omega arith
@@ -72,7 +73,8 @@ step_shorter form text step e =
     )
 
 -- one more element
-Consists-more : (IsElement : List ℕ → List ℕ → Option ℕ → Type 0) (points : List (Option ℕ)) (text end : List ℕ)
+Consists-more : (IsElement : List ℕ → List ℕ → Option ℕ → Type 0) (points : List (Option ℕ)) (text end :
+    List ℕ)
     (step : Step) → Consists IsElement points text end → Found IsElement end step
     → Consists IsElement (points ++ step.point ∷ []) text step.rest
 Consists-more IsElement [] text end step c found = (found.0, step.rest, c ∙ found.1, found.2, refl)
@@ -96,7 +98,8 @@ IsSoFar-more form text end units step new so_far e adds = record {
   consists = Consists-more (IsElementOf form) so_far.points text end step so_far.consists
       (step_found form end step e);
   are = adds ∙ ap (λ l. l ++ units_of step.point) so_far.are
-      ∙ sym (flat_map-append units_of so_far.points (step.point ∷ []) ∙ ap (λ l. flat_map units_of so_far.points ++ l)
+      ∙ sym (flat_map-append units_of so_far.points (step.point ∷ []) ∙ ap (λ l. flat_map units_of
+          so_far.points ++ l)
       (append-nil (units_of step.point)));
 }
 

@@ -1,10 +1,15 @@
 -- What a step over an element finds is an element of the definitions.
-use Rattle.std.proofs.Common.{◌≡◌, ℕ, ◌<◌, ◌≤◌, ◌==◌, ◌&&◌, not, Bool, true, false, Option, Some, None, List, [], ◌∷◌, ◌++◌, length, drop, nat_lt, nat_le, nat_eq, codes, cond, suc, refl, sym, ap, ◌∙◌, subst, inl, inr, ⊎_elim, arith, append_assoc, unwrap_or}
+use Rattle.std.proofs.Common.{◌≡◌, ℕ, ◌<◌, ◌≤◌, ◌==◌, ◌&&◌, not, Bool, true, false, Option, Some, None,
+    List, [], ◌∷◌, ◌++◌, length, drop, nat_lt, nat_le, nat_eq, codes, cond, suc, refl, sym, ap, ◌∙◌, subst,
+    inl, inr, ⊎_elim, arith, append_assoc, unwrap_or}
 use Rattle.std.specs.Char.{is_digit}
 use Rattle.std.specs.List.{list_any}
-use Rattle.std.proofs.lemmas.Bool.{or_from, and_parts, cases_Bool, cond-true, cond-false, eqb-true, ltb-true, leb-true, not-true}
-use Rattle.modinfo_literals.specs.Escape.{AreDigits, begins_with, number, is_line_terminator, is_special, IsCommonEscape, IsStringEscape, IsTemplateEscape}
-use Rattle.modinfo_literals.specs.Escape.IsLineEnd.{carriage_return_line_feed, carriage_return, other_terminator}
+use Rattle.std.proofs.lemmas.Bool.{or_from, and_parts, cases_Bool, cond-true, cond-false, eqb-true,
+    ltb-true, leb-true, not-true}
+use Rattle.modinfo_literals.specs.Escape.{AreDigits, begins_with, number, is_line_terminator, is_special,
+    IsCommonEscape, IsStringEscape, IsTemplateEscape}
+use Rattle.modinfo_literals.specs.Escape.IsLineEnd.{carriage_return_line_feed, carriage_return,
+    other_terminator}
 use Rattle.modinfo_literals.specs.Escape.IsCommonEscape.{
   backspace,
   tab,
@@ -29,8 +34,11 @@ use Rattle.modinfo_literals.specs.Literal.IsTemplateElement.{
   carriage_return as carriage_return_element,
   escape as template_escape,
 }
-use Rattle.modinfo_literals.specs.internal.Step.{Step, after_carriage_return, digits_of, hex_step, close_brace, braced_step, unicode_step, octal_step, single_escape, common_step, string_escape_step, template_escape_step, string_step, template_step}
-use Rattle.modinfo_literals.proofs.Digits.{AreDigits-digits_of, digits_of-drop, digits_of-end, length-digits_of}
+use Rattle.modinfo_literals.specs.internal.Step.{Step, after_carriage_return, digits_of, hex_step,
+    close_brace, braced_step, unicode_step, octal_step, single_escape, common_step, string_escape_step,
+    template_escape_step, string_step, template_step}
+use Rattle.modinfo_literals.proofs.Digits.{AreDigits-digits_of, digits_of-drop, digits_of-end,
+    length-digits_of}
 
 -- the text begins with an element, which the step is over
 abbrev pub Found : (List ℕ → List ℕ → Option ℕ → Type 0) → List ℕ → Step → Type 0
@@ -116,7 +124,8 @@ module _ (step : Step) where
       let found = hex_step-sound 2 rest step e in (
         120 ∷ found.digits,
         ap (λ l. 120 ∷ l) found.whole,
-        subst (IsCommonEscape step.rest (120 ∷ found.digits)) found.point_is (hex found.digits found.are found.long),
+        subst (IsCommonEscape step.rest (120 ∷ found.digits)) found.point_is (hex found.digits found.are
+            found.long),
       )
 
   unicode_found : (rest : List ℕ) → hex_step 4 rest ≡ Some step → Found IsCommonEscape (117 ∷ rest) step
@@ -137,7 +146,8 @@ module _ (step : Step) where
             (code_point found.digits found.are found.some found.le),
       )
 
-  unicode_step-sound : (rest : List ℕ) → unicode_step rest ≡ Some step → Found IsCommonEscape (117 ∷ rest) step
+  unicode_step-sound : (rest : List ℕ) → unicode_step rest ≡ Some step → Found IsCommonEscape (117 ∷ rest)
+      step
   unfolding unicode_step
   unicode_step-sound [] e = none_some _ step e
   unicode_step-sound (c ∷ rest) e =
@@ -147,7 +157,8 @@ module _ (step : Step) where
       (λ f is. unicode_found (c ∷ rest) is)
 
 -- a carriage return, alone or with its line feed
-after_carriage_return-found : (IsElement : List ℕ → List ℕ → Option ℕ → Type 0) (point : Option ℕ) (rest : List ℕ)
+after_carriage_return-found : (IsElement : List ℕ → List ℕ → Option ℕ → Type 0) (point : Option ℕ) (rest :
+    List ℕ)
     → ((after : List ℕ) → IsElement after (13 ∷ 10 ∷ []) point)
     → ((after : List ℕ) → begins_with (λ c. c == 10) after ≡ false → IsElement after (13 ∷ []) point)
     → Found IsElement (13 ∷ rest) (record { point = point; rest = after_carriage_return rest })
@@ -161,7 +172,8 @@ single_escape-found : (c : ℕ) (rest : List ℕ) → is_digit c 10 ≡ false �
     → nat_eq c 120 ≡ false → nat_eq c 117 ≡ false → IsCommonEscape rest (c ∷ []) (Some (single_escape c))
 unfolding single_escape
 single_escape-found c rest no_digit no_end x u =
-    let at = λ (d : ℕ) (same : nat_eq c d ≡ true) (is : IsCommonEscape rest (d ∷ []) (Some (single_escape d))).
+    let at = λ (d : ℕ) (same : nat_eq c d ≡ true) (is : IsCommonEscape rest (d ∷ []) (Some (single_escape
+        d))).
     subst (λ n. IsCommonEscape rest (n ∷ []) (Some (single_escape n))) (sym (eqb-true c d same)) is in
     by_cases (nat_eq c 98) (λ e. at 98 e backspace) (λ b.
     by_cases (nat_eq c 116) (λ e. at 116 e tab) (λ t.
@@ -218,10 +230,12 @@ octal_made most c rest =
 
 octal_made-first : (c : ℕ) (rest : List ℕ) (n : ℕ) → is_digit c 8 ≡ true
     → octal_made (suc n) c rest
-    ≡ record { point = Some (number 8 (c ∷ digits_of 8 n rest)); rest = drop (length (digits_of 8 n rest)) rest }
+    ≡ record { point = Some (number 8 (c ∷ digits_of 8 n rest)); rest = drop (length (digits_of 8 n rest))
+        rest }
 unfolding octal_made
 octal_made-first c rest n is =
-    ap (λ (ds : List ℕ). let made : Step = record { point = Some (number 8 ds); rest = drop (length ds) (c ∷ rest) }
+    ap (λ (ds : List ℕ). let made : Step = record { point = Some (number 8 ds); rest = drop (length ds) (c ∷
+        rest) }
     in made) (digits_of-first c rest n is)
 
 octal_step-sound : (c : ℕ) (rest : List ℕ) (step : Step) → is_digit c 8 ≡ true → octal_step c rest ≡ Some step

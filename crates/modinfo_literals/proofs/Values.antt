@@ -17,7 +17,8 @@ use Rattle.modinfo_literals.proofs.Chains.{
 
 -- a part of a template
 module _ (slice end units : List ℕ) (read : AreUnits Template (chars slice) end units) where
-  pub SpellsCooked-read : (value : List ℕ) → end ≡ [] → value ≡ points_of_units units → SpellsCooked slice value
+  pub SpellsCooked-read : (value : List ℕ) → end ≡ [] → value ≡ points_of_units units → SpellsCooked slice
+      value
   SpellsCooked-read value whole is = record {
     points = read.points;
     whole = subst (Consists _ read.points (chars slice)) whole read.consists;
@@ -53,4 +54,5 @@ module _ (slice inside end units : List ℕ) (quote : ℕ) (is_quote : (quote �
       let walk = subst (λ l. Walks (string_step quote) s.points l (quote ∷ [])) same_inside
       (string_walks quote s.points s.inside _ closes) in
       more (Walks-unique (string_step quote) read.points s.points inside end (quote ∷ [])
-      (string_walks quote read.points _ _ read.consists) walk read.no_more (string_step-quote quote [] is_quote)).1
+      (string_walks quote read.points _ _ read.consists) walk read.no_more (string_step-quote quote []
+          is_quote)).1

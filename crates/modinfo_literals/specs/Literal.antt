@@ -1,4 +1,5 @@
--- The values that literals of JavaScript spell: SV of a string literal (ECMA-262, 12.9.4) and TV of a part of a
+-- The values that literals of JavaScript spell: SV of a string literal (ECMA-262, 12.9.4) and TV of a part
+-- of a
 -- template (12.9.6).
 use Rattle.std.specs.Prelude.{◌≡◌, ◌⊎◌, ℕ, ◌==◌, ◌||◌, false, Option, Some, None, List, [], ◌∷◌, ◌++◌, codes}
 use Rattle.std.specs.Char.Escape.{encode_utf16}
@@ -7,7 +8,8 @@ use Rattle.std.specs.Str.{chars}
 use Rattle.deno_graph_base.specs.JsString.{points_of_units}
 use Rattle.modinfo_literals.specs.Escape.{begins_with, IsStringEscape, IsTemplateEscape}
 
--- an element of a string literal with this quote: its text, where `after` follows, and the code point that the
+-- an element of a string literal with this quote: its text, where `after` follows, and the code point that
+-- the
 -- element stands for, or `None` if the element stands for nothing
 pub data IsStringElement (quote : ℕ) (after : List ℕ) : List ℕ → Option ℕ → Type 0 where
   -- any character but a backslash, the quote, a line feed and a carriage return
@@ -28,7 +30,8 @@ pub data IsTemplateElement (after : List ℕ) : List ℕ → Option ℕ → Type
   escape : (text : List ℕ) (point : Option ℕ) → IsTemplateEscape after text point
       → IsTemplateElement after (92 ∷ text) point
 
--- the text consists of elements that stand for these code points, in order, and of `end` after the last element
+-- the text consists of elements that stand for these code points, in order, and of `end` after the last
+-- element
 abbrev pub Consists : (List ℕ → List ℕ → Option ℕ → Type 0) → List (Option ℕ) → List ℕ → List ℕ → Type 0
 Consists IsElement [] text end = text ≡ end
 Consists IsElement (point ∷ points) text end =
