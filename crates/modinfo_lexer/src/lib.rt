@@ -1,0 +1,11 @@
+//! The tokens and the comments of a JavaScript or TypeScript text, by the lexical grammar of
+//! ECMAScript (<https://tc39.es/ecma262/#sec-ecmascript-language-lexical-grammar>).
+#![tactic(auto)]
+
+pub mod characters;
+pub mod comments;
+pub mod lexer;
+pub mod scan;
+pub mod syntax_error;
+pub mod token;
+pub mod words;
