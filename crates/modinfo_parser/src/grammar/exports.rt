@@ -1,0 +1,216 @@
+//! Exports.
+
+use crate::grammar::statements::Item;
+use crate::parser::{Parsed, Parser};
+use crate::shape::Shape;
+use modinfo_lexer::token::TokenKind;
+
+impl<'a> Parser<'a> {
+    /// An export. Adds its node, but for `export =` and `export as namespace`.
+    #[cycle(grammar)]
+    pub(crate) fn export(&mut self, depth: usize) -> Parsed<Item> {
+        if depth == 0 {
+            return Err(self.too_deep());
+        }
+        let first = self.nodes.len();
+        let start = self.start();
+        self.export_from(depth - 1, first, start)
+    }
+
+    /// An export that begins at an offset with the node `first`, with decorators if there are any.
+    #[cycle(grammar)]
+    pub(crate) fn export_from(&mut self, depth: usize, first: usize, start: usize) -> Parsed<Item> {
+        if depth == 0 {
+            return Err(self.too_deep());
+        }
+        self.next()?;
+        match self.kind() {
+            TokenKind::Star => self.export_all(start, false)?,
+            TokenKind::BraceOpen => self.export_names(start, false)?,
+            TokenKind::Type if self.is_export_of_types()? => {
+                self.next()?;
+                if self.at(TokenKind::Star) {
+                    self.export_all(start, true)?;
+                } else {
+                    self.export_names(start, true)?;
+                }
+            }
+            TokenKind::Default => {
+                self.next()?;
+                self.export_default(depth - 1)?;
+                self.push(Shape::ExportOther, first, start)?;
+            }
+            TokenKind::Import if self.language.is_typescript => self.export_import(start)?,
+            TokenKind::Equal if self.language.is_typescript => {
+                self.next()?;
+                self.expression(depth - 1)?;
+                self.semicolon()?;
+                return Ok(Item::Plain);
+            }
+            TokenKind::As if self.language.is_typescript => {
+                self.export_as_namespace()?;
+                return Ok(Item::Plain);
+            }
+            _ => {
+                self.exported_declaration(depth - 1)?;
+                self.push(Shape::ExportOther, first, start)?;
+            }
+        }
+        Ok(Item::Node)
+    }
+
+    /// Returns whether the current `type` says that an export is of types alone.
+    fn is_export_of_types(&mut self) -> Parsed<bool> {
+        if !self.language.is_typescript {
+            return Ok(false);
+        }
+        Ok(matches!(self.peek()?.kind, TokenKind::BraceOpen | TokenKind::Star))
+    }
+
+    /// `* from` or `* as name from` with a source. Adds the node of the export.
+    fn export_all(&mut self, start: usize, type_only: bool) -> Parsed<()> {
+        let first = self.nodes.len();
+        self.next()?;
+        let has_name = self.eat(TokenKind::As)?;
+        if has_name {
+            self.exported_name()?;
+        }
+        self.expect(TokenKind::From, "expected `from` in the export")?;
+        let src = self.string("expected the specifier of the export, a string")?;
+        let has_with = self.attributes()?;
+        self.semicolon()?;
+        let shape = if has_name {
+            Shape::NamedExport {
+                type_only,
+                src: Some(src),
+                has_with,
+            }
+        } else {
+            Shape::ExportAll {
+                type_only,
+                src,
+                has_with,
+            }
+        };
+        self.push(shape, first, start)
+    }
+
+    /// A name that is exported: a word or a string.
+    fn exported_name(&mut self) -> Parsed<()> {
+        let kind = self.kind();
+        if kind.is_name() || kind == TokenKind::String {
+            self.next()
+        } else {
+            Err(self.error("expected the name of the export"))
+        }
+    }
+
+    /// Names in braces, with a source if there is one. Adds the node of the export.
+    fn export_names(&mut self, start: usize, type_only: bool) -> Parsed<()> {
+        let first = self.nodes.len();
+        self.specifiers()?;
+        let mut src = None;
+        let mut has_with = false;
+        if self.eat(TokenKind::From)? {
+            src = Some(self.string("expected the specifier of the export, a string")?);
+            has_with = self.attributes()?;
+        }
+        self.semicolon()?;
+        let shape = Shape::NamedExport {
+            type_only,
+            src,
+            has_with,
+        };
+        self.push(shape, first, start)
+    }
+
+    /// `import name = ..` after `export`. Adds its node.
+    fn export_import(&mut self, start: usize) -> Parsed<()> {
+        self.next()?;
+        let type_only = self.at(TokenKind::Type) && self.peek()?.kind.is_identifier();
+        if type_only {
+            self.next()?;
+        }
+        self.bound_name()?;
+        self.import_equals(start, type_only, true)
+    }
+
+    /// `as namespace name` after `export`.
+    fn export_as_namespace(&mut self) -> Parsed<()> {
+        self.next()?;
+        self.expect(TokenKind::Namespace, "expected `namespace` after `as`")?;
+        self.bound_name()?;
+        self.semicolon()
+    }
+
+    /// What `export default` exports: a declaration or an expression.
+    #[cycle(grammar)]
+    fn export_default(&mut self, depth: usize) -> Parsed<()> {
+        if depth == 0 {
+            return Err(self.too_deep());
+        }
+        match self.kind() {
+            TokenKind::Function => self.function_expression(depth - 1, false)?,
+            TokenKind::Class => self.class_expression(depth - 1)?,
+            TokenKind::At => self.decorated_class(depth - 1)?,
+            TokenKind::Async if self.is_async_function()? => {
+                self.next()?;
+                self.function_expression(depth - 1, true)?
+            }
+            TokenKind::Abstract | TokenKind::Interface if self.language.is_typescript => {
+                return self.default_of_typescript(depth - 1);
+            }
+            _ => {
+                self.assignment(depth - 1)?;
+                return self.semicolon();
+            }
+        };
+        Ok(())
+    }
+
+    /// An abstract class or an interface after `export default`, or an expression if the word is a name.
+    #[cycle(grammar)]
+    fn default_of_typescript(&mut self, depth: usize) -> Parsed<()> {
+        if depth == 0 {
+            return Err(self.too_deep());
+        }
+        match self.typescript_statement(depth - 1)? {
+            Some(_) => Ok(()),
+            None => {
+                self.assignment(depth - 1)?;
+                self.semicolon()
+            }
+        }
+    }
+
+    /// A declaration after `export`.
+    #[cycle(grammar)]
+    fn exported_declaration(&mut self, depth: usize) -> Parsed<()> {
+        if depth == 0 {
+            return Err(self.too_deep());
+        }
+        match self.kind() {
+            TokenKind::Var
+            | TokenKind::Let
+            | TokenKind::Const
+            | TokenKind::Using
+            | TokenKind::Await
+            | TokenKind::Function
+            | TokenKind::Async
+            | TokenKind::Class
+            | TokenKind::At
+            | TokenKind::Enum
+            | TokenKind::Abstract
+            | TokenKind::Declare
+            | TokenKind::Interface
+            | TokenKind::Module
+            | TokenKind::Namespace
+            | TokenKind::Type
+            | TokenKind::Global => {
+                self.statement(depth - 1)?;
+                Ok(())
+            }
+            _ => Err(self.error("expected a declaration after `export`")),
+        }
+    }
+}

@@ -1,0 +1,126 @@
+//! Loops.
+
+use crate::parser::{Parsed, Parser};
+use crate::shape::Shape;
+use modinfo_lexer::token::TokenKind;
+
+impl<'a> Parser<'a> {
+    /// `while`, with its condition and its statement.
+    #[cycle(grammar)]
+    pub(crate) fn while_statement(&mut self, depth: usize) -> Parsed<()> {
+        if depth == 0 {
+            return Err(self.too_deep());
+        }
+        self.next()?;
+        self.condition(depth - 1)?;
+        self.statement(depth - 1)?;
+        Ok(())
+    }
+
+    /// `do`, with its statement and its condition. A `;` after it may be left out.
+    #[cycle(grammar)]
+    pub(crate) fn do_statement(&mut self, depth: usize) -> Parsed<()> {
+        if depth == 0 {
+            return Err(self.too_deep());
+        }
+        self.next()?;
+        self.statement(depth - 1)?;
+        self.expect(
+            TokenKind::While,
+            "expected `while` after the statement of `do`",
+        )?;
+        self.condition(depth - 1)?;
+        self.eat(TokenKind::Semicolon)?;
+        Ok(())
+    }
+
+    /// `for`, with its head and its statement.
+    #[cycle(grammar)]
+    pub(crate) fn for_statement(&mut self, depth: usize) -> Parsed<()> {
+        if depth == 0 {
+            return Err(self.too_deep());
+        }
+        let first = self.nodes.len();
+        let start = self.start();
+        self.next()?;
+        let is_await = self.eat(TokenKind::Await)?;
+        self.expect(TokenKind::ParenOpen, "expected `(` after `for`")?;
+        if is_await && !self.context.is_function {
+            self.push(Shape::Await, first, start)?;
+        }
+        let context = self.context;
+        self.context = context.in_brackets();
+        let result = self.for_head(depth - 1);
+        self.context = context;
+        result?;
+        self.expect(
+            TokenKind::ParenClose,
+            "expected `)` after the head of the loop",
+        )?;
+        self.statement(depth - 1)?;
+        Ok(())
+    }
+
+    /// What is between the parentheses of `for`.
+    #[cycle(grammar)]
+    fn for_head(&mut self, depth: usize) -> Parsed<()> {
+        if depth == 0 {
+            return Err(self.too_deep());
+        }
+        if !self.at(TokenKind::Semicolon) {
+            self.context.allows_in = false;
+            self.for_start(depth - 1)?;
+            self.context.allows_in = true;
+        }
+        match self.kind() {
+            TokenKind::Of => {
+                self.next()?;
+                self.assignment(depth - 1)?;
+                return Ok(());
+            }
+            TokenKind::In => {
+                self.next()?;
+                self.expression(depth - 1)?;
+                return Ok(());
+            }
+            _ => self.expect(
+                TokenKind::Semicolon,
+                "expected `;`, `of` or `in` in the loop",
+            )?,
+        }
+        if !self.at(TokenKind::Semicolon) {
+            self.expression(depth - 1)?;
+        }
+        self.expect(
+            TokenKind::Semicolon,
+            "expected `;` after the condition of the loop",
+        )?;
+        if !self.at(TokenKind::ParenClose) {
+            self.expression(depth - 1)?;
+        }
+        Ok(())
+    }
+
+    /// The variables or the expression at the start of a loop's head.
+    #[cycle(grammar)]
+    fn for_start(&mut self, depth: usize) -> Parsed<()> {
+        if depth == 0 {
+            return Err(self.too_deep());
+        }
+        let is_declaration = match self.kind() {
+            TokenKind::Var | TokenKind::Const => true,
+            TokenKind::Let => self.is_let_declaration()?,
+            TokenKind::Using => self.is_using_declaration(true)?,
+            _ => false,
+        };
+        if is_declaration {
+            self.next()?;
+            return self.variables(depth - 1);
+        }
+        if self.eat_await_using()? {
+            return self.variables(depth - 1);
+        }
+        self.expression(depth - 1)?;
+        Ok(())
+    }
+}

@@ -1,0 +1,321 @@
+//! Types of TypeScript.
+
+use crate::parser::{Parsed, Parser};
+use modinfo_lexer::token::TokenKind;
+
+impl<'a> Parser<'a> {
+    /// `:` and a type, if the current token is `:`. Returns whether it is.
+    #[cycle(grammar)]
+    pub(crate) fn type_annotation(&mut self, depth: usize) -> Parsed<bool> {
+        if depth == 0 {
+            return Err(self.too_deep());
+        }
+        if !self.eat(TokenKind::Colon)? {
+            return Ok(false);
+        }
+        self.type_in_brackets(depth - 1)?;
+        Ok(true)
+    }
+
+    /// A type, which may be a conditional type, whatever is around it.
+    #[cycle(grammar)]
+    pub(crate) fn type_in_brackets(&mut self, depth: usize) -> Parsed<()> {
+        if depth == 0 {
+            return Err(self.too_deep());
+        }
+        let context = self.context;
+        self.context = context.in_brackets();
+        let result = self.type_(depth - 1);
+        self.context = context;
+        result
+    }
+
+    /// The type of a result: a type, `name is` with a type, or `asserts`.
+    #[cycle(grammar)]
+    pub(crate) fn return_type(&mut self, depth: usize) -> Parsed<()> {
+        if depth == 0 {
+            return Err(self.too_deep());
+        }
+        if self.kind().is_identifier() || self.at(TokenKind::This) {
+            let following = self.peek()?;
+            if following.kind == TokenKind::Is && !following.is_after_line_end {
+                self.next()?;
+                self.next()?;
+                return self.type_(depth - 1);
+            }
+        }
+        if self.at(TokenKind::Asserts) {
+            let following = self.peek()?;
+            let is_name = following.kind.is_identifier() || following.kind == TokenKind::This;
+            if is_name && !following.is_after_line_end {
+                self.next()?;
+                self.next()?;
+                if !self.eat(TokenKind::Is)? {
+                    return Ok(());
+                }
+            }
+        }
+        self.type_(depth - 1)
+    }
+
+    /// A type.
+    #[cycle(grammar)]
+    pub(crate) fn type_(&mut self, depth: usize) -> Parsed<()> {
+        if depth == 0 {
+            return Err(self.too_deep());
+        }
+        for _turn in 0..self.turns {
+            if self.is_function_type(depth - 1)? {
+                return self.function_type(depth - 1);
+            }
+            self.union_type(depth - 1)?;
+            if !self.context.allows_conditional_type || !self.at_on_line(TokenKind::Extends) {
+                break;
+            }
+            self.next()?;
+            self.constraint_of_conditional(depth - 1)?;
+            self.expect(TokenKind::Question, "expected `?` in the conditional type")?;
+            self.type_(depth - 1)?;
+            self.expect(TokenKind::Colon, "expected `:` in the conditional type")?;
+        }
+        Ok(())
+    }
+
+    /// The type after `extends`, which is no conditional type.
+    #[cycle(grammar)]
+    fn constraint_of_conditional(&mut self, depth: usize) -> Parsed<()> {
+        if depth == 0 {
+            return Err(self.too_deep());
+        }
+        let context = self.context;
+        self.context.allows_conditional_type = false;
+        let result = self.type_(depth - 1);
+        self.context = context;
+        result
+    }
+
+    /// Returns whether the type at the current token is that of a function or a constructor.
+    fn is_function_type(&mut self, depth: usize) -> Parsed<bool> {
+        match self.kind() {
+            TokenKind::New => Ok(true),
+            TokenKind::Less => Ok(true),
+            TokenKind::Abstract => Ok(self.peek()?.kind == TokenKind::New),
+            TokenKind::ParenOpen => {
+                let state = self.state();
+                let result = self.skip_start_of_parameters(depth);
+                self.reset(state);
+                result
+            }
+            _ => Ok(false),
+        }
+    }
+
+    /// Skips `(` and what may be the first parameter. Returns whether parameters are there, and no type
+    /// in parentheses.
+    fn skip_start_of_parameters(&mut self, depth: usize) -> Parsed<bool> {
+        self.next()?;
+        match self.kind() {
+            TokenKind::ParenClose | TokenKind::DotDotDot => return Ok(true),
+            TokenKind::BraceOpen | TokenKind::BracketOpen => {
+                self.next()?;
+                self.skip_inside(depth)?;
+                self.next()?;
+            }
+            TokenKind::This => self.next()?,
+            kind if kind.is_identifier() => self.next()?,
+            _ => return Ok(false),
+        }
+        match self.kind() {
+            TokenKind::Colon | TokenKind::Comma | TokenKind::Question | TokenKind::Equal => {
+                Ok(true)
+            }
+            TokenKind::ParenClose => {
+                self.next()?;
+                Ok(self.at(TokenKind::Arrow))
+            }
+            _ => Ok(false),
+        }
+    }
+
+    /// Skips what is in brackets of any kind, up to their end.
+    #[cycle(skip)]
+    fn skip_inside(&mut self, depth: usize) -> Parsed<()> {
+        if depth == 0 {
+            return Err(self.too_deep());
+        }
+        let mut open = 0usize;
+        for _turn in 0..self.turns {
+            match self.kind() {
+                TokenKind::BraceOpen | TokenKind::BracketOpen | TokenKind::ParenOpen => {
+                    open = open.saturating_add(1);
+                    self.next()?;
+                }
+                TokenKind::BraceClose | TokenKind::BracketClose | TokenKind::ParenClose => {
+                    if open == 0 {
+                        break;
+                    }
+                    open = open.saturating_sub(1);
+                    self.next()?;
+                }
+                TokenKind::TemplateHead => self.skip_template(depth - 1)?,
+                TokenKind::EndOfText => break,
+                _ => self.next()?,
+            }
+        }
+        Ok(())
+    }
+
+    /// Skips a template with substitutions.
+    #[cycle(skip)]
+    fn skip_template(&mut self, depth: usize) -> Parsed<()> {
+        if depth == 0 {
+            return Err(self.too_deep());
+        }
+        for _turn in 0..self.turns {
+            let is_last = self.at(TokenKind::TemplateTail);
+            self.next()?;
+            if is_last {
+                break;
+            }
+            self.skip_inside(depth - 1)?;
+            if !self.at(TokenKind::BraceClose) {
+                return Err(self.error("expected `}` after the type in the template"));
+            }
+            self.lexer.rescan_template_part()?;
+        }
+        Ok(())
+    }
+
+    /// The type of a function or a constructor.
+    #[cycle(grammar)]
+    fn function_type(&mut self, depth: usize) -> Parsed<()> {
+        if depth == 0 {
+            return Err(self.too_deep());
+        }
+        self.eat(TokenKind::Abstract)?;
+        self.eat(TokenKind::New)?;
+        if self.at(TokenKind::Less) {
+            self.type_parameters(depth - 1)?;
+        }
+        self.parameters(depth - 1)?;
+        self.expect(
+            TokenKind::Arrow,
+            "expected `=>` in the type of the function",
+        )?;
+        self.return_type(depth - 1)
+    }
+
+    /// Types with `|` and `&` between them, and before the first.
+    #[cycle(grammar)]
+    fn union_type(&mut self, depth: usize) -> Parsed<()> {
+        if depth == 0 {
+            return Err(self.too_deep());
+        }
+        self.skip_union_operator()?;
+        for _turn in 0..self.turns {
+            if self.is_function_type(depth - 1)? {
+                return self.function_type(depth - 1);
+            }
+            self.operator_type(depth - 1)?;
+            if !self.skip_union_operator()? {
+                break;
+            }
+        }
+        Ok(())
+    }
+
+    /// Goes on after `|` or `&`. Returns whether one is there.
+    fn skip_union_operator(&mut self) -> Parsed<bool> {
+        let is_there = matches!(self.kind(), TokenKind::Bar | TokenKind::Ampersand);
+        if is_there {
+            self.next()?;
+        }
+        Ok(is_there)
+    }
+
+    /// A type with `keyof`, `unique`, `readonly` or `infer` before it, and `[]` or `[..]` after it.
+    #[cycle(grammar)]
+    fn operator_type(&mut self, depth: usize) -> Parsed<()> {
+        if depth == 0 {
+            return Err(self.too_deep());
+        }
+        for _turn in 0..self.turns {
+            let is_operator = matches!(
+                self.kind(),
+                TokenKind::Keyof | TokenKind::Unique | TokenKind::Readonly
+            );
+            if !is_operator || !begins_type(self.peek()?.kind) {
+                break;
+            }
+            self.next()?;
+        }
+        if self.at(TokenKind::Infer) && self.peek()?.kind.is_identifier() {
+            return self.infer_type(depth - 1);
+        }
+        self.primary_type(depth - 1)?;
+        self.type_brackets(depth - 1)
+    }
+
+    /// `[]` and `[..]` after a type, on its line.
+    #[cycle(grammar)]
+    fn type_brackets(&mut self, depth: usize) -> Parsed<()> {
+        if depth == 0 {
+            return Err(self.too_deep());
+        }
+        for _turn in 0..self.turns {
+            if !self.at_on_line(TokenKind::BracketOpen) {
+                break;
+            }
+            self.next()?;
+            if !self.at(TokenKind::BracketClose) {
+                self.type_in_brackets(depth - 1)?;
+            }
+            self.expect(TokenKind::BracketClose, "expected `]` in the type")?;
+        }
+        Ok(())
+    }
+
+    /// `infer` and a name, with a constraint if there is one that isn't the start of a conditional type.
+    #[cycle(grammar)]
+    fn infer_type(&mut self, depth: usize) -> Parsed<()> {
+        if depth == 0 {
+            return Err(self.too_deep());
+        }
+        self.next()?;
+        self.next()?;
+        if !self.at(TokenKind::Extends) || self.has_failed() {
+            return Ok(());
+        }
+        let state = self.state();
+        let result = self.constraint_of_infer(depth - 1);
+        self.end_try(state, result)?;
+        Ok(())
+    }
+
+    /// `extends` and a type. Returns whether the type is a constraint of `infer`.
+    #[cycle(grammar)]
+    fn constraint_of_infer(&mut self, depth: usize) -> Parsed<bool> {
+        if depth == 0 {
+            return Err(self.too_deep());
+        }
+        self.next()?;
+        self.constraint_of_conditional(depth - 1)?;
+        Ok(!self.context.allows_conditional_type || !self.at(TokenKind::Question))
+    }
+}
+
+/// Returns whether a type may begin with a token after `keyof`, `unique` or `readonly`.
+fn begins_type(kind: TokenKind) -> bool {
+    kind.is_name()
+        || matches!(
+            kind,
+            TokenKind::BraceOpen
+                | TokenKind::BracketOpen
+                | TokenKind::ParenOpen
+                | TokenKind::String
+                | TokenKind::Number
+                | TokenKind::Minus
+                | TokenKind::Template
+                | TokenKind::TemplateHead
+        )
+}

@@ -1,0 +1,2 @@
+pub mod Cooked
+pub mod SpelledNodes

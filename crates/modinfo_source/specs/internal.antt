@@ -1,0 +1,3 @@
+-- What inner functions promise. No contract of a public function names these.
+pub mod OpenNodes
+pub mod Parts

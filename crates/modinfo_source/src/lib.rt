@@ -1,0 +1,10 @@
+//! Source texts of JavaScript and TypeScript: from a text to a `ParsedSource`, whose literals have the
+//! values that the text spells.
+#![tactic(auto)]
+
+mod comments;
+mod parse;
+mod slice;
+mod tree;
+
+pub use parse::parse_module;

@@ -1,0 +1,116 @@
+//! From a source text to a `ParsedSource`.
+
+ghost use Rattle.std.specs.Prelude.{◌≡◌, Err, IfOk};
+ghost use Rattle.std.specs.Rc.{rc_str_bytes};
+ghost use Rattle.std.specs.Str.{IsCharBoundary};
+ghost use Rattle.deno_graph_base.specs.Position.{HasPosition};
+ghost use Rattle.deno_graph_source.specs.declared.tree.parse_error.ParseDiagnostic.{ParseDiagnostic};
+ghost use Rattle.deno_graph_source.specs.declared.tree.parse_error.ParseError.TheVariants.{Diagnostic};
+ghost use Rattle.modinfo_source.specs.Spelled.{IsSpelled};
+
+use crate::comments::comments_of;
+use crate::tree::body_of;
+use deno_graph_base::text::{Position, SourceRange, SourceTextInfo};
+use deno_graph_base::values::Text;
+use deno_graph_source::tree::{
+    Comments, MediaType, ParseDiagnostic, ParseError, ParsedSource, Program, SourceFault,
+};
+use modinfo_lexer::syntax_error::{ReadError, SyntaxError};
+use modinfo_parser::read;
+use std::alloc::{AllocError, Global};
+use std::rc::RcStr;
+use url::Url;
+
+/// Parses the text of a module, by the grammar of its media type: JavaScript with JSX, TypeScript, or
+/// TypeScript with JSX for `Tsx`. A text is read as a module, and where that fails as a script, unless its
+/// media type is one of modules alone. Returns a diagnostic, whose position counts lines and characters
+/// from zero, if the text has a syntax error that makes its tree unclear, if it nests too deep, or if the
+/// media type is `Json`.
+pub fn parse_module(
+    alloc: Global,
+    specifier: Url,
+    source: RcStr,
+    media_type: MediaType,
+) -> Result<ParsedSource, ParseError>
+    ensures specifier { IfOk result (λ parsed. parsed.specifier ≡ specifier) }
+    ensures text { IfOk result (λ parsed. parsed.text ≡ rc_str_bytes source) }
+    ensures media_type { IfOk result (λ parsed. parsed.media_type ≡ media_type) }
+    // Each string literal has the value that its slice of the text spells, by ECMA-262, and so has each part
+    // of a template.
+    ensures spelled { IfOk result (λ parsed. IsSpelled (rc_str_bytes source) parsed.program) }
+    ensures position { (diagnostic : ParseDiagnostic) → result ≡ Err (Diagnostic diagnostic)
+        → HasPosition (rc_str_bytes source) diagnostic.position }
+{
+    let Parts { program, comments } = match parts_of(alloc, source.as_str(), media_type) {
+        Ok(parts) => parts,
+        Err(error) => return Err(parse_error(alloc, source, error)?),
+    };
+    let copy = source.clone()?;
+    match ParsedSource::new(
+        alloc, specifier, source, media_type, program, comments, false,
+    ) {
+        Ok(parsed) => Ok(parsed),
+        Err(SourceFault::OutOfMemory) => Err(ParseError::OutOfMemory),
+        Err(_) => {
+            let error = ReadError::syntax("the text can't be read", 0);
+            Err(parse_error(alloc, copy, error)?)
+        }
+    }
+}
+
+/// The tree and the comments of a text.
+#[derive(Drop)]
+struct Parts {
+    program: Program,
+    comments: Comments,
+}
+
+/// Returns the tree and the comments of a text.
+#[tactic(auto, unfolding(deno_graph_source::specs::Node::nodes_of))]
+fn parts_of(alloc: Global, text: &str, media_type: MediaType) -> Result<Parts, ReadError>
+    ensures { IfOk result (λ parts. IsSpelled text.now parts.program) }
+{
+    let syntax = read(alloc, text, media_type)?;
+    let comments = comments_of(alloc, text, &syntax.comments)?;
+    let program = Program {
+        range: SourceRange::new(0, text.len()),
+        body: body_of(alloc, text, &syntax.nodes)?,
+        has_shebang: syntax.has_hashbang,
+    };
+    Ok(Parts { program, comments })
+}
+
+/// Returns the error of a parser for an error of reading a text.
+fn parse_error(alloc: Global, source: RcStr, error: ReadError) -> Result<ParseError, AllocError>
+    ensures { IfOk result (λ parse_error. (diagnostic : ParseDiagnostic)
+        → parse_error ≡ Diagnostic diagnostic → HasPosition (rc_str_bytes source) diagnostic.position) }
+{
+    let SyntaxError { message, offset } = match error {
+        ReadError::Syntax(error) => error,
+        ReadError::OutOfMemory => return Ok(ParseError::OutOfMemory),
+    };
+    Ok(ParseError::Diagnostic(ParseDiagnostic {
+        message: Text::from_str(alloc, message)?,
+        position: position_of(alloc, source, offset)?,
+    }))
+}
+
+/// Returns the position of an offset of a text, that of the text's start if no character begins there.
+fn position_of(alloc: Global, source: RcStr, offset: usize) -> Result<Position, AllocError>
+    ensures { IfOk result (HasPosition (rc_str_bytes source)) }
+{
+    let text_info = SourceTextInfo::new(alloc, source)?;
+    let boundary = boundary_at(text_info.text(), offset);
+    Ok(Position::from_source_pos(boundary, &text_info))
+}
+
+/// Returns an offset of a text, or zero if no character begins there.
+fn boundary_at(text: &str, offset: usize) -> usize
+    ensures { IsCharBoundary text.now result }
+{
+    if text.is_char_boundary(offset) {
+        offset
+    } else {
+        0
+    }
+}
