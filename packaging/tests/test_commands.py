@@ -1,0 +1,101 @@
+"""Compares the words that the program takes with docs/commands.json, and tests the completions of shells. The program is
+the one that MODINFO names, else that in build/."""
+
+import itertools
+import json
+import os
+import shutil
+import subprocess
+from concurrent.futures import ThreadPoolExecutor
+
+import pytest
+from installed import ROOT
+
+TABLE = json.loads((ROOT / "docs/commands.json").read_text())
+PROGRAM = os.environ.get("MODINFO", f"{ROOT}/build/modinfo")
+COMPLETIONS = ROOT / "packaging/completions"
+USAGE = (2, b"", b"modinfo: usage: modinfo analyze, modinfo convert or modinfo reach\n")
+NAMES = [each["name"] for each in TABLE["names"]]
+WORDS = [*NAMES[:-1], *(each["name"] for each in TABLE["flags"]), "--help", "other"]
+OFFERED = f"""source {COMPLETIONS}/module-info.bash
+COMP_CWORD=$(($# - 1)) COMP_WORDS=("$@")
+_module_info
+printf '%s\\n' "${{COMPREPLY[@]}}"
+"""
+
+
+def are_right(name: str, words: tuple[str, ...]) -> bool:
+    """Whether the table has the words after the name of a command."""
+    if words == ("--help",):
+        return True
+    given = set(words)
+    if len(given) != len(words):
+        return False
+    if name != "check":
+        return any([name, *sorted(given - {"--lines"})] == row["words"] for row in TABLE["commands"])
+    named = given - {"--lines", "--strict"}
+    return any(named in (set(row["words"]), set(row["words"]) - {"analyze"}) for row in TABLE["commands"])
+
+
+def run(*words: str | bytes) -> tuple[int, bytes, bytes]:
+    finished = subprocess.run([PROGRAM, *words], input=b"", capture_output=True, check=False)
+    return finished.returncode, finished.stdout, finished.stderr
+
+
+def is_wrong(words: tuple[str, ...]) -> bool:
+    outcome = run(*words)
+    return outcome[0] >= 2 if are_right(words[0], words[1:]) else outcome != USAGE
+
+
+@pytest.mark.parametrize("name", NAMES)
+def test_words_after_a_name(name: str) -> None:
+    """Each list of at most three words is refused with the usage exactly where the table doesn't have it."""
+    lists = [(name, *rest) for count in range(4) for rest in itertools.product(WORDS, repeat=count)]
+    with ThreadPoolExecutor(2) as pool:
+        assert [words for words, wrong in zip(lists, pool.map(is_wrong, lists)) if wrong] == []
+
+
+@pytest.mark.parametrize("words", [["-h"], *([name, "--help"] for name in NAMES)], ids=" ".join)
+def test_help(words: list[str]) -> None:
+    assert run(*words) == run("--help")
+    assert run("--help")[1]
+
+
+def test_version() -> None:
+    assert run("-V") == run("--version")
+    assert run("--version")[1]
+
+
+@pytest.mark.parametrize(
+    "words",
+    [
+        [],
+        *([word] for word in WORDS if word not in (*NAMES, "--help")),
+        [b"\xff"],
+        [b"analyze", b"\xff"],
+        [b"--lines", b"analyze"],
+        [b"--help", b"analyze"],
+    ],
+    ids=repr,
+)
+def test_wrong_words(words: list[str | bytes]) -> None:
+    assert run(*words) == USAGE
+
+
+@pytest.mark.parametrize(
+    "each", [{"name": None, "words": [*NAMES, "--version"]}, *TABLE["names"]], ids=lambda e: e["name"]
+)
+def test_what_bash_offers(each: dict[str, list[str]]) -> None:
+    words = ["module-info", *filter(None, [each["name"]]), ""]
+    offered = subprocess.run(["bash", "-c", OFFERED, "bash", *words], capture_output=True, text=True, check=True)
+    assert (sorted(offered.stdout.split()), offered.stderr) == (sorted([*each["words"], "--help"]), "")
+
+
+@pytest.mark.parametrize(
+    ("shell", "file", "option"), [("zsh", "_module-info", "-n"), ("fish", "module-info.fish", "--no-execute")]
+)
+def test_completions_that_a_shell_reads(shell: str, file: str, option: str) -> None:
+    if not shutil.which(shell):
+        pytest.skip(f"{shell} isn't on the path")
+    tried = subprocess.run([shell, option, COMPLETIONS / file], capture_output=True, text=True, check=True)
+    assert tried.stderr == ""
