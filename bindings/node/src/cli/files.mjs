@@ -29,35 +29,29 @@ const HELP = `usage: ${NAME} [--resolve] [OPTION ..] PATH ..
        ${NAME} --entry FILE .. [QUESTION] [OPTION ..] [PATH ..]
        ${NAME} QUESTION [OPTION ..] PATH ..
 
-Prints what each file depends on, as one line of JSON each:
-  {"specifier":URL,"info":MODULEINFO}
+Prints what each file depends on, as one line of JSON each: {"specifier":URL,"info":MODULEINFO} or
   {"specifier":URL,"fault":NAME,"message":TEXT,"line":N,"column":N}
 With --entry, prints the files that the entries reach by what runs, one a line. Example:
   ${NAME} --entry src/main.ts --unreached src
 
 Questions, one at a time:
-  --unreached        the files of PATH that no entry reaches, then as FILE: may be reached: REASON and
-                     FILE: reached by types alone: REASON those that may be in use; declaration files
-                     only with --types
+  --unreached        the files of PATH that no entry reaches, then those that something may reach or
+                     types alone do, each with why; declaration files only with --types
   --cycles           modules that lead to each other, a cycle a line
   --missing          specifiers that lead nowhere, as FILE:LINE:COLUMN: SPECIFIER: REASON
   --why FILE         a shortest chain of imports from an entry to it
   --dependents FILE  the files that lead to the file directly
-  --dot, --mermaid   the graph, for Graphviz or Mermaid
-  --json             the graph, or with a question its result, as JSON
+  --dot, --mermaid   the graph, for Graphviz or Mermaid; --json as JSON, and so any result
 
 Files, printed as paths from the current folder:
   PATH               a file, a folder, or - for paths from the standard input, one a line
 ${ENTRY_HELP}${LINE_HELP}  -0, --null         paths that are read and printed end with zero bytes
-${CACHE_HELP}
-Resolution:
-  --resolve          adds a member "resolved" to all that names a module
+${CACHE_HELP}  --resolve          adds "resolved" to all that names a module
 ${RESOLUTION_HELP}  -h, --help, --version
 
-Status 0; 1 for a finding, which is an unreached file, a cycle of what runs, a name that leads nowhere,
-no chain of imports, or a gap in what an entry reaches; 1 also if a file can't be read or parsed, with a
-line on the error output for each; 2 for a usage error, an entry that can't be read or parsed, or no file
-to read.
+Status 0; 1 for a finding (an unreached file, a cycle, a missing name, no chain, a gap in what is
+reached), or a file that can't be read or parsed; 2 for a usage error, an entry that can't be read,
+or no file. --entry, --exclude, --ignore and --conditions may be repeated.
 
 ${PROGRAM_HELP}`;
 

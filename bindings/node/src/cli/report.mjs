@@ -48,14 +48,13 @@ specifiers marked, and what is unresolved, unknown, unreached or in a cycle. Exa
 ${ENTRY_HELP}${LINE_HELP}  -0, --null         paths from the standard input end with zero bytes
 ${CACHE_HELP}${RESOLUTION_HELP}  -h, --help, --version
 
-Without --entry the page lists the modules that no other one names, in comments either. The graph is
-laid out in the browser by dagre, and the picture of sizes by d3-hierarchy, which are written into the
-page. Without one of them the page is made without what it draws, with status 1.
+Without --entry the page lists the modules that no other one names, in comments either. The graph
+is laid out in the browser by dagre, and the picture of sizes by d3-hierarchy, which are written into
+the page. Without one of them the page is made without what it draws, with status 1.
 
-Status 0; 1 if a file can't be read or parsed, with a line on the error output for each, an entry or
-what it leads to isn't known as a whole, or there is no graph, and the page is written all the same; 1
-also if it can't be written; 2 for a usage error, or an output that would overwrite another file than an
-earlier one.
+Status 0; 1 if a file can't be read or parsed, with a line on the error output for each, what is
+reached isn't known as a whole, or there is no graph, and the page is written all the same; 1 also if
+it can't be written; 2 for a usage error, or an output that would overwrite no earlier output.
 
 ${PROGRAM_HELP}`;
 

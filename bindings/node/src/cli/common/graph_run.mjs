@@ -42,19 +42,17 @@ export const GRAPH_OPTIONS = {
 
 /** What these options mean, for the help of a command. */
 export const ENTRY_HELP = `\
-  --entry FILE       a file with which the program begins; a folder with a package.json, whose
-                     "exports", "main", "module", "bin" and "browser" name some; or an HTML page with
-                     scripts. Reads what it leads to, outside of PATH too, but not installed packages
-                     (without --all). May be repeated
-  --exclude GLOB     doesn't list files and folders, as "*.test.ts" or "src/**/old", but follows them.
-                     May be repeated
-  --ignore GLOB      neither lists them nor follows them. May be repeated
+  --entry FILE       a file with which the program begins, a page with scripts, or a folder with a
+                     package.json. Reads what it leads to, but not installed packages (without --all)
+  --exclude GLOB     doesn't list files and folders, as "*.test.ts" or "src/**/old", but follows them
+  --ignore GLOB      neither lists them nor follows them
   --gitignore        doesn't list what git ignores
 `;
-export const RESOLUTION_HELP = `  --types            counts types, JSDoc and references too, and not only what runs
+export const RESOLUTION_HELP = `\
+  --types            counts types, JSDoc and references too, and not only what runs
   --no-dynamic       doesn't count import(..)
   --tsconfig FILE    for all files, in place of the nearest tsconfig.json
-  --conditions NAME  a condition of "exports" and "imports", as browser. May be repeated
+  --conditions NAME  a condition of "exports" and "imports", as browser
 `;
 export const CACHE_HELP = `  --cache FILE       keeps results in FILE, and parses only files that have changed
 `;
