@@ -9,6 +9,7 @@ import { basename, resolve as absolute } from "node:path";
 import { setFlagsFromString } from "node:v8";
 
 import { isReplaceable, placeOf, replaceFile } from "../files/replace_file.mjs";
+import { isReport } from "../files/report_pages.mjs";
 import { unledOf, unreachedOf } from "../graph/unreached.mjs";
 import { TYPESCRIPT_MEDIA_TYPES } from "../parsers/typescript/parse.mjs";
 import { indexOf, partsOf } from "../report/data.mjs";
@@ -17,7 +18,7 @@ import { readLibraries } from "../report/libraries.mjs";
 import { Links, edgesOf } from "../report/links.mjs";
 import { listsOf, shownCycles, shownUnreached } from "../report/lists.mjs";
 import { outsideOf } from "../report/outside.mjs";
-import { isPage, pageOf } from "../report/page.mjs";
+import { pageOf } from "../report/page.mjs";
 import { Project } from "../report/project.mjs";
 import { systemMessage } from "../runtime/faults.mjs";
 import { printable, printableLines } from "../runtime/printable.mjs";
@@ -110,7 +111,7 @@ function checkOutputs(output, dot) {
   if (dot !== undefined && placeOf(output) === placeOf(dot)) {
     throw new UsageFault(`--output and --dot name the same file: ${printable(dot)}`);
   }
-  if (!isReplaceable(output, isPage)) {
+  if (!isReplaceable(output, isReport)) {
     throw new UsageFault(`${printable(output)} is no page of ${NAME}, and would be overwritten`);
   }
   if (dot !== undefined && !isReplaceable(dot, isDot)) {

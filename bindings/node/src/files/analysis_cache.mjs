@@ -46,6 +46,8 @@ export class AnalysisCache {
   #lines;
   /** @type {Map<string, string>} */
   #added = new Map();
+  /** What was found and not taken yet, by paths. @type {Map<string, any>} */
+  #found = new Map();
 
   /**
    * @param {string} path of the cache, which need not be there
@@ -66,8 +68,22 @@ export class AnalysisCache {
     const key = absolute(path);
     const state = stateOf(key);
     const line = this.#lines.get(key);
-    const analysis = line && state ? analysisOf(line, state) : undefined;
+    const { analysis, value } = (line && state && analysisOf(line, state)) || {};
+    if (analysis) {
+      this.#found.set(path, value);
+    }
     return { state, ...(analysis && { analysis }) };
+  }
+
+  /**
+   * Returns the value of the JSON that `find` returned for a path, once.
+   * @param {string} path
+   * @returns {any} nothing where nothing was found
+   */
+  take(path) {
+    const value = this.#found.get(path);
+    this.#found.delete(path);
+    return value;
   }
 
   /**
@@ -134,16 +150,16 @@ function linesOf(path) {
 /**
  * @param {string} line
  * @param {State} state
- * @returns {Analysis | undefined}
+ * @returns {{ analysis: Analysis, value: any } | undefined} `value` is that of the JSON
  */
 function analysisOf(line, state) {
   const [, , size, changed, warnings = "", info = ""] = line.split("\t");
   if (size !== state.size || changed !== state.changed) {
     return undefined;
   }
-  const [known, found] = [jsonOf(warnings), jsonOf(info)];
-  const isWhole = Array.isArray(known) && typeof found === "object" && found !== null;
-  return isWhole ? { info, warnings: known } : undefined;
+  const [known, value] = [jsonOf(warnings), jsonOf(info)];
+  const isWhole = Array.isArray(known) && typeof value === "object" && value !== null;
+  return isWhole ? { analysis: { info, warnings: known }, value } : undefined;
 }
 
 /**

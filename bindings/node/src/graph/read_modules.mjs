@@ -36,7 +36,7 @@ export async function* readModules(files, { resolver, ...options }) {
     if (line === undefined) {
       yield result;
     } else {
-      const { info } = JSON.parse(String(line));
+      const info = options.cache?.take(result.path) ?? JSON.parse(String(line)).info;
       yield { ...result, ...moduleOf(absolute(result.path), info, resolver), notices: resolver.takeNotices() };
     }
   }

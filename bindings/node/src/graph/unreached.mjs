@@ -22,6 +22,7 @@ import { fileURLToPath, pathToFileURL } from "node:url";
 
 import { isPage } from "../files/find_files.mjs";
 import { readRegularFile } from "../files/regular_file.mjs";
+import { isReport } from "../files/report_pages.mjs";
 import { isDeclaration, javaScriptBeside } from "./file_kinds.mjs";
 import { looseCalls, looseImports } from "./loose_references.mjs";
 import { Candidates } from "./name_patterns.mjs";
@@ -324,7 +325,9 @@ function kindOfText(key, fault) {
  */
 function textOf(key) {
   try {
-    return String(readRegularFile(fileURLToPath(key)));
+    const text = String(readRegularFile(fileURLToPath(key)));
+    // The scripts of an earlier report are no part of the project.
+    return isReport(text) ? undefined : text;
   } catch {
     return undefined;
   }

@@ -58,15 +58,6 @@ ${[...parts].map((part, at) => partElement(part, at)).join("\n")}
 }
 
 /**
- * Whether a text begins as a page does.
- * @param {string} text
- * @returns {boolean}
- */
-export function isPage(text) {
-  return /^<!DOCTYPE html>\n<html lang="en">\n[^]{0,1000}<title>Dependencies of /.test(text);
-}
-
-/**
  * Joins modules to one script.
  * @param {string[]} names
  * @returns {string}
