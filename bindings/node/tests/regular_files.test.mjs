@@ -175,6 +175,18 @@ test("the real paths of links are the system's", () => {
   }
 });
 
+test("a long chain of links leads to nothing, and its end to what it leads to", () => {
+  const folder = folderOf({ "a.js": "" });
+  for (let at = 0; at < 5000; at++) {
+    symlinkSync(at === 0 ? "a.js" : `n${at - 1}`, join(folder, `n${at}`));
+  }
+  const files = new RegularFiles();
+  const kindOf = (/** @type {number} */ at) => files.at(join(folder, `n${at}`)).kind;
+  assert.deepEqual([4999, 60, 41, 40, 39, 20, 0, 40, 4998].map(kindOf), [
+    "none", "none", "none", "none", "file", "file", "file", "none", "none",
+  ]);
+});
+
 test("a file that is replaced by a link is not followed", () => {
   const folder = folderOf({ "package.json": `{"name":"a"}`, "other.json": `{"name":"b"}` });
   const path = join(folder, "package.json");

@@ -250,6 +250,8 @@ test("what is wrong with a tsconfig.json is a notice, and the rest of it counts"
     [`{"references":5,"compilerOptions":{"paths":{"@/*":["./*"]}}}`, `"references" has more than objects with a "path"`],
     [`{"extends":"./tsconfig.json","compilerOptions":{"paths":{"@/*":["./*"]}}}`,
       `"extends" has "./tsconfig.json", which isn't there, or extends this one`],
+    [`{"extends":[${"[".repeat(100_000)}${"]".repeat(100_000)}],"compilerOptions":{"paths":{"@/*":["./*"]}}}`,
+      `"extends" has what is no text, which isn't there, or extends this one`],
     [`{"extends":"none","compilerOptions":{"paths":{"@/*":["./*"]}}}`, `"extends" has "none", which isn't there, or extends this one`],
     [`{"include":5,"files":{},"exclude":[5],"compilerOptions":{"paths":{"@/*":["./*"],"__proto__":["./x"]}}}`, undefined],
   ];

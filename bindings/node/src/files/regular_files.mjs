@@ -51,6 +51,9 @@ export class RegularFiles {
   /** @type {Set<string>} */
   #roots = new Set();
   #hasAll = false;
+  /** How many links are being followed, each on the way of the one before, and whether these are too many. */
+  #following = 0;
+  #isTooFar = false;
   /** Folders above a root: their own package.json and configurations count. @type {Set<string>} */
   #above = new Set();
 
@@ -192,6 +195,12 @@ export class RegularFiles {
     this.#entries.set(path, NONE);
     const real = (parent.path === "/" ? "" : parent.path) + path.slice(path.lastIndexOf("/"));
     const entry = real === path ? this.#lookHere(path) : behind(parent.links, this.at(real));
+    if (this.#isTooFar && this.#following > 0) {
+      // It may be there for another path, with fewer links before it.
+      this.#entries.delete(path);
+      return NONE;
+    }
+    this.#isTooFar = false;
     this.#entries.set(path, entry);
     return entry;
   }
@@ -205,7 +214,19 @@ export class RegularFiles {
     if (!status) {
       return NONE;
     }
-    return status.isSymbolicLink() ? this.#follow(path) : { kind: kindOf(status), path, links: 0 };
+    if (!status.isSymbolicLink()) {
+      return { kind: kindOf(status), path, links: 0 };
+    }
+    if (this.#following === MAX_LINKS) {
+      this.#isTooFar = true;
+      return NONE;
+    }
+    this.#following++;
+    try {
+      return this.#follow(path);
+    } finally {
+      this.#following--;
+    }
   }
 
   /**

@@ -169,7 +169,8 @@ export class Configurations {
     for (const name of [members.extends ?? []].flat()) {
       const other = this.#extendedPath(name, path);
       if (other === undefined || paths.includes(other) || paths.length > MAX_EXTENDED) {
-        this.#note(path, `"extends" has ${JSON.stringify(name)}, which isn't there, or extends this one`);
+        const shown = typeof name === "string" ? JSON.stringify(name) : "what is no text";
+        this.#note(path, `"extends" has ${shown}, which isn't there, or extends this one`);
       } else {
         const { options, members: inherited } = this.#extended(other, paths);
         Object.assign(all.options, options);
