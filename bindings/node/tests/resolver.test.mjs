@@ -131,7 +131,7 @@ test("the classes of what is no module of the project", () => {
   ];
   const expected = [
     "builtin", "builtin", "builtin", "missing", "package.json", "asset style.css", "bin/run", "missing",
-    "missing", "url", "npm", "package only types node_modules/@types/only/index.d.ts", "missing", "jsr", "data",
+    "missing", "url", "npm", "package only types node_modules/@types/only/index.d.ts by bundler", "missing", "jsr", "data",
   ];
   assert.deepEqual(resolved(folder, "a.js", names.map(required), { script: true }), expected);
   assert.deepEqual(resolved(folder, "a.js", names.map((name) => imported(name))), expected);
@@ -218,7 +218,7 @@ test("what comments name", () => {
     found.selfTypesSpecifier, ...found.jsdocImports,
   ];
   assert.deepEqual(named.map((each) => brief(folder, each.resolved)), [
-    "t.d.ts", "t.d.ts", "missing", "package n types node_modules/@types/n/index.d.ts",
+    "t.d.ts", "t.d.ts", "missing", "package n types node_modules/@types/n/index.d.ts by bundler",
     "package jsx node_modules/jsx/r.js", "t.d.ts", "c.ts", "c.ts by bundler",
   ]);
 });
