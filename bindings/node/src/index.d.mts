@@ -140,6 +140,12 @@ export interface ResolverOptions {
   tsconfig?: string | URL;
   /** Conditions of `exports` and `imports`, besides node's own. */
   conditions?: string[];
+  /**
+   * Paths or URLs of the project's folders: what is in none of them, in no `node_modules` above one and in
+   * no folder of NODE_PATH is `outside`. Else the module's repository, else the uppermost folder with a
+   * package.json or a configuration.
+   */
+  root?: string | URL | (string | URL)[];
 }
 
 export interface ResolveOptions extends CallOptions, ResolverOptions {

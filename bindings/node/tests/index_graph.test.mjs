@@ -125,6 +125,8 @@ test("the specifiers of a ModuleInfo are resolved in a copy", async () => {
   assert.deepEqual(await classes(), [inPackage("d.js"), file]);
   assert.deepEqual(await classes({ conditions: ["special"] }), [inPackage("s.js"), file]);
   assert.equal(info.dependencies?.some((each) => "resolved" in each), false);
+  const outside = { class: "outside", target: file.file };
+  assert.deepEqual((await classes({ root: [join(folder, "node_modules")] }))?.[1], outside);
   const text = await modinfo.resolve(info, { specifier: specifier.href, types: false });
   assert.deepEqual(text.dependencies?.[1].resolved, file);
 });

@@ -20,7 +20,8 @@
 
 /** @type {Record<string, keyof Classes>} */
 const CLASSES = {
-  package: "packages", builtin: "builtins", asset: "assets", file: "files", url: "urls",
+  package: "packages", builtin: "builtins", asset: "assets", file: "files", outside: "files",
+  url: "urls", npm: "urls", jsr: "urls", data: "urls",
 };
 
 /**
