@@ -167,12 +167,16 @@ test("a deno.json: its import map, scopes, workspace, and files as ES modules", 
       "imports": { "@std/": "jsr:/@std/", "@std/path": "jsr:@std/path@1", "chalk": "npm:chalk@5", "~/": "./src/", "r": "https://x.test/r.ts",
         "./src/old.ts": "./src/new.ts", "node": "node:fs", "bad": 5, },
       "scopes": { "./scoped/": { "~/": "./scoped/own/" } },
-      "workspace": ["./member"],
+      "workspace": ["./member", "./broken", 5, "none"],
     }`,
+    "broken/deno.json": "[]",
     "member/deno.jsonc": `{"name":"@m/member","exports":{".":"./mod.ts","./sub":"./sub.ts"},"imports":{"own":"./mod.ts"}}`,
     "member/mod.ts": "", "member/sub.ts": "", "src/main.ts": "", "src/new.ts": "", "src/b.ts": "", "scoped/a.ts": "", "scoped/own/b.ts": "",
   });
-  const notices = [`deno.json: "bad" of "imports" is passed over: it is no text`];
+  const notices = [
+    `deno.json: "bad" of "imports" is passed over: it is no text`,
+    "broken/deno.json: passed over: it is no object",
+  ];
   const names = [
     "@std/fs", "@std/path", "@std/path/posix", "chalk", "~/b.ts", "r", "./old.ts", "node", "@m/member", "@m/member/sub", "./b.ts", "own", "bad",
   ];

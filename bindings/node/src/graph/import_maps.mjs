@@ -27,6 +27,8 @@ export class ImportMaps {
   #files;
   /** @type {Map<string, ImportMap | undefined>} */
   #byFolder = new Map();
+  /** @type {Map<string, Record<string, unknown>>} */
+  #members = new Map();
   /** @type {string[]} */
   #notices = [];
 
@@ -94,7 +96,7 @@ export class ImportMaps {
       const path = NAMES.map((name) => join(folder, name)).find((each) => this.#isThere(each));
       const parent = dirname(folder);
       const above = parent === folder ? undefined : this.#nearest(parent);
-      this.#byFolder.set(folder, path ? this.#withAbove(this.#read(path), above) : above);
+      this.#byFolder.set(folder, path ? this.#withAbove(this.#mapAt(path), above) : above);
     }
     return this.#byFolder.get(folder);
   }
@@ -123,7 +125,7 @@ export class ImportMaps {
    * @param {string} path of a deno.json
    * @returns {ImportMap}
    */
-  #read(path) {
+  #mapAt(path) {
     const members = this.#membersOf(path);
     const { importMap, workspace } = members;
     const isFile = typeof importMap === "string" && urlFrom(importMap) === undefined;
@@ -211,6 +213,19 @@ export class ImportMaps {
    * @returns {Record<string, unknown>} none where it can't be read
    */
   #membersOf(path) {
+    let members = this.#members.get(path);
+    if (!members) {
+      members = this.#read(path);
+      this.#members.set(path, members);
+    }
+    return members;
+  }
+
+  /**
+   * @param {string} path
+   * @returns {Record<string, unknown>}
+   */
+  #read(path) {
     try {
       return this.#objectOf(parseWithComments(this.#files.read(path)), `${path}: passed over`);
     } catch (/** @type {any} */ error) {
