@@ -1,4 +1,5 @@
-"""Compares the words that the program takes with docs/commands.json, and tests the completions of shells. The program is
+"""Compares the words that the program takes with docs/commands.json, and tests the completions of shells. The
+program is
 the one that MODINFO names, else that in build/."""
 
 import itertools

@@ -36,7 +36,7 @@ abbrev pub Walks : (List ℕ → Option Step) → List (Option ℕ) → List ℕ
 Walks step [] text end = text ≡ end
 Walks step (point ∷ points) text end =
     (after : List ℕ) × (step text ≡ Some (record { point = point; rest = after })) × Walks step points after
-        end
+    end
 
 pub Walks-from_Consists : (IsElement : List ℕ → List ℕ → Option ℕ → Type 0) (step : List ℕ → Option Step)
     → ((after text : List ℕ) (point : Option ℕ) → IsElement after text point

@@ -12,7 +12,7 @@ module _ (slice text value : List ℕ) (utf8 : IsUtf8 text) (plain : Spells slic
   pub spells-text : encode_utf8_all value ≡ text → Spells slice value
   spells-text same =
       subst (Spells slice) (sym (encodes_same value (chars text) (same ∙ sym (encodes-chars text utf8))))
-          plain
+      plain
 
   pub text_of-spells : Spells slice value → encode_utf8_all value ≡ text
   text_of-spells spelled =

@@ -1,10 +1,48 @@
 -- The step over each element of the definitions.
-use Rattle.std.proofs.Common.{◌≡◌, ℕ, ◌<◌, ◌≤◌, ◌⊎◌, ◌==◌, true, false, Option, Some, None, List, [], ◌∷◌,
-    ◌++◌, length, nat_eq, codes, refl, sym, ap, ◌∙◌, subst, inl, inr, ⊎_elim, arith, append_assoc,
-    length-append}
+use Rattle.std.proofs.Common.{
+  ◌≡◌,
+  ℕ,
+  ◌<◌,
+  ◌≤◌,
+  ◌⊎◌,
+  ◌==◌,
+  true,
+  false,
+  Option,
+  Some,
+  None,
+  List,
+  [],
+  ◌∷◌,
+  ◌++◌,
+  length,
+  nat_eq,
+  codes,
+  refl,
+  sym,
+  ap,
+  ◌∙◌,
+  subst,
+  inl,
+  inr,
+  ⊎_elim,
+  arith,
+  append_assoc,
+  length-append,
+}
 use Rattle.std.specs.Char.{digit_value, is_digit}
-use Rattle.std.proofs.lemmas.Bool.{or_parts, or_cases, eqb-true, eq-eqb, ne_eqb, ltb-false, le-ltb, lt-ltb,
-    le-leb, false≢true}
+use Rattle.std.proofs.lemmas.Bool.{
+  or_parts,
+  or_cases,
+  eqb-true,
+  eq-eqb,
+  ne_eqb,
+  ltb-false,
+  le-ltb,
+  lt-ltb,
+  le-leb,
+  false≢true,
+}
 use Rattle.modinfo_literals.specs.Escape.{
   AreDigits,
   begins_with,
@@ -17,8 +55,11 @@ use Rattle.modinfo_literals.specs.Escape.{
   IsStringEscape,
   IsTemplateEscape,
 }
-use Rattle.modinfo_literals.specs.Escape.IsLineEnd.{carriage_return_line_feed, carriage_return,
-    other_terminator}
+use Rattle.modinfo_literals.specs.Escape.IsLineEnd.{
+  carriage_return_line_feed,
+  carriage_return,
+  other_terminator,
+}
 use Rattle.modinfo_literals.specs.Escape.IsCommonEscape.{
   backspace,
   tab,
@@ -44,9 +85,21 @@ use Rattle.modinfo_literals.specs.Literal.IsTemplateElement.{
   escape as template_escape,
 }
 use Rattle.std.specs.List.{list_any}
-use Rattle.modinfo_literals.specs.internal.Step.{stands_for, stands_for_nothing, after_carriage_return,
-    hex_step, braced_step, unicode_step, octal_step, single_escape, common_step, string_escape_step,
-    template_escape_step, string_step, template_step}
+use Rattle.modinfo_literals.specs.internal.Step.{
+  stands_for,
+  stands_for_nothing,
+  after_carriage_return,
+  hex_step,
+  braced_step,
+  unicode_step,
+  octal_step,
+  single_escape,
+  common_step,
+  string_escape_step,
+  template_escape_step,
+  string_step,
+  template_step,
+}
 use Rattle.modinfo_literals.proofs.Digits.{digits_of-append, drop-append}
 
 -- digits
@@ -137,7 +190,7 @@ line_end-complete after _ (other_terminator c is other) =
     ⊎_elim (λ e. at 10 e refl refl)
     (λ more. ⊎_elim (λ e. absurd (false≢true (sym other ∙ eq-eqb c 13 e)))
     (λ last. ⊎_elim (λ e. at 0x2028 e refl refl) (λ e. at 0x2029 e refl refl) last) more) (line_terminators
-        c is)
+    c is)
 
 -- escapes
 special_parts : (c : ℕ) → is_special c ≡ false
@@ -168,16 +221,42 @@ common_step-itself c after plain =
 common-complete : (after text : List ℕ) (point : Option ℕ) → IsCommonEscape after text point
     → IsCommonStep (text ++ after) point after
 unfolding common_step single_escape
-common-complete after _ _ backspace = record { first = 98; rest = after; whole = refl; no_digit = refl;
-    is_step = refl }
-common-complete after _ _ tab = record { first = 116; rest = after; whole = refl; no_digit = refl; is_step =
-    refl }
-common-complete after _ _ line_feed = record { first = 110; rest = after; whole = refl; no_digit = refl;
-    is_step = refl }
-common-complete after _ _ vertical_tab = record { first = 118; rest = after; whole = refl; no_digit = refl;
-    is_step = refl }
-common-complete after _ _ form_feed = record { first = 102; rest = after; whole = refl; no_digit = refl;
-    is_step = refl }
+common-complete after _ _ backspace = record {
+  first = 98;
+  rest = after;
+  whole = refl;
+  no_digit = refl;
+  is_step = refl;
+}
+common-complete after _ _ tab = record {
+  first = 116;
+  rest = after;
+  whole = refl;
+  no_digit = refl;
+  is_step =
+      refl;
+}
+common-complete after _ _ line_feed = record {
+  first = 110;
+  rest = after;
+  whole = refl;
+  no_digit = refl;
+  is_step = refl;
+}
+common-complete after _ _ vertical_tab = record {
+  first = 118;
+  rest = after;
+  whole = refl;
+  no_digit = refl;
+  is_step = refl;
+}
+common-complete after _ _ form_feed = record {
+  first = 102;
+  rest = after;
+  whole = refl;
+  no_digit = refl;
+  is_step = refl;
+}
 common-complete after _ _ carriage_return_escape =
     record { first = 114; rest = after; whole = refl; no_digit = refl; is_step = refl }
 common-complete after _ _ (itself c plain) = record {
@@ -231,7 +310,7 @@ unfolding string_escape_step
 string_escape-complete after _ _ (common text point is) =
     let found = common-complete after text point is in
     ap string_escape_step found.whole ∙ (rw (digit_8_of_10 found.first found.no_digit, found.no_digit)
-        found.is_step)
+    found.is_step)
 string_escape-complete after _ _ (octal digits are some le end) = octal_step-append digits after are some le
     end
 string_escape-complete after _ _ (eight_or_nine c decimal not_octal) = rw (not_octal, decimal) refl

@@ -1,6 +1,35 @@
 -- The digits that a text begins with.
-use Rattle.std.proofs.Common.{◌≡◌, ℕ, ◌+◌, ◌*◌, ◌<◌, ◌≤◌, ◌⊎◌, true, false, List, [], ◌∷◌, ◌++◌, length,
-    drop, zero, suc, refl, sym, ap, ◌∙◌, inl, inr, ⊎_elim, arith, min, ◌-◌, append_assoc, length-append}
+use Rattle.std.proofs.Common.{
+  ◌≡◌,
+  ℕ,
+  ◌+◌,
+  ◌*◌,
+  ◌<◌,
+  ◌≤◌,
+  ◌⊎◌,
+  true,
+  false,
+  List,
+  [],
+  ◌∷◌,
+  ◌++◌,
+  length,
+  drop,
+  zero,
+  suc,
+  refl,
+  sym,
+  ap,
+  ◌∙◌,
+  inl,
+  inr,
+  ⊎_elim,
+  arith,
+  min,
+  ◌-◌,
+  append_assoc,
+  length-append,
+}
 use Rattle.std.proofs.Math.Nat.{mul-le-mul_left, min-eq_left, min-eq_right}
 use Rattle.std.proofs.lemmas.List.Sums.{fold-append}
 use Rattle.modinfo_literals.specs.internal.Read.{IsFirstDigit}
@@ -95,14 +124,14 @@ min_step n base d limit h =
 pub IsSoFar-more : (base most : ℕ) (text : List ℕ) (value count : ℕ) (rest : List ℕ) → 1 ≤ base
     → 0 < most - count → IsSoFar base most text value count rest → (digit : ℕ) (after : List ℕ)
     → IsFirstDigit base (most - count) rest digit after → (new : ℕ) → new ≡ min (value * base + digit)
-        0x11_0000
+    0x11_0000
     → IsSoFar base most text new (count + 1) after
 IsSoFar-more base most text value count rest h more so_far digit after first new is =
     let d = first.digit in
     let left : most - count ≡ suc (most - (count + 1)) = omega arith in
     let next : digits_of base (most - count) rest ≡ d ∷ digits_of base (most - (count + 1)) after =
     (λ i. digits_of base (left i) (first.whole i)) ∙ digits_of-first base (most - (count + 1)) d after
-        first.is_digit_of in
+    first.is_digit_of in
     record {
       done = so_far.done ++ d ∷ [];
       digits = so_far.digits ∙ ap (λ l. so_far.done ++ l) next

@@ -1,6 +1,35 @@
 -- A string literal without escapes spells the text between its quotes.
-use Rattle.std.proofs.Common.{◌≡◌, ℕ, ◌+◌, ◌-◌, ◌/◌, ◌%◌, ◌<◌, ◌≤◌, ◌⊎◌, true, false, Bool, Some, List, [],
-    ◌∷◌, ◌++◌, map, encode_utf8, encode_utf8_all, suc, zero, refl, sym, ap, ◌∙◌, subst, ⊎_elim, arith}
+use Rattle.std.proofs.Common.{
+  ◌≡◌,
+  ℕ,
+  ◌+◌,
+  ◌-◌,
+  ◌/◌,
+  ◌%◌,
+  ◌<◌,
+  ◌≤◌,
+  ◌⊎◌,
+  true,
+  false,
+  Bool,
+  Some,
+  List,
+  [],
+  ◌∷◌,
+  ◌++◌,
+  map,
+  encode_utf8,
+  encode_utf8_all,
+  suc,
+  zero,
+  refl,
+  sym,
+  ap,
+  ◌∙◌,
+  subst,
+  ⊎_elim,
+  arith,
+}
 use Rattle.std.specs.Char.{IsScalar}
 use Rattle.std.specs.Char.Utf16.{is_high_surrogate, is_low_surrogate, surrogate_pair_char}
 use Rattle.std.specs.Char.Escape.{encode_utf16}

@@ -99,7 +99,7 @@ IsSoFar-more form text end units step new so_far e adds = record {
       (step_found form end step e);
   are = adds ∙ ap (λ l. l ++ units_of step.point) so_far.are
       ∙ sym (flat_map-append units_of so_far.points (step.point ∷ []) ∙ ap (λ l. flat_map units_of
-          so_far.points ++ l)
+      so_far.points ++ l)
       (append-nil (units_of step.point)));
 }
 

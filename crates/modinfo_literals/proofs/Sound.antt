@@ -1,15 +1,70 @@
 -- What a step over an element finds is an element of the definitions.
-use Rattle.std.proofs.Common.{◌≡◌, ℕ, ◌<◌, ◌≤◌, ◌==◌, ◌&&◌, not, Bool, true, false, Option, Some, None,
-    List, [], ◌∷◌, ◌++◌, length, drop, nat_lt, nat_le, nat_eq, codes, cond, suc, refl, sym, ap, ◌∙◌, subst,
-    inl, inr, ⊎_elim, arith, append_assoc, unwrap_or}
+use Rattle.std.proofs.Common.{
+  ◌≡◌,
+  ℕ,
+  ◌<◌,
+  ◌≤◌,
+  ◌==◌,
+  ◌&&◌,
+  not,
+  Bool,
+  true,
+  false,
+  Option,
+  Some,
+  None,
+  List,
+  [],
+  ◌∷◌,
+  ◌++◌,
+  length,
+  drop,
+  nat_lt,
+  nat_le,
+  nat_eq,
+  codes,
+  cond,
+  suc,
+  refl,
+  sym,
+  ap,
+  ◌∙◌,
+  subst,
+  inl,
+  inr,
+  ⊎_elim,
+  arith,
+  append_assoc,
+  unwrap_or,
+}
 use Rattle.std.specs.Char.{is_digit}
 use Rattle.std.specs.List.{list_any}
-use Rattle.std.proofs.lemmas.Bool.{or_from, and_parts, cases_Bool, cond-true, cond-false, eqb-true,
-    ltb-true, leb-true, not-true}
-use Rattle.modinfo_literals.specs.Escape.{AreDigits, begins_with, number, is_line_terminator, is_special,
-    IsCommonEscape, IsStringEscape, IsTemplateEscape}
-use Rattle.modinfo_literals.specs.Escape.IsLineEnd.{carriage_return_line_feed, carriage_return,
-    other_terminator}
+use Rattle.std.proofs.lemmas.Bool.{
+  or_from,
+  and_parts,
+  cases_Bool,
+  cond-true,
+  cond-false,
+  eqb-true,
+  ltb-true,
+  leb-true,
+  not-true,
+}
+use Rattle.modinfo_literals.specs.Escape.{
+  AreDigits,
+  begins_with,
+  number,
+  is_line_terminator,
+  is_special,
+  IsCommonEscape,
+  IsStringEscape,
+  IsTemplateEscape,
+}
+use Rattle.modinfo_literals.specs.Escape.IsLineEnd.{
+  carriage_return_line_feed,
+  carriage_return,
+  other_terminator,
+}
 use Rattle.modinfo_literals.specs.Escape.IsCommonEscape.{
   backspace,
   tab,
@@ -34,11 +89,28 @@ use Rattle.modinfo_literals.specs.Literal.IsTemplateElement.{
   carriage_return as carriage_return_element,
   escape as template_escape,
 }
-use Rattle.modinfo_literals.specs.internal.Step.{Step, after_carriage_return, digits_of, hex_step,
-    close_brace, braced_step, unicode_step, octal_step, single_escape, common_step, string_escape_step,
-    template_escape_step, string_step, template_step}
-use Rattle.modinfo_literals.proofs.Digits.{AreDigits-digits_of, digits_of-drop, digits_of-end,
-    length-digits_of}
+use Rattle.modinfo_literals.specs.internal.Step.{
+  Step,
+  after_carriage_return,
+  digits_of,
+  hex_step,
+  close_brace,
+  braced_step,
+  unicode_step,
+  octal_step,
+  single_escape,
+  common_step,
+  string_escape_step,
+  template_escape_step,
+  string_step,
+  template_step,
+}
+use Rattle.modinfo_literals.proofs.Digits.{
+  AreDigits-digits_of,
+  digits_of-drop,
+  digits_of-end,
+  length-digits_of,
+}
 
 -- the text begins with an element, which the step is over
 abbrev pub Found : (List ℕ → List ℕ → Option ℕ → Type 0) → List ℕ → Step → Type 0
@@ -173,7 +245,7 @@ single_escape-found : (c : ℕ) (rest : List ℕ) → is_digit c 10 ≡ false �
 unfolding single_escape
 single_escape-found c rest no_digit no_end x u =
     let at = λ (d : ℕ) (same : nat_eq c d ≡ true) (is : IsCommonEscape rest (d ∷ []) (Some (single_escape
-        d))).
+    d))).
     subst (λ n. IsCommonEscape rest (n ∷ []) (Some (single_escape n))) (sym (eqb-true c d same)) is in
     by_cases (nat_eq c 98) (λ e. at 98 e backspace) (λ b.
     by_cases (nat_eq c 116) (λ e. at 116 e tab) (λ t.
@@ -230,12 +302,18 @@ octal_made most c rest =
 
 octal_made-first : (c : ℕ) (rest : List ℕ) (n : ℕ) → is_digit c 8 ≡ true
     → octal_made (suc n) c rest
-    ≡ record { point = Some (number 8 (c ∷ digits_of 8 n rest)); rest = drop (length (digits_of 8 n rest))
-        rest }
+    ≡ record {
+      point = Some (number 8 (c ∷ digits_of 8 n rest));
+      rest = drop (length (digits_of 8 n rest))
+          rest;
+    }
 unfolding octal_made
 octal_made-first c rest n is =
-    ap (λ (ds : List ℕ). let made : Step = record { point = Some (number 8 ds); rest = drop (length ds) (c ∷
-        rest) }
+    ap (λ (ds : List ℕ). let made : Step = record {
+      point = Some (number 8 ds);
+      rest = drop (length ds) (c ∷
+          rest);
+    }
     in made) (digits_of-first c rest n is)
 
 octal_step-sound : (c : ℕ) (rest : List ℕ) (step : Step) → is_digit c 8 ≡ true → octal_step c rest ≡ Some step

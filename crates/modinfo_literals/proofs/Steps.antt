@@ -1,12 +1,58 @@
 -- The steps over digits, by what the program reads.
-use Rattle.std.proofs.Common.{◌≡◌, ℕ, ◌+◌, ◌*◌, ◌<◌, ◌≤◌, ◌&&◌, ◌||◌, ◌==◌, true, false, Option, None, List,
-    [], ◌∷◌, length, drop, min, nat_lt, nat_le, cond, not, suc, zero, refl, sym, ap, ◌∙◌, arith}
+use Rattle.std.proofs.Common.{
+  ◌≡◌,
+  ℕ,
+  ◌+◌,
+  ◌*◌,
+  ◌<◌,
+  ◌≤◌,
+  ◌&&◌,
+  ◌||◌,
+  ◌==◌,
+  true,
+  false,
+  Option,
+  None,
+  List,
+  [],
+  ◌∷◌,
+  length,
+  drop,
+  min,
+  nat_lt,
+  nat_le,
+  cond,
+  not,
+  suc,
+  zero,
+  refl,
+  sym,
+  ap,
+  ◌∙◌,
+  arith,
+}
 use Rattle.std.specs.Char.{digit_value, is_digit}
 use Rattle.std.specs.Str.{chars, IsUtf8}
 use Rattle.std.proofs.lemmas.Str.{length-le-encodes, encodes-chars}
 use Rattle.std.proofs.Math.Nat.{min-eq_left}
-use Rattle.std.proofs.lemmas.Bool.{ltb-true, eq-eqb, ne_eqb, or_left, or_right, or_from, and_left,
-    and_right, and_from, cond_both, cond-true, cond-false, lt-ltb, le-leb, le-ltb, lt-leb}
+use Rattle.std.proofs.lemmas.Bool.{
+  ltb-true,
+  eq-eqb,
+  ne_eqb,
+  or_left,
+  or_right,
+  or_from,
+  and_left,
+  and_right,
+  and_from,
+  cond_both,
+  cond-true,
+  cond-false,
+  lt-ltb,
+  le-leb,
+  le-ltb,
+  lt-leb,
+}
 use Rattle.modinfo_literals.specs.Escape.{AreDigits, begins_with, is_line_terminator, number}
 use Rattle.modinfo_literals.specs.internal.Step.{
   Step,
@@ -36,8 +82,11 @@ hex_below a b c d la lb lc ld = omega arith
 number_16-below : (digits : List ℕ) → AreDigits 16 digits → length digits ≤ 4 → number 16 digits < 0x11_0000
 number_16-below [] are le = omega arith
 number_16-below (a ∷ []) are le =
-    omega (arith, hex_below 0 0 0 (digit_value a) (omega arith) (omega arith) (omega arith) (ltb-true _ _
-        are.0))
+    omega (
+      arith,
+      hex_below 0 0 0 (digit_value a) (omega arith) (omega arith) (omega arith) (ltb-true _ _
+          are.0),
+    )
 number_16-below (a ∷ b ∷ []) are le =
     omega (
       arith,
@@ -114,7 +163,7 @@ digits_of-all base (suc most) zero (c ∷ text) le more = absurd (omega arith)
 digits_of-all base (suc most) (suc limit) [] le more = refl
 digits_of-all base (suc most) (suc limit) (c ∷ text) le more =
     ap (λ ds. cond (is_digit c base) (c ∷ ds) []) (digits_of-all base most limit text (omega arith) (omega
-        arith))
+    arith))
 
 braced_step-at : (text ds : List ℕ) → digits_of 16 (length text) text ≡ ds
     → braced_step text
@@ -136,7 +185,7 @@ module _ (most : ℕ) (text : List ℕ) (long : length text ≤ most) (value cou
     (rest_is : rest ≡ drop (length (digits_of 16 most text)) text) where
   whole : braced_step text
       ≡ cond (nat_lt 0 (length (digits_of 16 most text)) && nat_le (number 16 (digits_of 16 most text))
-          0x10_FFFF)
+      0x10_FFFF)
       (close_brace (number 16 (digits_of 16 most text)) (drop (length (digits_of 16 most text)) text)) None
   whole = braced_step-at text (digits_of 16 most text) (digits_of-all 16 (length text) most text (omega
       arith) long)
@@ -160,7 +209,7 @@ module _ (most : ℕ) (text : List ℕ) (long : length text ≤ most) (value cou
     closes =
         whole ∙ cond-true _ _ None (and_from _ _ (lt-ltb 0 (length (digits_of 16 most text))
         (omega (arith, count_is, some))) (le-leb (number 16 (digits_of 16 most text)) 0x10_FFFF (omega
-            (arith, below))))
+        (arith, below))))
 
     pub braced_step-open : begins_with (λ c. c == 125) rest ≡ false
         → (let none : Option Step = None in none) ≡ braced_step text
@@ -227,7 +276,7 @@ module _ (c : ℕ) (rest : List ℕ) where
     unfolding common_step
     other_step =
         cond-false _ _ _ (ne_eqb c 120 x) ∙ cond-false _ _ _ (ne_eqb c 117 u) ∙ cond-false _ _ _ (ne_eqb c
-            13 r)
+        13 r)
 
     pub common_step-line : is_line_terminator c ≡ true → common_step c rest ≡ stands_for_nothing rest
     common_step-line line = other_step ∙ cond-true _ _ _ line

@@ -55,4 +55,4 @@ module _ (slice inside end units : List ℕ) (quote : ℕ) (is_quote : (quote �
       (string_walks quote s.points s.inside _ closes) in
       more (Walks-unique (string_step quote) read.points s.points inside end (quote ∷ [])
       (string_walks quote read.points _ _ read.consists) walk read.no_more (string_step-quote quote []
-          is_quote)).1
+      is_quote)).1

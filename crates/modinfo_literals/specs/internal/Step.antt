@@ -68,7 +68,7 @@ unfoldable pub string_escape_step : List ℕ → Option Step
 string_escape_step [] = None
 string_escape_step (c ∷ rest) =
     if is_digit c 8 then octal_step c rest else if is_digit c 10 then stands_for c rest else common_step c
-        rest
+    rest
 
 unfoldable pub template_escape_step : List ℕ → Option Step
 template_escape_step [] = None

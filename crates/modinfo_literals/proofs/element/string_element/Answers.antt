@@ -43,5 +43,5 @@ pub returns-clause-step : goal.returns-clause-step
 returns-clause-step c =
     ap (λ point. stands_for point (chars c.in_ok-first.rest.now)) c.from.ensures
     ∙ sym (string_step-character _ _ _ c.in_ok-first.ensures.cases _ c.if-first-eq92.false
-        c.if-first-quote.false
+    c.if-first-quote.false
     c.if-first-eq10.false c.if-first-eq13.false)

@@ -6,4 +6,4 @@ pub returns : goal.returns
 returns c =
     let opens = c.in-Some.ensures in
     Spells-none c.args.slice.now _ _ _ c.in-Some.quote opens.0 opens.1 c.in_ok-read.ensures
-        c.if-is_alone.ensures
+    c.if-is_alone.ensures

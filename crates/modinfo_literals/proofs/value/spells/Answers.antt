@@ -17,7 +17,7 @@ returns-in-Some-as_str c =
     let utf8 : IsUtf8 text = search rules in
     let encoded = c.in-Some-as_str.ensures.text in
     let decides = slice_eq-Decides Decides-eqb c.in-Some-as_str.characters.now text c.eq.result c.eq.ensures
-        in (
+    in (
       λ t. spells-text slice text c.args.value.now utf8 c.in-Some.ensures (sym encoded ∙ decides.0 t),
       λ s. decides.1 (encoded ∙ text_of-spells slice text c.args.value.now utf8 c.in-Some.ensures s),
     )
@@ -35,7 +35,7 @@ returns-in-Some-2 c =
     let spelled = c.in-Some-2.spelled in
     let spells = rw c.in-Some-2.is at c.in_ok-spelled.ensures in
     let decides = slice_eq-Decides Decides-eqb spelled c.args.value.now c.eq-in-Some-2.result
-        c.eq-in-Some-2.ensures in (
+    c.eq-in-Some-2.ensures in (
       λ t. subst (Spells c.args.slice.now) (decides.0 t) spells,
       λ s. decides.1 (Spells-unique c.args.slice.now spelled c.args.value.now spells s),
     )
