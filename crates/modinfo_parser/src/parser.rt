@@ -7,6 +7,9 @@ use modinfo_lexer::syntax_error::ReadError;
 use modinfo_lexer::token::{Token, TokenKind};
 use std::alloc::Global;
 
+/// The message of the error of a text that nests too deep.
+const TOO_DEEP: &str = "the text nests too deep";
+
 /// The result of a function of the grammar.
 pub(crate) type Parsed<T> = Result<T, ReadError>;
 
@@ -245,7 +248,7 @@ impl<'a> Parser<'a> {
     /// Returns the error of a text that nests too deep.
     #[cold]
     pub(crate) fn too_deep(&self) -> ReadError {
-        ReadError::syntax("the text nests too deep", self.start())
+        ReadError::syntax(TOO_DEEP, self.start())
     }
 
     /// Adds a node around the nodes from the index `first` on, from an offset to the end of the last
@@ -295,22 +298,26 @@ impl<'a> Parser<'a> {
     }
 
     /// Ends a try that began in a state. If it returned false or a syntax error, goes back to that
-    /// state and keeps that the try fails there. Returns whether it succeeded.
+    /// state and keeps that the try fails there. Returns whether it succeeded. A text that nests too deep
+    /// isn't tried another way.
     pub(crate) fn end_try(&mut self, state: State, tried: Parsed<bool>) -> Parsed<bool> {
         match tried {
             Ok(true) => Ok(true),
+            Err(ReadError::OutOfMemory) => Err(ReadError::OutOfMemory),
+            Err(ReadError::Syntax(error)) if error.message == TOO_DEEP => {
+                Err(ReadError::Syntax(error))
+            }
             Ok(false) | Err(ReadError::Syntax(_)) => {
                 self.reset(state);
-                self.keep_failed()?;
+                let at = self.start();
+                self.keep_failed(at)?;
                 Ok(false)
             }
-            Err(ReadError::OutOfMemory) => Err(ReadError::OutOfMemory),
         }
     }
 
-    /// Keeps that a try at the current token has failed.
-    fn keep_failed(&mut self) -> Parsed<()> {
-        let at = self.start();
+    /// Keeps that a try at the token at an offset has failed.
+    pub(crate) fn keep_failed(&mut self, at: usize) -> Parsed<()> {
         match self.failed.binary_search(&at) {
             Ok(_) => Ok(()),
             Err(index) => Ok(self.failed.insert(index, at)?),

@@ -60,7 +60,10 @@ fn word_at(text: &str, at: usize) -> Token {
     let bytes = text.as_bytes();
     let end = word_end(bytes, at);
     if byte_at(bytes, end) >= 128 || byte_at(bytes, end) == b'\\' {
-        return name_at(text, at);
+        let name = name_at(text, at);
+        if name.end > end {
+            return name;
+        }
     }
     let kind = match bytes.get(at..end) {
         Some(word) if word.len() <= 10 => kind_of_word(word),

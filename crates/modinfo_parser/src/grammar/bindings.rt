@@ -57,7 +57,9 @@ impl<'a> Parser<'a> {
         }
         self.binding(depth - 1)?;
         if self.language.is_typescript {
-            self.eat(TokenKind::Bang)?;
+            if self.at_on_line(TokenKind::Bang) {
+                self.next()?;
+            }
             self.type_annotation(depth - 1)?;
         }
         if self.eat(TokenKind::Equal)? {

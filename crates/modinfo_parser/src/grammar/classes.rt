@@ -131,7 +131,7 @@ impl<'a> Parser<'a> {
                     {
                         self.next()?;
                     }
-                TokenKind::Less if self.language.is_typescript => {
+                TokenKind::Less | TokenKind::ShiftLeft if self.language.is_typescript => {
                     let types = self.nodes.len();
                     self.type_arguments(depth - 1)?;
                     self.arguments_before(depth - 1, types)?;

@@ -39,7 +39,9 @@ impl<'a> Parser<'a> {
             return Err(self.too_deep());
         }
         let name = self.jsx_name()?;
-        if self.language.is_typescript && self.at(TokenKind::Less) {
+        if self.language.is_typescript
+            && matches!(self.kind(), TokenKind::Less | TokenKind::ShiftLeft)
+        {
             self.type_arguments(depth - 1)?;
         }
         for _turn in 0..self.turns {

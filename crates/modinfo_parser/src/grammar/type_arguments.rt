@@ -1,6 +1,7 @@
 //! Type arguments and type parameters.
 
 use crate::parser::{Parsed, Parser};
+use modinfo_lexer::syntax_error::ReadError;
 use modinfo_lexer::token::TokenKind;
 
 impl<'a> Parser<'a> {
@@ -10,9 +11,23 @@ impl<'a> Parser<'a> {
         self.expect(TokenKind::Greater, "expected `>` after the types")
     }
 
-    /// `<`, types with commas between them, and `>`.
+    /// `<`, types with commas between them, and `>`. If that isn't there, no try at the `<` will succeed.
     #[cycle(grammar)]
     pub(crate) fn type_arguments(&mut self, depth: usize) -> Parsed<()> {
+        if depth == 0 {
+            return Err(self.too_deep());
+        }
+        let start = self.start();
+        let result = self.angle_brackets(depth - 1);
+        if let Err(ReadError::Syntax(_)) = result {
+            self.keep_failed(start)?;
+        }
+        result
+    }
+
+    /// `<`, types with commas between them, and `>`.
+    #[cycle(grammar)]
+    fn angle_brackets(&mut self, depth: usize) -> Parsed<()> {
         if depth == 0 {
             return Err(self.too_deep());
         }

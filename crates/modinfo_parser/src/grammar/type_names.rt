@@ -25,8 +25,7 @@ impl<'a> Parser<'a> {
             | TokenKind::True
             | TokenKind::False
             | TokenKind::Null
-            | TokenKind::Void
-            | TokenKind::This => self.next(),
+            | TokenKind::Void => self.next(),
             TokenKind::Minus => {
                 self.next()?;
                 self.expect(TokenKind::Number, "expected a number after `-` in the type")
@@ -34,7 +33,7 @@ impl<'a> Parser<'a> {
             TokenKind::TemplateHead => self.template_type(depth - 1),
             TokenKind::Typeof => self.typeof_type(depth - 1),
             TokenKind::Import => self.import_type(depth - 1),
-            kind if kind.is_identifier() => {
+            kind if kind.is_identifier() || kind == TokenKind::This => {
                 self.entity_name()?;
                 self.type_arguments_on_line(depth - 1)
             }

@@ -65,7 +65,7 @@ impl<'a> Parser<'a> {
             return Err(self.too_deep());
         }
         for _turn in 0..self.turns {
-            if self.is_function_type(depth - 1)? {
+            if self.is_function_type()? {
                 return self.function_type(depth - 1);
             }
             self.union_type(depth - 1)?;
@@ -95,14 +95,14 @@ impl<'a> Parser<'a> {
     }
 
     /// Returns whether the type at the current token is that of a function or a constructor.
-    fn is_function_type(&mut self, depth: usize) -> Parsed<bool> {
+    fn is_function_type(&mut self) -> Parsed<bool> {
         match self.kind() {
             TokenKind::New => Ok(true),
             TokenKind::Less => Ok(true),
             TokenKind::Abstract => Ok(self.peek()?.kind == TokenKind::New),
             TokenKind::ParenOpen => {
                 let state = self.state();
-                let result = self.skip_start_of_parameters(depth);
+                let result = self.skip_start_of_parameters();
                 self.reset(state);
                 result
             }
@@ -112,14 +112,14 @@ impl<'a> Parser<'a> {
 
     /// Skips `(` and what may be the first parameter. Returns whether parameters are there, and no type
     /// in parentheses.
-    fn skip_start_of_parameters(&mut self, depth: usize) -> Parsed<bool> {
+    fn skip_start_of_parameters(&mut self) -> Parsed<bool> {
         self.next()?;
         match self.kind() {
             TokenKind::ParenClose | TokenKind::DotDotDot => return Ok(true),
             TokenKind::BraceOpen | TokenKind::BracketOpen => {
-                self.next()?;
-                self.skip_inside(depth)?;
-                self.next()?;
+                if !self.skip_pattern()? {
+                    return Ok(self.at(TokenKind::Equal));
+                }
             }
             TokenKind::This => self.next()?,
             kind if kind.is_identifier() => self.next()?,
@@ -137,53 +137,29 @@ impl<'a> Parser<'a> {
         }
     }
 
-    /// Skips what is in brackets of any kind, up to their end.
-    #[cycle(skip)]
-    fn skip_inside(&mut self, depth: usize) -> Parsed<()> {
-        if depth == 0 {
-            return Err(self.too_deep());
-        }
+    /// Skips the brackets that the current token opens, if all that is in them may be in a pattern without
+    /// defaults. Else stops at the first token that may not. Returns whether the brackets are skipped.
+    fn skip_pattern(&mut self) -> Parsed<bool> {
         let mut open = 0usize;
         for _turn in 0..self.turns {
             match self.kind() {
-                TokenKind::BraceOpen | TokenKind::BracketOpen | TokenKind::ParenOpen => {
-                    open = open.saturating_add(1);
-                    self.next()?;
-                }
-                TokenKind::BraceClose | TokenKind::BracketClose | TokenKind::ParenClose => {
-                    if open == 0 {
-                        break;
-                    }
-                    open = open.saturating_sub(1);
-                    self.next()?;
-                }
-                TokenKind::TemplateHead => self.skip_template(depth - 1)?,
-                TokenKind::EndOfText => break,
-                _ => self.next()?,
+                TokenKind::BraceOpen | TokenKind::BracketOpen => open = open.saturating_add(1),
+                TokenKind::BraceClose | TokenKind::BracketClose => open = open.saturating_sub(1),
+                TokenKind::Comma
+                | TokenKind::Colon
+                | TokenKind::Dot
+                | TokenKind::DotDotDot
+                | TokenKind::String
+                | TokenKind::Number => (),
+                kind if kind.is_name() => (),
+                _ => return Ok(false),
             }
-        }
-        Ok(())
-    }
-
-    /// Skips a template with substitutions.
-    #[cycle(skip)]
-    fn skip_template(&mut self, depth: usize) -> Parsed<()> {
-        if depth == 0 {
-            return Err(self.too_deep());
-        }
-        for _turn in 0..self.turns {
-            let is_last = self.at(TokenKind::TemplateTail);
             self.next()?;
-            if is_last {
-                break;
+            if open == 0 {
+                return Ok(true);
             }
-            self.skip_inside(depth - 1)?;
-            if !self.at(TokenKind::BraceClose) {
-                return Err(self.error("expected `}` after the type in the template"));
-            }
-            self.lexer.rescan_template_part()?;
         }
-        Ok(())
+        Ok(false)
     }
 
     /// The type of a function or a constructor.
@@ -213,7 +189,7 @@ impl<'a> Parser<'a> {
         }
         self.skip_union_operator()?;
         for _turn in 0..self.turns {
-            if self.is_function_type(depth - 1)? {
+            if self.is_function_type()? {
                 return self.function_type(depth - 1);
             }
             self.operator_type(depth - 1)?;

@@ -404,6 +404,9 @@ decreases-substitution l = l.depth
 abbrev pub decreases-type_arguments : goal.decreases-type_arguments
 decreases-type_arguments l = l.depth
 
+abbrev pub decreases-angle_brackets : goal.decreases-angle_brackets
+decreases-angle_brackets l = l.depth
+
 abbrev pub decreases-list_to_greater : goal.decreases-list_to_greater
 decreases-list_to_greater l = l.depth
 
