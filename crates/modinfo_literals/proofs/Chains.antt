@@ -35,8 +35,8 @@ use Rattle.modinfo_literals.proofs.Complete.{string-complete, template-complete}
 abbrev pub Walks : (List ℕ → Option Step) → List (Option ℕ) → List ℕ → List ℕ → Type 0
 Walks step [] text end = text ≡ end
 Walks step (point ∷ points) text end =
-    (after : List ℕ) × (step text ≡ Some (record { point = point; rest = after })) × Walks step points after
-    end
+    (after : List ℕ) × (step text ≡ Some
+    (record { point = point; rest = after })) × Walks step points after end
 
 pub Walks-from_Consists : (IsElement : List ℕ → List ℕ → Option ℕ → Type 0) (step : List ℕ → Option Step)
     → ((after text : List ℕ) (point : Option ℕ) → IsElement after text point
@@ -55,8 +55,8 @@ ends_differ : (step : List ℕ → Option Step) (text end : List ℕ) (found : S
     → text ≡ end → step end ≡ None → ⊥
 ends_differ step text end found is same none = let h = sym is ∙ ap step same ∙ none in absurd cc
 
-pub Walks-unique : (step : List ℕ → Option Step) (points others : List (Option ℕ)) (text end other_end :
-    List ℕ)
+pub Walks-unique : (step : List ℕ
+    → Option Step) (points others : List (Option ℕ)) (text end other_end : List ℕ)
     → Walks step points text end → Walks step others text other_end → step end ≡ None → step other_end ≡ None
     → (points ≡ others) × (end ≡ other_end)
 Walks-unique step [] [] text end other_end w v n m = (refl, sym w ∙ v)

@@ -11,8 +11,8 @@ module _ (slice text value : List ℕ) (utf8 : IsUtf8 text) (plain : Spells slic
   -- the value, in UTF-8, is the text
   pub spells-text : encode_utf8_all value ≡ text → Spells slice value
   spells-text same =
-      subst (Spells slice) (sym (encodes_same value (chars text) (same ∙ sym (encodes-chars text utf8))))
-      plain
+      subst (Spells slice) (sym (encodes_same value (chars text) (same
+      ∙ sym (encodes-chars text utf8)))) plain
 
   pub text_of-spells : Spells slice value → encode_utf8_all value ≡ text
   text_of-spells spelled =

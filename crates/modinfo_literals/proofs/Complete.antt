@@ -116,11 +116,11 @@ begins_with-digit base c [] after are some other = absurd (omega arith)
 begins_with-digit base c (d ∷ digits) after are some other =
     ne_eqb d c (λ e. false≢true (sym other ∙ ap (λ n. is_digit n base) (sym e) ∙ are.0))
 
-pub unicode_step-hex : (digits after : List ℕ) → AreDigits 16 digits → length digits ≡ 4
+pub unicode_step-digits : (digits after : List ℕ) → AreDigits 16 digits → length digits ≡ 4
     → unicode_step (digits ++ after) ≡ stands_for (number 16 digits) after
 unfolding unicode_step
-unicode_step-hex [] after are long = absurd (omega arith)
-unicode_step-hex (d ∷ digits) after are long =
+unicode_step-digits [] after are long = absurd (omega arith)
+unicode_step-digits (d ∷ digits) after are long =
     rw (begins_with-digit 16 123 (d ∷ digits) after are (omega arith) refl)
     (hex_step-append 4 (d ∷ digits) after are long)
 
@@ -137,11 +137,11 @@ braced_step-append digits after are some le =
       drop-append digits (125 ∷ after),
     ) refl
 
-pub unicode_step-braced : (digits after : List ℕ) → AreDigits 16 digits → 0 < length digits
+pub unicode_step-code_point : (digits after : List ℕ) → AreDigits 16 digits → 0 < length digits
     → number 16 digits ≤ 0x10_FFFF
     → unicode_step (123 ∷ (digits ++ codes "}") ++ after) ≡ stands_for (number 16 digits) after
 unfolding unicode_step
-unicode_step-braced digits after are some le =
+unicode_step-code_point digits after are some le =
     ap braced_step (append_assoc digits (codes "}") after) ∙ braced_step-append digits after are some le
 
 -- characters
@@ -189,8 +189,8 @@ line_end-complete after _ (other_terminator c is other) =
     (record { first = d; rest = after; whole = refl; no_digit = no_digit; is_step = is_step }) in
     ⊎_elim (λ e. at 10 e refl refl)
     (λ more. ⊎_elim (λ e. absurd (false≢true (sym other ∙ eq-eqb c 13 e)))
-    (λ last. ⊎_elim (λ e. at 0x2028 e refl refl) (λ e. at 0x2029 e refl refl) last) more) (line_terminators
-    c is)
+    (λ last. ⊎_elim (λ e. at 0x2028 e refl refl) (λ e. at 0x2029 e refl refl) last) more)
+    (line_terminators c is)
 
 -- escapes
 special_parts : (c : ℕ) → is_special c ≡ false
@@ -201,8 +201,8 @@ special_parts c plain =
     let more = or_parts (is_digit c 10) (is_line_terminator c) parts.1 in
     (parts.0, more.0, more.1)
 
-common_step-itself : (c : ℕ) (after : List ℕ) → is_special c ≡ false → common_step c after ≡ stands_for c
-    after
+common_step-itself : (c : ℕ) (after : List ℕ) → is_special c ≡ false
+    → common_step c after ≡ stands_for c after
 unfolding common_step single_escape
 common_step-itself c after plain =
     let parts = special_parts c plain in
@@ -278,14 +278,14 @@ common-complete after _ _ (unicode digits are long) = record {
   rest = digits ++ after;
   whole = refl;
   no_digit = refl;
-  is_step = unicode_step-hex digits after are long;
+  is_step = unicode_step-digits digits after are long;
 }
 common-complete after _ _ (code_point digits are some le) = record {
   first = 117;
   rest = 123 ∷ (digits ++ codes "}") ++ after;
   whole = refl;
   no_digit = refl;
-  is_step = unicode_step-braced digits after are some le;
+  is_step = unicode_step-code_point digits after are some le;
 }
 common-complete after _ _ (line_continuation text is) = line_end-complete after text is
 
@@ -309,10 +309,10 @@ pub string_escape-complete : (after text : List ℕ) (point : Option ℕ) → Is
 unfolding string_escape_step
 string_escape-complete after _ _ (common text point is) =
     let found = common-complete after text point is in
-    ap string_escape_step found.whole ∙ (rw (digit_8_of_10 found.first found.no_digit, found.no_digit)
-    found.is_step)
-string_escape-complete after _ _ (octal digits are some le end) = octal_step-append digits after are some le
-    end
+    ap string_escape_step found.whole
+    ∙ (rw (digit_8_of_10 found.first found.no_digit, found.no_digit) found.is_step)
+string_escape-complete after _ _
+    (octal digits are some le end) = octal_step-append digits after are some le end
 string_escape-complete after _ _ (eight_or_nine c decimal not_octal) = rw (not_octal, decimal) refl
 
 pub template_escape-complete : (after text : List ℕ) (point : Option ℕ) → IsTemplateEscape after text point

@@ -100,11 +100,6 @@ pub drop-append : (front back : List ℕ) → drop (length front) (front ++ back
 drop-append [] back = refl
 drop-append (c ∷ front) back = drop-append front back
 
--- a number of four hexadecimal digits or three octal digits is a code point
-below : (a b c d : ℕ) → a < 16 → b < 16 → c < 16 → d < 16
-    → ((((0 * 16 + a) * 16 + b) * 16 + c) * 16 + d) < 0x11_0000
-below a b c d la lb lc ld = omega arith
-
 -- numbers up to a limit
 times_more : (n base : ℕ) → 1 ≤ base → n ≤ n * base
 times_more n base h = omega (arith, mul-le-mul_left n h)
@@ -123,15 +118,15 @@ min_step n base d limit h =
 -- one more digit is read
 pub IsSoFar-more : (base most : ℕ) (text : List ℕ) (value count : ℕ) (rest : List ℕ) → 1 ≤ base
     → 0 < most - count → IsSoFar base most text value count rest → (digit : ℕ) (after : List ℕ)
-    → IsFirstDigit base (most - count) rest digit after → (new : ℕ) → new ≡ min (value * base + digit)
-    0x11_0000
+    → IsFirstDigit base (most - count) rest digit after → (new : ℕ)
+    → new ≡ min (value * base + digit) 0x11_0000
     → IsSoFar base most text new (count + 1) after
 IsSoFar-more base most text value count rest h more so_far digit after first new is =
     let d = first.digit in
     let left : most - count ≡ suc (most - (count + 1)) = omega arith in
     let next : digits_of base (most - count) rest ≡ d ∷ digits_of base (most - (count + 1)) after =
-    (λ i. digits_of base (left i) (first.whole i)) ∙ digits_of-first base (most - (count + 1)) d after
-    first.is_digit_of in
+    (λ i. digits_of base (left i) (first.whole i))
+    ∙ digits_of-first base (most - (count + 1)) d after first.is_digit_of in
     record {
       done = so_far.done ++ d ∷ [];
       digits = so_far.digits ∙ ap (λ l. so_far.done ++ l) next
@@ -142,6 +137,6 @@ IsSoFar-more base most text value count rest h more so_far digit after first new
           ∙ min_step (number base so_far.done) base (digit_value d) 0x11_0000 h
           ∙ ap (λ n. min n 0x11_0000) (sym (fold-append _ 0 so_far.done (d ∷ [])));
       count_is = ap (λ n. n + 1) so_far.count_is ∙ sym (length-append so_far.done (d ∷ []));
-      rest_is = so_far.rest_is ∙ ap (λ l. so_far.done ++ l) first.whole ∙ sym (append_assoc so_far.done (d ∷
-          []) after);
+      rest_is = so_far.rest_is ∙ ap (λ l. so_far.done ++ l) first.whole
+          ∙ sym (append_assoc so_far.done (d ∷ []) after);
     }

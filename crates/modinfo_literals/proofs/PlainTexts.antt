@@ -172,8 +172,8 @@ Spells-plain slice inside text quote is_quote opens utf8 closes none =
       points = map Some (chars text);
       is_quote = is_quote;
       opens = opens;
-      closes = subst (λ l. Consists (IsStringElement quote) (map Some (chars text)) l (quote ∷ [])) (sym
-          whole)
+      closes = subst (λ l. Consists (IsStringElement quote) (map Some (chars text)) l (quote ∷ []))
+          (sym whole)
           (Consists-plain quote small (chars text) bytes);
       is_value = sym (string_of-characters (chars text) (scalars-chars text utf8));
     }

@@ -42,8 +42,8 @@ string_some : (quote : ℕ) (after text : List ℕ) (point : Option ℕ) → IsS
 string_some quote after _ _ (character c plain) = omega arith
 string_some quote after _ _ (escape text point is) = omega arith
 
-template_some : (after text : List ℕ) (point : Option ℕ) → IsTemplateElement after text point → 0 < length
-    text
+template_some : (after text : List ℕ) (point : Option ℕ) → IsTemplateElement after text point
+    → 0 < length text
 template_some after _ _ (template_character c plain) = omega arith
 template_some after _ _ (dollar alone) = omega arith
 template_some after _ _ carriage_return_line_feed = omega arith
@@ -73,8 +73,8 @@ step_shorter form text step e =
     )
 
 -- one more element
-Consists-more : (IsElement : List ℕ → List ℕ → Option ℕ → Type 0) (points : List (Option ℕ)) (text end :
-    List ℕ)
+Consists-more : (IsElement : List ℕ → List ℕ → Option ℕ
+    → Type 0) (points : List (Option ℕ)) (text end : List ℕ)
     (step : Step) → Consists IsElement points text end → Found IsElement end step
     → Consists IsElement (points ++ step.point ∷ []) text step.rest
 Consists-more IsElement [] text end step c found = (found.0, step.rest, c ∙ found.1, found.2, refl)
@@ -87,9 +87,6 @@ pub record IsSoFar (form : Form) (text end units : List ℕ) : Type 0 where
   pub consists : Consists (IsElementOf form) points text end
   pub are : units ≡ flat_map units_of points
 
-pub IsSoFar-nil : (form : Form) (text : List ℕ) → IsSoFar form text text []
-IsSoFar-nil form text = record { points = []; consists = refl; are = refl }
-
 pub IsSoFar-more : (form : Form) (text end units : List ℕ) (step : Step) (new : List ℕ)
     → IsSoFar form text end units → Some step ≡ first_step form end → new ≡ units ++ units_of step.point
     → IsSoFar form text step.rest new
@@ -98,16 +95,7 @@ IsSoFar-more form text end units step new so_far e adds = record {
   consists = Consists-more (IsElementOf form) so_far.points text end step so_far.consists
       (step_found form end step e);
   are = adds ∙ ap (λ l. l ++ units_of step.point) so_far.are
-      ∙ sym (flat_map-append units_of so_far.points (step.point ∷ []) ∙ ap (λ l. flat_map units_of
-      so_far.points ++ l)
+      ∙ sym (flat_map-append units_of so_far.points (step.point ∷ [])
+      ∙ ap (λ l. flat_map units_of so_far.points ++ l)
       (append-nil (units_of step.point)));
-}
-
-pub AreUnits-whole : (form : Form) (text end units : List ℕ) → IsSoFar form text end units
-    → (let none : Option Step = None in none) ≡ first_step form end → AreUnits form text end units
-AreUnits-whole form text end units so_far none = record {
-  points = so_far.points;
-  consists = so_far.consists;
-  are = so_far.are;
-  no_more = sym none;
 }

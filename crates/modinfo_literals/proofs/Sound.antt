@@ -106,6 +106,7 @@ use Rattle.modinfo_literals.specs.internal.Step.{
   template_step,
 }
 use Rattle.modinfo_literals.proofs.Digits.{
+  digits_of-first,
   AreDigits-digits_of,
   digits_of-drop,
   digits_of-end,
@@ -196,8 +197,8 @@ module _ (step : Step) where
       let found = hex_step-sound 2 rest step e in (
         120 ∷ found.digits,
         ap (λ l. 120 ∷ l) found.whole,
-        subst (IsCommonEscape step.rest (120 ∷ found.digits)) found.point_is (hex found.digits found.are
-            found.long),
+        subst (IsCommonEscape step.rest (120 ∷ found.digits)) found.point_is
+            (hex found.digits found.are found.long),
       )
 
   unicode_found : (rest : List ℕ) → hex_step 4 rest ≡ Some step → Found IsCommonEscape (117 ∷ rest) step
@@ -218,8 +219,8 @@ module _ (step : Step) where
             (code_point found.digits found.are found.some found.le),
       )
 
-  unicode_step-sound : (rest : List ℕ) → unicode_step rest ≡ Some step → Found IsCommonEscape (117 ∷ rest)
-      step
+  unicode_step-sound : (rest : List ℕ) → unicode_step rest ≡ Some step
+      → Found IsCommonEscape (117 ∷ rest) step
   unfolding unicode_step
   unicode_step-sound [] e = none_some _ step e
   unicode_step-sound (c ∷ rest) e =
@@ -229,8 +230,8 @@ module _ (step : Step) where
       (λ f is. unicode_found (c ∷ rest) is)
 
 -- a carriage return, alone or with its line feed
-after_carriage_return-found : (IsElement : List ℕ → List ℕ → Option ℕ → Type 0) (point : Option ℕ) (rest :
-    List ℕ)
+after_carriage_return-found : (IsElement : List ℕ → List ℕ → Option ℕ
+    → Type 0) (point : Option ℕ) (rest : List ℕ)
     → ((after : List ℕ) → IsElement after (13 ∷ 10 ∷ []) point)
     → ((after : List ℕ) → begins_with (λ c. c == 10) after ≡ false → IsElement after (13 ∷ []) point)
     → Found IsElement (13 ∷ rest) (record { point = point; rest = after_carriage_return rest })
@@ -244,8 +245,8 @@ single_escape-found : (c : ℕ) (rest : List ℕ) → is_digit c 10 ≡ false �
     → nat_eq c 120 ≡ false → nat_eq c 117 ≡ false → IsCommonEscape rest (c ∷ []) (Some (single_escape c))
 unfolding single_escape
 single_escape-found c rest no_digit no_end x u =
-    let at = λ (d : ℕ) (same : nat_eq c d ≡ true) (is : IsCommonEscape rest (d ∷ []) (Some (single_escape
-    d))).
+    let at = λ (d : ℕ) (same : nat_eq c d
+    ≡ true) (is : IsCommonEscape rest (d ∷ []) (Some (single_escape d))).
     subst (λ n. IsCommonEscape rest (n ∷ []) (Some (single_escape n))) (sym (eqb-true c d same)) is in
     by_cases (nat_eq c 98) (λ e. at 98 e backspace) (λ b.
     by_cases (nat_eq c 116) (λ e. at 116 e tab) (λ t.
@@ -290,11 +291,6 @@ octal_found c rest n is most =
           (⊎_elim (λ e. inl (ap suc e ∙ most)) (λ e. inr e) (digits_of-end 8 n rest)),
     )
 
--- the digits of an octal escape, of which the first is known
-digits_of-first : (c : ℕ) (rest : List ℕ) (n : ℕ) → is_digit c 8 ≡ true
-    → digits_of 8 (suc n) (c ∷ rest) ≡ c ∷ digits_of 8 n rest
-digits_of-first c rest n is = rw is refl
-
 octal_made : ℕ → ℕ → List ℕ → Step
 octal_made most c rest =
     let ds = digits_of 8 most (c ∷ rest) in
@@ -304,17 +300,17 @@ octal_made-first : (c : ℕ) (rest : List ℕ) (n : ℕ) → is_digit c 8 ≡ tr
     → octal_made (suc n) c rest
     ≡ record {
       point = Some (number 8 (c ∷ digits_of 8 n rest));
-      rest = drop (length (digits_of 8 n rest))
-          rest;
+      rest = drop (length
+          (digits_of 8 n rest)) rest;
     }
 unfolding octal_made
 octal_made-first c rest n is =
     ap (λ (ds : List ℕ). let made : Step = record {
       point = Some (number 8 ds);
-      rest = drop (length ds) (c ∷
-          rest);
+      rest = drop (length ds)
+          (c ∷ rest);
     }
-    in made) (digits_of-first c rest n is)
+    in made) (digits_of-first 8 n c rest is)
 
 octal_step-sound : (c : ℕ) (rest : List ℕ) (step : Step) → is_digit c 8 ≡ true → octal_step c rest ≡ Some step
     → Found IsStringEscape (c ∷ rest) step

@@ -84,8 +84,8 @@ number_16-below [] are le = omega arith
 number_16-below (a ∷ []) are le =
     omega (
       arith,
-      hex_below 0 0 0 (digit_value a) (omega arith) (omega arith) (omega arith) (ltb-true _ _
-          are.0),
+      hex_below 0 0 0 (digit_value a) (omega arith) (omega arith) (omega arith)
+          (ltb-true _ _ are.0),
     )
 number_16-below (a ∷ b ∷ []) are le =
     omega (
@@ -162,8 +162,8 @@ digits_of-all base (suc most) zero [] le more = refl
 digits_of-all base (suc most) zero (c ∷ text) le more = absurd (omega arith)
 digits_of-all base (suc most) (suc limit) [] le more = refl
 digits_of-all base (suc most) (suc limit) (c ∷ text) le more =
-    ap (λ ds. cond (is_digit c base) (c ∷ ds) []) (digits_of-all base most limit text (omega arith) (omega
-    arith))
+    ap (λ ds. cond (is_digit c base) (c ∷ ds) []) (digits_of-all base most limit text (omega arith)
+    (omega arith))
 
 braced_step-at : (text ds : List ℕ) → digits_of 16 (length text) text ≡ ds
     → braced_step text
@@ -174,8 +174,8 @@ braced_step-at text ds same =
     ap (λ (l : List ℕ). cond (nat_lt 0 (length l) && nat_le (number 16 l) 0x10_FFFF)
     (close_brace (number 16 l) (drop (length l) text)) (let none : Option Step = None in none)) same
 
-close_brace-open : (n : ℕ) (text : List ℕ) → begins_with (λ c. c == 125) text ≡ false → close_brace n text ≡
-    None
+close_brace-open : (n : ℕ) (text : List ℕ) → begins_with (λ c. c == 125) text ≡ false
+    → close_brace n text ≡ None
 close_brace-open n [] open_end = refl
 close_brace-open n (c ∷ text) open_end = rw open_end refl
 
@@ -184,11 +184,11 @@ module _ (most : ℕ) (text : List ℕ) (long : length text ≤ most) (value cou
     (count_is : count ≡ length (digits_of 16 most text))
     (rest_is : rest ≡ drop (length (digits_of 16 most text)) text) where
   whole : braced_step text
-      ≡ cond (nat_lt 0 (length (digits_of 16 most text)) && nat_le (number 16 (digits_of 16 most text))
-      0x10_FFFF)
+      ≡ cond (nat_lt 0 (length (digits_of 16 most text)) && nat_le (number 16
+      (digits_of 16 most text)) 0x10_FFFF)
       (close_brace (number 16 (digits_of 16 most text)) (drop (length (digits_of 16 most text)) text)) None
-  whole = braced_step-at text (digits_of 16 most text) (digits_of-all 16 (length text) most text (omega
-      arith) long)
+  whole = braced_step-at text (digits_of 16 most text) (digits_of-all 16 (length text) most text
+      (omega arith) long)
 
   pub braced_step-empty : count ≡ 0 → (let none : Option Step = None in none) ≡ braced_step text
   braced_step-empty empty =
@@ -244,9 +244,6 @@ module _ (first most : ℕ) (most_is : most ≡ cond (nat_lt first 52) 3 2) (tex
       number_8-below _ (AreDigits-digits_of 8 most text)
       (omega (arith, length-digits_of 8 most text, most_is, octal_most first))
 
-  pub octal_value-below : value < 0x11_0000
-  octal_value-below = omega (arith, below_limit value _ _ value_is octal_number, octal_number)
-
   pub octal_step-read : (rest after : List ℕ) → text ≡ first ∷ rest
       → after ≡ drop (length (digits_of 8 most text)) text → stands_for value after ≡ octal_step first rest
   unfolding octal_step
@@ -275,14 +272,14 @@ module _ (c : ℕ) (rest : List ℕ) where
         ≡ cond (is_line_terminator c) (stands_for_nothing rest) (stands_for (single_escape c) rest)
     unfolding common_step
     other_step =
-        cond-false _ _ _ (ne_eqb c 120 x) ∙ cond-false _ _ _ (ne_eqb c 117 u) ∙ cond-false _ _ _ (ne_eqb c
-        13 r)
+        cond-false _ _ _ (ne_eqb c 120 x) ∙ cond-false _ _ _ (ne_eqb c 117 u)
+        ∙ cond-false _ _ _ (ne_eqb c 13 r)
 
     pub common_step-line : is_line_terminator c ≡ true → common_step c rest ≡ stands_for_nothing rest
     common_step-line line = other_step ∙ cond-true _ _ _ line
 
-    pub common_step-other : is_line_terminator c ≡ false → common_step c rest ≡ stands_for (single_escape c)
-        rest
+    pub common_step-other : is_line_terminator c ≡ false
+        → common_step c rest ≡ stands_for (single_escape c) rest
     common_step-other line = other_step ∙ cond-false _ _ _ line
 
 -- escapes of a string literal

@@ -17,8 +17,8 @@ use Rattle.modinfo_literals.proofs.Chains.{
 
 -- a part of a template
 module _ (slice end units : List ℕ) (read : AreUnits Template (chars slice) end units) where
-  pub SpellsCooked-read : (value : List ℕ) → end ≡ [] → value ≡ points_of_units units → SpellsCooked slice
-      value
+  pub SpellsCooked-read : (value : List ℕ) → end ≡ [] → value ≡ points_of_units units
+      → SpellsCooked slice value
   SpellsCooked-read value whole is = record {
     points = read.points;
     whole = subst (Consists _ read.points (chars slice)) whole read.consists;
@@ -34,17 +34,6 @@ module _ (slice end units : List ℕ) (read : AreUnits Template (chars slice) en
 -- a string literal
 module _ (slice inside end units : List ℕ) (quote : ℕ) (is_quote : (quote ≡ 34) ⊎ (quote ≡ 39))
     (opens : chars slice ≡ quote ∷ inside) (read : AreUnits (StringWith quote) inside end units) where
-  pub Spells-read : (value : List ℕ) → end ≡ quote ∷ [] → value ≡ points_of_units units → Spells slice value
-  Spells-read value whole is = record {
-    quote = quote;
-    inside = inside;
-    points = read.points;
-    is_quote = is_quote;
-    opens = opens;
-    closes = subst (Consists (IsStringElement quote) read.points inside) whole read.consists;
-    is_value = is ∙ ap points_of_units read.are;
-  }
-
   pub Spells-none : (end ≡ quote ∷ [] → ⊥) → (value : List ℕ) → Spells slice value → ⊥
   Spells-none more value s =
       let same = sym s.opens ∙ opens in
@@ -54,5 +43,5 @@ module _ (slice inside end units : List ℕ) (quote : ℕ) (is_quote : (quote �
       let walk = subst (λ l. Walks (string_step quote) s.points l (quote ∷ [])) same_inside
       (string_walks quote s.points s.inside _ closes) in
       more (Walks-unique (string_step quote) read.points s.points inside end (quote ∷ [])
-      (string_walks quote read.points _ _ read.consists) walk read.no_more (string_step-quote quote []
-      is_quote)).1
+      (string_walks quote read.points _ _ read.consists) walk read.no_more
+      (string_step-quote quote [] is_quote)).1

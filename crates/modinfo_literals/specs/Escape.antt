@@ -1,7 +1,6 @@
 -- Escapes of JavaScript's string literals and templates, without their backslash (ECMA-262, 12.9.4 and
--- 12.9.6). A
--- text is its list of code points. In each relation `after` is the text after an escape: some escapes are as
--- long as they can be.
+-- 12.9.6). A text is its list of code points. In each relation `after` is the text after an escape: some
+-- escapes are as long as they can be.
 use Rattle.std.specs.Prelude.{◌≡◌, ◌<◌, ◌≤◌, ◌⊎◌, ℕ, ◌+◌, ◌*◌, ◌==◌, ◌||◌, Bool, true, false, if◌then◌else◌}
 use Rattle.std.specs.Prelude.{Option, Some, None, List, [], ◌∷◌, ◌++◌, length, fold, codes, nat_lt}
 use Rattle.std.specs.Char.{digit_value, is_digit}
@@ -36,8 +35,7 @@ abbrev pub is_special : ℕ → Bool
 is_special c = list_any (λ d. c == d) (codes "btnvfrxu") || (is_digit c 10 || is_line_terminator c)
 
 -- an escape that both literals have: its text, and the code point that the escape stands for, or `None` if
--- the
--- escape stands for nothing
+-- the escape stands for nothing
 pub data IsCommonEscape (after : List ℕ) : List ℕ → Option ℕ → Type 0 where
   -- SingleEscapeCharacter, by Table 37
   backspace : IsCommonEscape after (codes "b") (Some 0x8)
@@ -65,16 +63,16 @@ most_octal_digits digits = if begins_with (λ c. nat_lt c 52) digits then 3 else
 
 -- an escape of a string literal
 pub data IsStringEscape (after : List ℕ) : List ℕ → Option ℕ → Type 0 where
-  common : (text : List ℕ) (point : Option ℕ) → IsCommonEscape after text point → IsStringEscape after text
-      point
+  common : (text : List ℕ) (point : Option ℕ) → IsCommonEscape after text point
+      → IsStringEscape after text point
   -- LegacyOctalEscapeSequence, and `0` before no digit: as many octal digits as there are
-  octal : (digits : List ℕ) → AreDigits 8 digits → 0 < length digits → length digits ≤ most_octal_digits
-      digits
+  octal : (digits : List ℕ) → AreDigits 8 digits → 0 < length digits
+      → length digits ≤ most_octal_digits digits
       → (length digits ≡ most_octal_digits digits) ⊎ (begins_with (λ c. is_digit c 8) after ≡ false)
       → IsStringEscape after digits (Some (number 8 digits))
   -- NonOctalDecimalEscapeSequence: `8` or `9`
-  eight_or_nine : (c : ℕ) → is_digit c 10 ≡ true → is_digit c 8 ≡ false → IsStringEscape after (c ∷ [])
-      (Some c)
+  eight_or_nine : (c : ℕ) → is_digit c 10 ≡ true → is_digit c 8 ≡ false
+      → IsStringEscape after (c ∷ []) (Some c)
 
 -- TemplateEscapeSequence
 pub data IsTemplateEscape (after : List ℕ) : List ℕ → Option ℕ → Type 0 where

@@ -1,6 +1,5 @@
--- The values that literals of JavaScript spell: SV of a string literal (ECMA-262, 12.9.4) and TV of a part
--- of a
--- template (12.9.6).
+-- The values that literals of JavaScript spell: SV of a string literal (ECMA-262, 12.9.4) and TV of a part of
+-- a template (12.9.6).
 use Rattle.std.specs.Prelude.{◌≡◌, ◌⊎◌, ℕ, ◌==◌, ◌||◌, false, Option, Some, None, List, [], ◌∷◌, ◌++◌, codes}
 use Rattle.std.specs.Char.Escape.{encode_utf16}
 use Rattle.std.specs.List.{flat_map}
@@ -9,8 +8,7 @@ use Rattle.deno_graph_base.specs.JsString.{points_of_units}
 use Rattle.modinfo_literals.specs.Escape.{begins_with, IsStringEscape, IsTemplateEscape}
 
 -- an element of a string literal with this quote: its text, where `after` follows, and the code point that
--- the
--- element stands for, or `None` if the element stands for nothing
+-- the element stands for, or `None` if the element stands for nothing
 pub data IsStringElement (quote : ℕ) (after : List ℕ) : List ℕ → Option ℕ → Type 0 where
   -- any character but a backslash, the quote, a line feed and a carriage return
   character : (c : ℕ) → (c == 92 || (c == quote || (c == 10 || c == 13))) ≡ false

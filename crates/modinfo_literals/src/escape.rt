@@ -1,6 +1,7 @@
 //! Reads the escapes of literals, without their backslash.
 
-ghost use Rattle.std.specs.Prelude.{◌≡◌, ◌≤◌, ℕ, List, ◌<◌, [], ◌∷◌, MatchOption, IfSome, Some, length, drop, min};
+ghost use Rattle.std.specs.Prelude.{◌≡◌, ◌≤◌, ◌<◌, ℕ, min, MatchOption, IfSome, Some};
+ghost use Rattle.std.specs.Prelude.{List, [], ◌∷◌, length, drop};
 ghost use Rattle.std.specs.Char.{is_digit};
 ghost use Rattle.std.specs.Str.{chars};
 ghost use Rattle.modinfo_literals.specs.Escape.{begins_with, is_line_terminator, number};

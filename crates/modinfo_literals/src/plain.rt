@@ -10,7 +10,9 @@ use crate::text::split_first;
 
 /// Returns the quote that a text begins with, and the text after it.
 pub(crate) fn split_quote(slice: &str) -> Option<(char, &str)>
-    ensures { MatchOption result ((quote : ℕ) (inside : List ℕ) → (quote ≡ 34) ⊎ (quote ≡ 39) → chars slice.now ≡ quote ∷ inside → ⊥)
+    ensures { MatchOption result
+        ((quote : ℕ) (inside : List ℕ) → (quote ≡ 34) ⊎ (quote ≡ 39)
+        → chars slice.now ≡ quote ∷ inside → ⊥)
         (λ r. ((r.0 ≡ 34) ⊎ (r.0 ≡ 39)) × (chars slice.now ≡ r.0 ∷ chars r.1.now)) }
 {
     let (quote, inside) = split_first(slice)?;

@@ -5,8 +5,7 @@ use Rattle.std.specs.Char.{is_digit}
 use Rattle.modinfo_literals.specs.Escape.{begins_with, number, is_line_terminator}
 
 -- the code point that an element stands for, or `None` for an element that stands for nothing, and the text
--- after
--- the element
+-- after the element
 pub record Step : Type 0 where
   pub point : Option ℕ
   pub rest : List ℕ
@@ -67,8 +66,8 @@ common_step c rest =
 unfoldable pub string_escape_step : List ℕ → Option Step
 string_escape_step [] = None
 string_escape_step (c ∷ rest) =
-    if is_digit c 8 then octal_step c rest else if is_digit c 10 then stands_for c rest else common_step c
-    rest
+    if is_digit c 8 then octal_step c rest else
+    if is_digit c 10 then stands_for c rest else common_step c rest
 
 unfoldable pub template_escape_step : List ℕ → Option Step
 template_escape_step [] = None

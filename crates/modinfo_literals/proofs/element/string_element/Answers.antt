@@ -31,8 +31,8 @@ returns-then-first-quote-clause-step c =
     let whole = c.in_ok-first.ensures.cases in
     let b = c.if-first-eq92.false in
     elim c.then-first-quote.branch [
-      | then-first-quote-via-then-first-quote w ↦ sym (string_step-quote _ _ _ whole _ b
-          w.if-first-quote.true)
+      | then-first-quote-via-then-first-quote w ↦ sym
+          (string_step-quote _ _ _ whole _ b w.if-first-quote.true)
       | then-first-quote-via-else-first-quote+then-first-eq10 w
           ↦ sym (string_step-line_feed _ _ _ whole _ b w.if-first-eq10.true)
       | then-first-quote-via-else-first-quote+else-first-eq10+then-first-eq13 w

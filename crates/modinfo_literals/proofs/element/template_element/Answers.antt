@@ -40,5 +40,5 @@ returns-in_default-2-clause-step c =
     let k : c.in_ok-first.first ≡ 96 → ⊥ = search (rules, c.in_default) in
     let r : c.in_ok-first.first ≡ 13 → ⊥ = search (rules, c.in_default) in
     ap (λ point. stands_for point (chars c.in_ok-first.rest.now)) c.from.ensures
-    ∙ sym (template_step-character _ _ _ c.in_ok-first.ensures.cases b k (sym
-    c.if-opens_substitution.ensures) r)
+    ∙ sym (template_step-character _ _ _ c.in_ok-first.ensures.cases b k
+    (sym c.if-opens_substitution.ensures) r)

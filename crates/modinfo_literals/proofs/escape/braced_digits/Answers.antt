@@ -13,10 +13,10 @@ pub returns-then-found-eq0-clause-step : goal.returns-then-found-eq0-clause-step
 returns-then-found-eq0-clause-step c =
     let found = c.read_digits-found.ensures in
     ⊎_elim
-    (λ empty. braced_step-empty _ _ (length-chars _ c.utf8.text) _ _ _ found.value found.count found.rest
-    empty)
-    (λ large. braced_step-large _ _ (length-chars _ c.utf8.text) _ _ _ found.value found.count found.rest
-    large.1)
+    (λ empty. braced_step-empty _ _
+    (length-chars _ c.utf8.text) _ _ _ found.value found.count found.rest empty)
+    (λ large. braced_step-large _ _
+    (length-chars _ c.utf8.text) _ _ _ found.value found.count found.rest large.1)
     c.then-found-eq0.either
 
 pub returns-in_err-after-clause-step : goal.returns-in_err-after-clause-step

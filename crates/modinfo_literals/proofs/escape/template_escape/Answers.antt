@@ -29,8 +29,8 @@ returns-then-not-begins_with_digit-clause-step c =
 
 pub returns-else-first-eq48-clause-step : goal.returns-else-first-eq48-clause-step
 returns-else-first-eq48-clause-step c =
-    let digit = template_escape_step-digit _ _ _ c.in_ok-first.ensures.cases (sym
-    c.if-not-is_digit.ensures.value) in
+    let digit = template_escape_step-digit _ _ _ c.in_ok-first.ensures.cases
+    (sym c.if-not-is_digit.ensures.value) in
     elim c.else-first-eq48.branch [
       | else-first-eq48-via-then-first-eq48+else-not-begins_with_digit w
           ↦ sym (digit ∙ cond-false _ _ _ (and_right _ _ (ap not (sym w.if-not-begins_with_digit.ensures))))

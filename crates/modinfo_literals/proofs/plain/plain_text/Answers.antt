@@ -10,8 +10,8 @@ returns-else-has_special c =
     let quote = c.in_ok-quote.quote in
     let opens = c.in_ok-quote.ensures in
     let utf8 : IsUtf8 c.in_ok-text.text.now = search rules in
-    let closes = strip_suffix_char quote c.in_ok-quote.inside.now (Some c.in_ok-text.text)
-    c.in_ok-text.ensures.cases
+    let closes = strip_suffix_char quote c.in_ok-quote.inside.now
+    (Some c.in_ok-text.text) c.in_ok-text.ensures.cases
     (quote_small quote opens.0) in
     Spells-plain c.args.slice.now c.in_ok-quote.inside.now c.in_ok-text.text.now quote opens.0 opens.1 utf8
     closes

@@ -8,5 +8,5 @@ returns-clause-cases c =
     let first = c.in_ok-first.first in
     let steps = c.in_ok-first.ensures.steps in
     chars_past_char c.args.text.now c.as_str.result.now first c.utf8.text
-    (sym c.chars-characters.ensures.rest ∙ steps.0 ∙ ap (λ rest. encode_utf8 first ++ rest) (sym
-    c.as_str.ensures))
+    (sym c.chars-characters.ensures.rest ∙ steps.0
+    ∙ ap (λ rest. encode_utf8 first ++ rest) (sym c.as_str.ensures))

@@ -1,5 +1,4 @@
--- A literal has one value: of a literal without escapes the text between its quotes, of any other the value
--- read.
+-- A literal has one value: without escapes the text between its quotes, with escapes the value that was read.
 use Rattle.std.proofs.Common.{sym, ◌∙◌, subst, rules}
 use Rattle.std.specs.Str.{IsUtf8}
 use Rattle.std.proofs.lemmas.Bool.{false≢true}
