@@ -16,7 +16,9 @@ VERSION = (ROOT / "VERSION").read_text().strip()
 def has_help(name: str) -> bool:
     """Whether it is a script that a person starts. The words of tools/try_modinfo are those of modinfo; node --test
     tests the commands of the package for node, and analyze.py needs Dask."""
-    others = r"/tests/|^packaging/debian/|^bindings/node/src/|^tools/try_modinfo$|^examples/cluster/analyze.py$"
+    others = (
+        r"/tests/|^packaging/(aarch64|debian)/|^bindings/node/src/|^tools/try_modinfo$|^examples/cluster/analyze.py$"
+    )
     return not re.search(others, name) and (ROOT / name).read_bytes()[:3] == b"#!/"
 
 
