@@ -40,6 +40,8 @@ export class BundlerRules {
   #files;
   #manifests;
   #mainFields;
+  /** @type {WeakMap<Manifest, Map<string, string | false>>} */
+  #replacements = new WeakMap();
 
   /**
    * @param {import("../files/regular_files.mjs").RegularFiles} files
@@ -83,18 +85,12 @@ export class BundlerRules {
    *   another package's name; false where there is nothing in its place
    */
   replacement(manifest, key) {
-    const { browser } = manifest?.members ?? {};
-    if (!manifest || !isObject(browser)) {
-      return undefined;
+    let replacements = manifest && this.#replacements.get(manifest);
+    if (manifest && !replacements) {
+      replacements = replacementsOf(manifest);
+      this.#replacements.set(manifest, replacements);
     }
-    const { folder } = manifest;
-    for (const [name, target] of Object.entries(browser)) {
-      const isOwn = name === key || (PATH.test(name) && isPathOf(absolute(folder, name), key));
-      if (isOwn && (target === false || typeof target === "string")) {
-        return target && (PATH.test(target) ? absolute(folder, target) : target);
-      }
-    }
-    return undefined;
+    return replacements?.get(key);
   }
 
   /**
@@ -170,10 +166,20 @@ export function plainNames(specifier) {
 }
 
 /**
- * @param {string} own a path of `browser`, which needn't have its ending
- * @param {string} path
+ * What a manifest's `browser` has, by names and by absolute paths.
+ * @param {Manifest} manifest
+ * @returns {Map<string, string | false>}
  */
-function isPathOf(own, path) {
-  return ["", ...SCRIPT_ENDINGS, "/index.js"].some((ending) => own + ending === path);
+function replacementsOf({ folder, members: { browser } }) {
+  const found = new Map();
+  for (const [name, target] of Object.entries(isObject(browser) ? browser : {})) {
+    if (target === false || typeof target === "string") {
+      const value = target && PATH.test(target) ? absolute(folder, target) : target;
+      const path = absolute(folder, name);
+      const keys = PATH.test(name) ? ["", ...SCRIPT_ENDINGS, "/index.js"].map((ending) => path + ending) : [name];
+      keys.filter((key) => !found.has(key)).forEach((key) => found.set(key, value));
+    }
+  }
+  return found;
 }
 
