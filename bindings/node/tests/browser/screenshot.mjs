@@ -5,7 +5,7 @@
  *     node bindings/node/tests/browser/screenshot.mjs [light | dark] [FILE]
  */
 
-import { execFileSync } from "node:child_process";
+import { spawnSync } from "node:child_process";
 import { mkdtempSync, rmSync, writeFileSync } from "node:fs";
 import { tmpdir } from "node:os";
 import { join } from "node:path";
@@ -18,7 +18,7 @@ const ROOT = fileURLToPath(new URL("../../../../", import.meta.url));
 const WIDTH = 1240;
 
 /** What of the page is taken: its address after the file, and how high. */
-const VIEWS = /** @type {const} */ ([["", 750], ["#module-7-5", 640]]);
+const VIEWS = /** @type {const} */ ([["", 780], ["#module-7-5", 640]]);
 
 /** Puts the pictures below one another, with a line between them. */
 const JOIN = `
@@ -39,7 +39,12 @@ const browser = await Browser.start();
 try {
   const page = join(folder, "report.html");
   const words = ["--entry", "examples/project/src/main.ts", "-o", page, "examples/project"];
-  execFileSync(process.execPath, ["bindings/node/src/cli/report.mjs", ...words], { cwd: ROOT, stdio: "inherit" });
+  const command = ["bindings/node/src/cli/report.mjs", ...words];
+  const { status } = spawnSync(process.execPath, command, { cwd: ROOT, stdio: ["ignore", "inherit", "pipe"] });
+  // A name in the project leads nowhere.
+  if (status !== 1) {
+    throw new Error(`the report ended with status ${status}`);
+  }
   const pictures = [];
   for (const [hash, height] of VIEWS) {
     pictures.push(await picture(`${pathToFileURL(page)}${hash}`, height));
