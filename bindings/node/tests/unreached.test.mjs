@@ -178,6 +178,16 @@ test("--exclude follows and doesn't list", () => {
   assert.deepEqual([listed.stdout, listed.status], ["main.js\nb.js\n", 0]);
 });
 
+test("a fault of an excluded file is reported where an entry reaches it alone", () => {
+  const files = { "main.js": "", "fixtures/wrong.js": `import "../a.js"; let = ;`, "a.js": "" };
+  assert.deepEqual(unreached(files, ["--exclude", "fixtures"]), withStatus([
+    "a.js: may be reached: fault of ../a.js at fixtures/wrong.js:1:1",
+  ]));
+  const reachedOne = unreached({ ...files, "main.js": `import "./fixtures/wrong.js";` }, ["--exclude", "fixtures"]);
+  assert.deepEqual([reachedOne.lines.length, reachedOne.status], [1, 1]);
+  assert.match(reachedOne.stderr, /1 file can't be read or parsed/);
+});
+
 test("--ignore doesn't follow, and what an ignored file that is reached names may be reached", () => {
   const files = {
     "main.js": `import "./gen/a.js";`, "gen/a.js": `import "../b.js";`, "b.js": "", "gen/c.js": `import "../d.js";`, "d.js": "",

@@ -16,8 +16,8 @@
  * @typedef {object} Unreached modules are indexes
  * @property {number[]} unreached
  * @property {MayBeReached[]} mayBeReached
- * @property {{ module: number, by: number, line: number, text?: string }[]} byTypes `by` is the module that has
- *   the name
+ * @property {{ module: number, by?: number, file?: string, line: number, text?: string }[]} byTypes `by` is the
+ *   module that has the name, else `file` the path of an excluded one
  *
  * @typedef {object} MayBeReached
  * @property {number} module
@@ -112,7 +112,9 @@ export function shownUnreached({ unreached, mayBeReached, byTypes }, { folder, l
       return { module: indexOf(module), kind, by, file, line: position?.[0], text };
     }),
     byTypes: byTypes.map(({ module, by: { module: from, reference: { range: [[line]], specifier } } }) => {
-      return { module: indexOf(module), by: indexOf(from), line, text: specifier };
+      const by = links.moduleAt(from);
+      const file = by === undefined ? relative(folder, fileURLToPath(from)) : undefined;
+      return { module: indexOf(module), by, file, line, text: specifier };
     }),
   };
 }

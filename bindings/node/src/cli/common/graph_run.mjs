@@ -82,7 +82,8 @@ export async function readRun(run, { hasPages, onRead }) {
     ahead: (walked) => ahead(walked, reporter),
     onRead: async (result) => {
       await ready;
-      reporter.report(result);
+      // What is wrong with an excluded file counts where it is reached alone.
+      reporter.report(isExcluded(absolute(result.path)) ? { path: result.path } : result);
       onRead?.(result);
     },
   });

@@ -113,15 +113,18 @@ function unreachedItem(module) {
 }
 
 function mayBeReachedItem({ module, kind, by, file, line, text = "" }) {
-  const place = line === undefined ? "" : `:${line + 1}`;
-  const from = by === undefined ? pathLabel(file) : moduleLink(by);
   const reason = element("span", {}, `${REASONS[kind] ?? kind} `, element("code", { class: "name" }, text));
-  return [moduleLink(module), reason, element("span", {}, from, element("span", { class: "place" }, place))];
+  return [moduleLink(module), reason, placeOf({ by, file, line })];
 }
 
-function byTypesItem({ module, by, line, text = "" }) {
-  const place = element("span", { class: "place" }, `:${line + 1}`);
-  return [moduleLink(module), element("code", { class: "name" }, text), element("span", {}, moduleLink(by), place)];
+function byTypesItem({ module, by, file, line, text = "" }) {
+  return [moduleLink(module), element("code", { class: "name" }, text), placeOf({ by, file, line })];
+}
+
+/** Makes the place of a name: in a module of the report, or in another file. */
+function placeOf({ by, file, line }) {
+  const place = element("span", { class: "place" }, line === undefined ? "" : `:${line + 1}`);
+  return element("span", {}, by === undefined ? pathLabel(file) : moduleLink(by), place);
 }
 
 function cycleItem(cycle) {
