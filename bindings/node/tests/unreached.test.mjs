@@ -317,7 +317,7 @@ const BUNDLED = {
   },
   "what browser has in place of a module": {
     files: {
-      "package.json": `{"browser":{"./node.js":"./browser.js"}}`, "main.js": `import "./node.js";`, "browser.js": "",
+      "package.json": `{"browser":{"fs":"./browser.js"}}`, "main.js": `import "fs";`, "browser.js": "",
     },
     words: ["--conditions", "browser"],
   },
