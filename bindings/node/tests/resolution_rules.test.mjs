@@ -90,19 +90,21 @@ test("what bundlers find of a package: files without endings, module, and other 
 test("browser counts with its condition: other files, other packages, and nothing", () => {
   const browser = {
     "./node.js": "./web.js", "./gone.js": false, fs: false, path: "path-web", "./dir/index.js": "./web.js", "./short": "./web",
+    "./absent.js": "./web.js",
   };
   const folder = folderOf({
     "package.json": JSON.stringify({ browser }), "a.js": "", "node.js": "", "web.js": "", "gone.js": "", "dir/index.js": "", "short.js": "",
     "node_modules/path-web/index.js": "",
     "node_modules/p/package.json": `{"main":"m.js","browser":"b.js"}`, "node_modules/p/m.js": "", "node_modules/p/b.js": "",
   });
-  const names = ["./node", "./node.js", "./gone.js", "fs", "path", "./dir", "./short", "p", "os"];
+  const names = ["./node", "./node.js", "./gone.js", "fs", "path", "./dir", "./short", "p", "os", "./absent.js"];
   assert.deepEqual(found(folder, "a.js", names, { kind: "require", conditions: ["browser"] }), [
     "web.js by bundler", "web.js by bundler", "disabled", "disabled", "node_modules/path-web/index.js by bundler",
     "web.js by bundler", "web.js by bundler", "node_modules/p/b.js by bundler", "builtin",
+    "web.js by bundler",
   ]);
   assert.deepEqual(found(folder, "a.js", names, { kind: "require" }), [
-    "node.js", "node.js", "gone.js", "builtin", "builtin", "dir/index.js", "short.js", "node_modules/p/m.js", "builtin",
+    "node.js", "node.js", "gone.js", "builtin", "builtin", "dir/index.js", "short.js", "node_modules/p/m.js", "builtin", "missing",
   ]);
 });
 

@@ -120,18 +120,21 @@ export class Search {
    * @returns {Run | undefined}
    */
   #replaced({ specifier }, importer) {
-    if (!this.#isBrowser || PATH.test(specifier)) {
+    if (!this.#isBrowser) {
       return undefined;
     }
-    const other = this.#bundler.replacement(this.#manifests.scopeOf(dirname(importer.path)), specifier);
+    const isPath = PATH.test(specifier);
+    const key = isPath ? absolute(dirname(importer.path), specifier) : specifier;
+    const manifest = this.#manifests.scopeOf(dirname(isPath ? key : importer.path));
+    const other = this.#bundler.replacement(manifest, key);
     if (other !== undefined) {
       return this.#instead(other, importer.path, importer);
     }
     const { name, rest } = packageOf(specifier) ?? {};
     const folder = name === undefined ? undefined : this.#node.packageFolder(name, importer.path);
-    const manifest = folder === undefined ? undefined : this.#manifests.of(folder);
-    const hasMain = rest === "" && typeof manifest?.members.browser === "string" && !manifest.exports;
-    return hasMain ? { found: this.#bundler.inPackage(manifest.folder, "", importer), by: "bundler" } : undefined;
+    const own = folder === undefined ? undefined : this.#manifests.of(folder);
+    const hasMain = rest === "" && typeof own?.members.browser === "string" && !own.exports;
+    return hasMain ? { found: this.#bundler.inPackage(own.folder, "", importer), by: "bundler" } : undefined;
   }
 
   /**
