@@ -26,7 +26,8 @@ const NO_FILE = /^[\w-]+:|\?/;
  * @returns {boolean} whether each edge of esbuild is that of a name
  */
 export function compareEntries(folder, most) {
-  const resolver = createResolver({ root: "/", globalFolders: [folder] });
+  // esbuild sets this condition by itself.
+  const resolver = createResolver({ root: "/", globalFolders: [folder], conditions: ["module"] });
   const all = packagesIn(folder);
   const step = Math.max(1, all.length / most);
   const entries = Array.from({ length: Math.min(most, all.length) }, (_, at) => all[Math.floor(at * step)]);

@@ -30,11 +30,11 @@ const SUBPATHS = [
   "./a/", "./lib/", "./%61", "./l*b.js", "./lib/deep/*", "./__proto__", "./x y", "./c.json",
 ];
 const IMPORTS = ["#a", "#b", "#a/*", "#*", "#a*", "#lib/*.js", "#", "#/", "#/*", "#a/", "#__proto__", "#q", "#fs", "a"];
-// None is empty: node's documentation refuses that as a name, and node looks in `node_modules` itself.
+// None is empty, and none begins with #: node takes `node_modules` itself for the package of that name.
 const TARGETS = [
   "./a.js", "./a", "./b.mjs", "./b.js", "./lib/*.js", "./lib/*", "./*", "./*.js", "./lib/a.js", "../own.js", "/abs.js", "a.js",
   "./node_modules/q/a.js", "./lib/../b.js", "./lib/%2e%2e/b.js", "./%61.js", "./lib%2fa.js", "./a.js?x", "./a.js#y", "./none.js",
-  "./lib", "./lib/", "./", ".", "q", "q/a.js", "q/*", "@s/q", "fs", "node:fs", "node:none", "#a", "https://x.test/y.js",
+  "./lib", "./lib/", "./", ".", "q", "q/a.js", "q/*", "@s/q", "fs", "node:fs", "node:none", "https://x.test/y.js",
   "./x y.js", "./é.js", "./*/*.js", "./lib//a.js", "./c.json", "./index", "./\ta.js", "data:text/javascript,1", "own", "own/a",
 ];
 const MAINS = ["a.js", "./a", "lib", "lib/", "./lib/a.js", "none.js", "none", "", ".", "./", "../p/a.js", "b", "a.js?x", "index", "%61.js"];

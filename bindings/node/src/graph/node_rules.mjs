@@ -4,8 +4,8 @@
  * `require(X) from module at path Y` (https://nodejs.org/api/modules.html#all-together) for a
  * `require`, as node 20.20 has them.
  *
- * Other than node's own, these rules find regular files alone, and go on where a package.json is no
- * JSON.
+ * Other than node's own, these rules find regular files alone, go on where a package.json is no JSON,
+ * and take no empty name and none with # or ? for a package's, of which node takes a part for a path.
  *
  * @typedef {import("./package_manifests.mjs").Format} Mode
  * @typedef {import("./package_manifests.mjs").Manifest} Manifest
