@@ -113,7 +113,7 @@ for (const adapter of ["estree", "typescript"]) {
     const [first, ...others] = stderr.split("\n");
     assert.match(first, new RegExp(`^${name}: lines/d.js:2:9: `));
     const none = `${name}: none.js: no such file or folder`;
-    assert.deepEqual(others, ["let b = ;", `${" ".repeat(8)}^`, none, ""]);
+    assert.deepEqual(others, ["  | let b = ;", `  | ${" ".repeat(8)}^`, none, ""]);
   });
 
   test(`${adapter} reports that its output fails, unless its reader has ended`, () => {

@@ -131,7 +131,7 @@ test("its licence is the repository's, its version the program's and that of the
   assert.deepEqual(optionalDependencies, Object.fromEntries(names.map((name) => [`modinfo-${name}`, version])));
   assert.equal(read("LICENSE"), read("../../LICENSE"));
   assert.match(read("LICENSE"), new RegExp(`^${license} License\n`));
-  assert.ok(read("../../crates/modinfo/src/command_line.rt").includes(`"modinfo ${version}\\n"`));
+  assert.ok(read("../../crates/modinfo/src/help.rt").includes(`"modinfo ${version}\\n"`));
 });
 
 describe("the package", { skip: noNpm && "npm isn't there" }, () => {
@@ -169,7 +169,10 @@ describe("the package", { skip: noNpm && "npm isn't there" }, () => {
   });
 
   test("the README's other programs run", { skip: !parserFolder("acorn") && "there is no acorn" }, () => {
-    const files = folderOf({ "src/main.ts": TEXT, "src/b.ts": "", "src/b.test.ts": "" });
+    const files = folderOf({
+      "package.json": JSON.stringify({ main: "src/main.ts" }),
+      "src/main.ts": TEXT, "src/b.ts": "", "src/b.test.ts": "", "src/c.js": "",
+    });
     symlinkSync(join(folder, "node_modules"), join(files, "node_modules"));
     const [, ofTree, ofGraph, ...others] = blocks("js");
     assert.deepEqual(others, []);
@@ -185,8 +188,9 @@ describe("the package", { skip: noNpm && "npm isn't there" }, () => {
     const graph = outputOf(process.execPath, ["--input-type=module"], { cwd: files, input: `${setUp}
       ${ofGraph}
       await modinfo.close();` });
-    const [main, b] = ["src/main.ts", "src/b.ts"].map((path) => urlOf(files, path));
-    assert.equal(graph, `${b} undefined []\n${main} undefined [ '${b}' ]\n`);
+    const [main, b, c] = ["src/main.ts", "src/b.ts", "src/c.js"].map((path) => urlOf(files, path));
+    const answers = `[ '${c}' ] { cycles: [], typeCycles: [] } [] [] []\n`;
+    assert.equal(graph, `${answers}${b} undefined []\n${c} undefined []\n${main} undefined [ '${b}' ]\n`);
   });
 
   const notBuilt = !existsSync(MODINFO) && "build/modinfo isn't made";
@@ -271,10 +275,10 @@ describe("the package", { skip: noNpm && "npm isn't there" }, () => {
   test("the README's commands of the graph answer in a project", () => {
     const files = folderOf({
       "src/main.ts": `import "./b.js";\nimport "none";\n`, "src/b.ts": `import "./c.js";\n`,
-      "src/c.js": `import "./b.js";\n`, "src/lonely.js": "",
+      "src/c.js": `import "./b.js";\n`, "src/lonely.js": "", "package.json": JSON.stringify({ main: "src/main.ts" }),
     });
     const expected = {
-      "--entry src/main.ts": "src/main.ts\nsrc/b.ts\nsrc/c.js\n",
+      "--entry .": "src/main.ts\nsrc/b.ts\nsrc/c.js\n",
       "--entry src/main.ts --unreached src": "src/lonely.js\n",
       "--cycles src": "src/b.ts -> src/c.js -> src/b.ts\n",
       "--missing src": "src/main.ts:2:8: none: the package none isn't installed\n",
@@ -291,7 +295,8 @@ describe("the package", { skip: noNpm && "npm isn't there" }, () => {
     for (const [words, printed] of Object.entries(expected)) {
       const env = { ...process.env, MODINFO: STAND_IN };
       const { stdout, status } = spawnSync(program, words.split(" "), { cwd: files, env, encoding: "utf8" });
-      assert.equal(status, words === "--cycles src" ? 1 : 0, words);
+      const isFinding = /--(?:cycles|unreached|missing)/.test(words);
+      assert.equal(status, isFinding ? 1 : 0, words);
       if (typeof printed === "string") {
         assert.equal(stdout, printed);
       } else {
