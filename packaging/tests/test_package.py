@@ -82,6 +82,8 @@ def test_owners_times_and_files(first: Path) -> None:
     wanted = set()
     for name in run("tar", "--list", "--gzip", "--file", first / "build" / TARBALL).splitlines():
         path = re.sub(r"^[^/]*", "./usr", name).replace("/lib/", "/lib/x86_64-linux-gnu/")
+        # Debian has another folder for completions of packages.
+        path = path.replace("/zsh/site-functions/", "/zsh/vendor-completions/")
         wanted.add(f"{path}.gz" if "/man/" in path else path)
     found = {row[5] for row in rows}
     others = re.compile(r".*/|.*/\.gz|.*/share/doc/.*")
