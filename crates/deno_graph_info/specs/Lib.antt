@@ -2,6 +2,7 @@ pub mod Comment
 pub mod Conversion
 pub mod Dependency
 pub mod DynamicDependency
+pub mod FaultName
 pub mod ImportAttributes
 pub mod InfoFault
 pub mod Json

@@ -1,5 +1,6 @@
 pub mod ByOffset
 pub mod Comments
+pub mod FaultName
 pub mod FaultPlace
 pub mod MediaType
 pub mod Node

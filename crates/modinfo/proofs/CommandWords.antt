@@ -3,7 +3,11 @@ use Rattle.std.proofs.Common.{
   ◌≡◌,
   ◌&&◌,
   ◌||◌,
+  ◌≤◌,
   ℕ,
+  length,
+  map,
+  arith,
   List,
   [],
   ◌∷◌,
@@ -21,16 +25,18 @@ use Rattle.std.proofs.Common.{
 }
 use Rattle.std.specs.Str.{bytes_eq}
 use Rattle.std.proofs.lemmas.Slice.Eq.{bytes_eq-Decides}
-use Rattle.modinfo.specs.CommandLine.{asks_for, asks_for_help, asks_for_version}
+use Rattle.modinfo.specs.CommandLine.{are_names, asks_for, asks_for_help, asks_for_version, names_have_words}
 use Rattle.modinfo.specs.Commands.{allowed_words, has_strictness, has_words, name_of, needed_words}
 use Rattle.modinfo.specs.Words.{are_among, is_among}
-use Rattle.modinfo.specs.internal.Commands.{asked_command, asked_line}
+use Rattle.modinfo.specs.internal.Commands.{asked_command, asked_line, asked_names}
 use Rattle.modinfo.specs.declared.command.Command.{Command}
 use Rattle.modinfo.specs.declared.command.Command.TheVariants.{Answer, Check}
 use Rattle.modinfo.specs.declared.command_line.CommandLine.{CommandLine}
-use Rattle.modinfo.specs.declared.command_line.CommandLine.TheVariants.{Help, Version, Document, Lines}
+use Rattle.modinfo.specs.declared.command_line.CommandLine.TheVariants.{Help, Version, Document, Lines, Files}
+use Rattle.modinfo.specs.declared.command_line.Names.{Names}
+use Rattle.modinfo.specs.declared.command_line.Names.TheVariants.{Arguments, Zeros, Lines as FromLines}
 use Rattle.modinfo.specs.declared.format.Format.{Format}
-use Rattle.modinfo.specs.declared.format.Format.TheVariants.{Module, Estree, Stored, Modules}
+use Rattle.modinfo.specs.declared.format.Format.TheVariants.{Module, Estree, Source, Stored, Modules}
 
 -- Both tests pass.
 both : (a b : Bool) → (a && b) ≡ true → (a ≡ true) × (b ≡ true)
@@ -101,12 +107,24 @@ strictness format false words is = unset (is_among (codes "--strict") words) is
 asked_command_is : (command : Command) (words : List (List ℕ)) → Words command words
     → asked_command (name_of command) words ≡ command
 asked_command_is (Answer Module) words w =
-    rw (lacks w (codes "convert") refl, lacks w (codes "reach") refl, lacks w (codes "--estree") refl) refl
+    rw (
+      lacks w (codes "convert") refl,
+      lacks w (codes "reach") refl,
+      lacks w (codes "--estree") refl,
+      lacks w (codes "--source") refl,
+    ) refl
 asked_command_is (Answer Estree) words w =
     rw (
       lacks w (codes "convert") refl,
       lacks w (codes "reach") refl,
       needs (codes "--estree") words w.needed,
+    ) refl
+asked_command_is (Answer Source) words w =
+    rw (
+      lacks w (codes "convert") refl,
+      lacks w (codes "reach") refl,
+      lacks w (codes "--estree") refl,
+      needs (codes "--source") words w.needed,
     ) refl
 asked_command_is (Answer Stored) words w = refl
 asked_command_is (Answer Modules) words w = rw (lacks w (codes "convert") refl) refl
@@ -115,6 +133,7 @@ asked_command_is (Check Module is_strict) words w =
       lacks w (codes "convert") refl,
       lacks w (codes "reach") refl,
       lacks w (codes "--estree") refl,
+      lacks w (codes "--source") refl,
       strictness Module is_strict words w.strict,
     ) refl
 asked_command_is (Check Estree is_strict) words w =
@@ -123,6 +142,14 @@ asked_command_is (Check Estree is_strict) words w =
       lacks w (codes "reach") refl,
       needs (codes "--estree") words w.needed,
       strictness Estree is_strict words w.strict,
+    ) refl
+asked_command_is (Check Source is_strict) words w =
+    rw (
+      lacks w (codes "convert") refl,
+      lacks w (codes "reach") refl,
+      lacks w (codes "--estree") refl,
+      needs (codes "--source") words w.needed,
+      strictness Source is_strict words w.strict,
     ) refl
 asked_command_is (Check Stored is_strict) words w =
     rw (needs (codes "convert") words w.needed, strictness Stored is_strict words w.strict) refl
@@ -133,21 +160,32 @@ asked_command_is (Check Modules is_strict) words w =
       strictness Modules is_strict words w.strict,
     ) refl
 
--- No command is named `--help`, `-h`, `--version` or `-V`, and none allows `--help` after its name.
+-- No command is named `--help`, `-h`, `--version`, `-V` or `files`, and none allows `--help` after its name.
 abbrev IsApart : Command → Type 0
 IsApart command = (asks_for_help (name_of command ∷ []) ≡ false)
     × ((asks_for_version (name_of command ∷ []) ≡ false)
-    × (is_among (codes "--help") (allowed_words command) ≡ false))
+    × ((is_among (codes "--help") (allowed_words command) ≡ false)
+    × (bytes_eq (name_of command) (codes "files") ≡ false)))
 
 is_apart : (command : Command) → IsApart command
-is_apart (Answer Module) = (refl, (refl, refl))
-is_apart (Answer Estree) = (refl, (refl, refl))
-is_apart (Answer Stored) = (refl, (refl, refl))
-is_apart (Answer Modules) = (refl, (refl, refl))
-is_apart (Check Module is_strict) = (refl, (refl, refl))
-is_apart (Check Estree is_strict) = (refl, (refl, refl))
-is_apart (Check Stored is_strict) = (refl, (refl, refl))
-is_apart (Check Modules is_strict) = (refl, (refl, refl))
+is_apart (Answer Module) = (refl, (refl, (refl, refl)))
+is_apart (Answer Estree) = (refl, (refl, (refl, refl)))
+is_apart (Answer Source) = (refl, (refl, (refl, refl)))
+is_apart (Answer Stored) = (refl, (refl, (refl, refl)))
+is_apart (Answer Modules) = (refl, (refl, (refl, refl)))
+is_apart (Check Module is_strict) = (refl, (refl, (refl, refl)))
+is_apart (Check Estree is_strict) = (refl, (refl, (refl, refl)))
+is_apart (Check Source is_strict) = (refl, (refl, (refl, refl)))
+is_apart (Check Stored is_strict) = (refl, (refl, (refl, refl)))
+is_apart (Check Modules is_strict) = (refl, (refl, (refl, refl)))
+
+-- Three words or more don't ask for help.
+pub long_asks_nothing : {X : Type 0} (f : X → List ℕ) (xs : List X) → 3 ≤ length xs
+    → asks_for_help (map f xs) ≡ false
+long_asks_nothing f [] long = absurd (omega (arith, long))
+long_asks_nothing f (x ∷ []) long = absurd (omega (arith, long))
+long_asks_nothing f (x ∷ y ∷ []) long = absurd (omega (arith, long))
+long_asks_nothing f (x ∷ y ∷ z ∷ xs) long = refl
 
 -- The only word is another.
 only : (wanted word : List ℕ) → is_among wanted (word ∷ []) ≡ false → bytes_eq word wanted ≡ false
@@ -158,7 +196,7 @@ neither : (command : Command) (words : List (List ℕ)) → Words command words
     → (asks_for_help (name_of command ∷ words) ≡ false) × (asks_for_version (name_of command ∷ words) ≡ false)
 neither command [] w = ((is_apart command).0, (is_apart command).1.0)
 neither command (word ∷ []) w =
-    let helps = lacks w (codes "--help") (is_apart command).1.1 in
+    let helps = lacks w (codes "--help") (is_apart command).1.1.0 in
     (rw (only (codes "--help") word helps) refl, refl)
 neither command (first ∷ second ∷ words) w = (refl, refl)
 
@@ -171,7 +209,12 @@ asked_lines_is command name words is =
     let (named, w) = words_of command name words is in
     subst (λ each. asked_line (each ∷ words)
     ≡ (if is_among (codes "--lines") words then Lines command else Document command)) (sym named)
-    (rw ((neither command words w).0, (neither command words w).1, asked_command_is command words w) refl)
+    (rw (
+      (neither command words w).0,
+      (neither command words w).1,
+      (is_apart command).1.1.1,
+      asked_command_is command words w,
+    ) refl)
 
 -- The second test passes.
 second_holds : (b : Bool) → (false || (b || false)) ≡ true → b ≡ true
@@ -194,6 +237,49 @@ version_only [] is = refl
 version_only (word ∷ []) is = version_word word is
 version_only (first ∷ second ∷ words) is = absurd (cc (is))
 
+-- A name isn't a flag.
+name_apart : (word flag : List ℕ) → are_names (word ∷ []) ≡ true → are_names (flag ∷ []) ≡ false
+    → (same : Bool) → bytes_eq word flag ≡ same → same ≡ false
+name_apart word flag is_name is_flag false is = refl
+name_apart word flag is_name is_flag true is =
+    let equal = (bytes_eq-Decides word flag).0 is in
+    absurd (cc (sym is_name ∙ ap (λ each. are_names (each ∷ [])) equal ∙ is_flag))
+
+asked_names_is : (names : Names) (words : List (List ℕ)) → names_have_words names words ≡ true
+    → asked_names words ≡ names
+asked_names_is FromLines [] is = refl
+asked_names_is FromLines (word ∷ words) is = absurd (cc (is))
+asked_names_is Zeros [] is = absurd (cc (is))
+asked_names_is Zeros (word ∷ []) is = rw is refl
+asked_names_is Zeros (first ∷ second ∷ words) is = absurd (cc (is))
+asked_names_is Arguments [] is = absurd (cc (is))
+asked_names_is Arguments (word ∷ []) is =
+    rw (name_apart word (codes "--null") is refl (bytes_eq word (codes "--null")) refl) refl
+asked_names_is Arguments (first ∷ second ∷ words) is = refl
+
+-- Words after `files` ask neither for help nor for the version.
+files_apart : (names : Names) (words : List (List ℕ)) → names_have_words names words ≡ true
+    → asks_for_help (codes "files" ∷ words) ≡ false
+files_apart FromLines [] is = refl
+files_apart FromLines (word ∷ words) is = absurd (cc (is))
+files_apart Zeros [] is = absurd (cc (is))
+files_apart Zeros (word ∷ []) is = subst (λ each. asks_for_help (codes "files" ∷ each ∷ []) ≡ false)
+    (sym ((bytes_eq-Decides word (codes "--null")).0 is)) refl
+files_apart Zeros (first ∷ second ∷ words) is = absurd (cc (is))
+files_apart Arguments [] is = absurd (cc (is))
+files_apart Arguments (word ∷ []) is =
+    rw (name_apart word (codes "--help") is refl (bytes_eq word (codes "--help")) refl) refl
+files_apart Arguments (first ∷ second ∷ words) is = refl
+
+no_version : (words : List (List ℕ)) → asks_for_version (codes "files" ∷ words) ≡ false
+no_version [] = refl
+no_version (word ∷ words) = refl
+
+files_line_is : (names : Names) (words : List (List ℕ)) → names_have_words names words ≡ true
+    → asked_line (codes "files" ∷ words) ≡ Files names
+files_line_is names words is =
+    rw (files_apart names words is, no_version words, asked_names_is names words is) refl
+
 -- The command line is the one that is asked for.
 pub asked_line_is : (line : CommandLine) (words : List (List ℕ)) → asks_for line words ≡ true
     → asked_line words ≡ line
@@ -209,3 +295,8 @@ asked_line_is (Lines command) [] is = absurd (cc (is))
 asked_line_is (Lines command) (name ∷ words) is =
     let parts = both (is_among (codes "--lines") words) (has_words command name words) is in
     asked_lines_is command name words parts.1 ∙ rw parts.0 refl
+asked_line_is (Files names) [] is = absurd (cc (is))
+asked_line_is (Files names) (name ∷ words) is =
+    let parts = both (bytes_eq name (codes "files")) (names_have_words names words) is in
+    subst (λ each. asked_line (each ∷ words) ≡ Files names)
+    (sym ((bytes_eq-Decides name (codes "files")).0 parts.0)) (files_line_is names words parts.1)

@@ -1,5 +1,5 @@
 -- The faults of a document, by the step that failed.
-use Rattle.std.proofs.Common.{◌≡◌, ◌≢◌, ◌∙◌, ℕ, List, Option, Some, None, refl, subst, sym}
+use Rattle.std.proofs.Common.{◌≡◌, ◌≢◌, ◌∙◌, inl, inr, ℕ, List, Option, Some, None, refl, subst, sym}
 use Rattle.std.proofs.Common.{Result, Ok, Err, MatchResult, String, Global, string_bytes}
 use Rattle.serde_json.specs.Data.{Data, Members}
 use Rattle.serde_json.specs.Read.{read as read_text}
@@ -22,6 +22,7 @@ use Rattle.modinfo.specs.Answer.{
   IsNoModule,
   IsNoReach,
 }
+use Rattle.modinfo.specs.Source.{IsNoTextInfo}
 use Rattle.modinfo.specs.internal.Answer.{IsReadFailure}
 use Rattle.modinfo.specs.internal.Convert.{IsConvertedValue, IsNoConvertedValue}
 use Rattle.modinfo.specs.Run.{IsNoResult, IsRunFault}
@@ -37,6 +38,7 @@ use Rattle.modinfo.specs.declared.fault.Fault.TheVariants.{
   Json,
   Tree,
   Specifier,
+  Syntax,
   Source,
   Convert,
   Info,
@@ -44,7 +46,7 @@ use Rattle.modinfo.specs.declared.fault.Fault.TheVariants.{
   OutOfMemory,
 }
 use Rattle.modinfo.specs.declared.format.Format.{Format}
-use Rattle.modinfo.specs.declared.format.Format.TheVariants.{Module, Estree, Stored, Modules}
+use Rattle.modinfo.specs.declared.format.Format.TheVariants.{Module, Estree, Source, Stored, Modules}
 
 -- A text of which no flat list can be made isn't converted.
 pub no_converted_tape : (text : List ℕ) (inner : TapeError)
@@ -77,6 +79,7 @@ converts_text text before (Err Input) read h = absurd h
 converts_text text before (Err Json) read h = absurd h
 converts_text text before (Err Tree) read h = absurd h
 converts_text text before (Err Specifier) read h = absurd h
+converts_text text before (Err Syntax) read h = absurd h
 converts_text text before (Err (Source inner)) read h = absurd h
 converts_text text before (Err (Info inner)) read h = absurd h
 converts_text text before (Err Output) read h = absurd h
@@ -87,6 +90,7 @@ no_reach text Input none = none
 no_reach text Json none = none
 no_reach text Tree none = none
 no_reach text Specifier none = none
+no_reach text Syntax none = none
 no_reach text (Source inner) none = none
 no_reach text (Convert inner) none = none
 no_reach text (Info inner) none = absurd none
@@ -101,6 +105,7 @@ asks_nothing text value Input read none = absurd none
 asks_nothing text value Json read none = absurd none
 asks_nothing text value Tree read none = absurd none
 asks_nothing text value Specifier read none = absurd none
+asks_nothing text value Syntax read none = absurd none
 asks_nothing text value (Source inner) read none = absurd none
 asks_nothing text value (Convert inner) read none = absurd none
 asks_nothing text value Output read none = absurd none
@@ -146,6 +151,7 @@ no_modules value question Input asks none = absurd none
 no_modules value question Json asks none = absurd none
 no_modules value question Tree asks none = absurd none
 no_modules value question Specifier asks none = absurd none
+no_modules value question Syntax asks none = absurd none
 no_modules value question (Source inner) asks none = absurd none
 no_modules value question (Convert inner) asks none = absurd none
 no_modules value question Output asks none = absurd none
@@ -159,6 +165,7 @@ question_fault value Input apart none = absurd none
 question_fault value Json apart none = absurd none
 question_fault value Tree apart none = absurd none
 question_fault value Specifier apart none = absurd none
+question_fault value Syntax apart none = absurd none
 question_fault value (Source inner) apart none = absurd none
 question_fault value (Convert inner) apart none = absurd none
 question_fault value Output apart none = absurd none
@@ -170,6 +177,7 @@ run_fault command document Input has = tt
 run_fault command document Json has = has
 run_fault command document Tree has = has
 run_fault command document Specifier has = has
+run_fault command document Syntax has = has
 run_fault command document (Source inner) has = has
 run_fault command document (Convert inner) has = has
 run_fault command document (Info inner) has = has
@@ -180,6 +188,7 @@ run_fault command document OutOfMemory has = has
 no_memory : (format : Format) (document : List ℕ) → IsDocumentFault format document OutOfMemory
 no_memory Module document = tt
 no_memory Estree document = tt
+no_memory Source document = inl tt
 no_memory Stored document = tt
 no_memory Modules document = tt
 
@@ -196,6 +205,7 @@ failed_read command document OutOfMemory failed = run_without_memory command doc
 failed_read command document Json failed = absurd failed
 failed_read command document Tree failed = absurd failed
 failed_read command document Specifier failed = absurd failed
+failed_read command document Syntax failed = absurd failed
 failed_read command document (Source inner) failed = absurd failed
 failed_read command document (Convert inner) failed = absurd failed
 failed_read command document (Info inner) failed = absurd failed
@@ -218,6 +228,11 @@ module_apart reads document (error.Specifier, is, has) = cc (is)
 module_apart reads document (error.Source inner, is, has) = cc (is)
 module_apart reads document (error.OutOfMemory, is, has) = cc (is)
 
+-- No information on a text is missing because a write failed.
+text_apart : (document : List ℕ) → ¬ IsNoTextInfo document Output
+text_apart document (inl none) = none
+text_apart document (inr (text, is, none)) = none
+
 -- No result is missing because a write failed.
 pub result_apart : (command : Command) (document : List ℕ) (fault : Fault) → IsNoResult command document fault
     → fault ≢ Output
@@ -225,6 +240,8 @@ result_apart (Answer Module) document fault has same =
     module_apart reads_document document (subst (IsNoModule reads_document document) same has)
 result_apart (Answer Estree) document fault has same =
     module_apart reads_estree document (subst (IsNoModule reads_estree document) same has)
+result_apart (Answer Source) document fault has same =
+    text_apart document (subst (IsNoTextInfo document) same has)
 result_apart (Answer Stored) document fault has same = subst (IsNoConversion document) same has
 result_apart (Answer Modules) document fault has same = subst (IsNoReach document) same has
 result_apart (Check format is_strict) document fault has same = cc (sym has ∙ same)

@@ -5,6 +5,7 @@ mod LinesTaken
 mod GivenWords
 pub mod Modules
 mod Outputs
+mod Texts
 pub mod StoredModules
 pub mod StoredOverflow
 pub mod Written

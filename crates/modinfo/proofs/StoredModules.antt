@@ -43,13 +43,13 @@ use Rattle.deno_graph_info.specs.Json.ModuleInfo.{reads_info}
 use Rattle.deno_graph_info.specs.declared.analysis.fault.InfoFault.{InfoFault}
 use Rattle.deno_graph_info.specs.declared.analysis.fault.InfoFault.TheVariants as info
 use Rattle.deno_graph_info.specs.declared.analysis.module_info.ModuleInfo.{ModuleInfo}
-use Rattle.modinfo.specs.Check.{AsksNone, AsksSome}
+use Rattle.modinfo.specs.Check.{AsksSome}
 use Rattle.modinfo.specs.Reach.{IsFirstFault, IsQuestionFault, reads_question, reads_stored}
 use Rattle.modinfo.specs.internal.Reach.{reads_modules, reads_stored_info}
 use Rattle.modinfo.specs.declared.reach.StoredInfo.{StoredInfo}
 
 -- A fault other than a failed allocation.
-abbrev HasFault : (InfoFault → Type 0) → Type 0
+abbrev pub HasFault : (InfoFault → Type 0) → Type 0
 HasFault IsFault = (inner : InfoFault) × (inner ≢ info.OutOfMemory) × IsFault inner
 
 -- ---- One module
@@ -99,6 +99,10 @@ all_modules no_members = inl ([], refl, refl)
 all_modules (member key d ms) = one_more key d ms (one_module d) (all_modules ms)
 
 -- ---- The document
+
+-- The value has a fault as a document of `reach`.
+abbrev pub AsksNone : Data → Type 0
+AsksNone value = HasFault (IsQuestionFault value)
 
 -- The modules and the root that are read at once are those of the document. If none are read, there is a
 -- fault.

@@ -3,9 +3,14 @@ use Rattle.std.proofs.Common.{◌≡◌, ◌↔◌, Option, Some, None, Result, 
 use Rattle.std.proofs.Common.{⊎_elim}
 use Rattle.serde_json.specs.Data.{Data, Items, no_items, item}
 use Rattle.serde_json.specs.Written.{has_float}
-use Rattle.deno_graph_info.specs.Conversion.{AnyOverflows, DependencyOverflows, Overflows, dependencies_in}
+use Rattle.deno_graph_info.specs.Conversion.{
+  AnyOverflows,
+  DependencyOverflows,
+  IsConvertFault,
+  Overflows,
+  dependencies_in,
+}
 use Rattle.deno_graph_info.specs.declared.conversion.fault.ConvertFault.TheVariants as convert
-use Rattle.modinfo.specs.Check.{CannotBeConverted}
 
 -- All items have an overflow exactly where those that are left have one.
 abbrev pub IsLeft : Items → Items → Type 0
@@ -32,8 +37,9 @@ overflows_of d old is = rw is ((λ h. h), (λ h. h))
 pub overflows_none : (d : Data) → dependencies_in d ≡ None → Overflows d → ⊥
 overflows_none d is h = rw is at h
 
-pub column_fault : (d : Data) → has_float d ≡ false → Overflows d → CannotBeConverted d
-column_fault d none over = (convert.ColumnOverflow, (λ same. cc (same)), (none, over))
+pub column_fault : (d : Data) → has_float d ≡ false → Overflows d
+    → IsConvertFault d convert.ColumnOverflow
+column_fault d none over = (none, over)
 
 -- Before the first item all are left.
 pub left_all : (all left : Items) → left ≡ all → IsLeft all left

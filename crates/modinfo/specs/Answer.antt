@@ -11,26 +11,30 @@ use Rattle.deno_graph_info.specs.Json.ModuleInfo.{json_of_info}
 use Rattle.deno_graph_info.specs.declared.analysis.module_info.ModuleInfo.{ModuleInfo}
 use Rattle.deno_graph_info.specs.declared.conversion.fault.ConvertFault.TheVariants as convert
 use Rattle.deno_graph_module_info.specs.InfoOfModule.{IsInfoOfModule}
-use Rattle.modinfo_document.specs.Check.{IsInvalidIn, IsValidIn}
+use Rattle.modinfo_document.specs.Check.{IsFaultReport, IsValidIn, points_in_module, points_nowhere}
 use Rattle.modinfo_document.specs.Document.{Contents, HasErrorIn, IsDocumentIn, IsSourceOf, reads_document}
 use Rattle.modinfo_estree.specs.Document.{reads_estree}
-use Rattle.modinfo_document.specs.Report.{MatchReport}
 use Rattle.modinfo_document.specs.declared.document.Document.{Document}
 use Rattle.modinfo_document.specs.declared.error.DocumentError.{DocumentError}
+use Rattle.modinfo_document.specs.declared.report.FaultReport.{FaultReport}
 use Rattle.modinfo_document.specs.declared.report.Report.{Report}
 use Rattle.modinfo.specs.Check.{
   IsConvertibleText,
-  IsNoConvertibleText,
-  IsNoQuestionText,
+  IsQuestionFaultReport,
   IsQuestionText,
+  IsSourceFaultReport,
+  IsStoredFaultReport,
+  OfReport,
+  ReportsEncoding,
 }
 use Rattle.modinfo.specs.declared.fault.Fault.{Fault}
 use Rattle.modinfo.specs.declared.fault.Fault.TheVariants.{Input, Json, OutOfMemory}
 use Rattle.modinfo.specs.declared.fault.Fault.TheVariants as fault_of
 use Rattle.modinfo.specs.declared.format.Format.{Format}
-use Rattle.modinfo.specs.declared.format.Format.TheVariants.{Module, Estree, Stored, Modules}
+use Rattle.modinfo.specs.declared.format.Format.TheVariants.{Module, Estree, Source, Stored, Modules}
 use Rattle.modinfo.specs.Fault.{fault_of_document}
 use Rattle.modinfo.specs.Reach.{IsNoQuestion, IsReachText}
+use Rattle.modinfo.specs.Source.{IsNoTextInfo, IsSourceDocument, IsTextInfo}
 
 -- The text is a document of a form, and the module is its source. `reads` reads the contents of a document
 -- from JSON of the form.
@@ -90,6 +94,7 @@ IsNoReach document fault = IsNoJson document fault
 abbrev pub IsAnswerText : Format → List ℕ → List ℕ → Type 0
 IsAnswerText Module document text = IsInfoText reads_document document text
 IsAnswerText Estree document text = IsInfoText reads_estree document text
+IsAnswerText Source document text = IsTextInfo document text
 IsAnswerText Stored document text = IsConvertedText document text
 IsAnswerText Modules document text = IsReachText document text
 
@@ -97,6 +102,7 @@ IsAnswerText Modules document text = IsReachText document text
 abbrev pub IsDocumentFault : Format → List ℕ → Fault → Type 0
 IsDocumentFault Module document fault = IsNoModule reads_document document fault
 IsDocumentFault Estree document fault = IsNoModule reads_estree document fault
+IsDocumentFault Source document fault = IsNoTextInfo document fault
 IsDocumentFault Stored document fault = IsNoConversion document fault
 IsDocumentFault Modules document fault = IsNoReach document fault
 
@@ -104,17 +110,24 @@ IsDocumentFault Modules document fault = IsNoReach document fault
 abbrev pub IsValidDocument : Format → List ℕ → Type 0
 IsValidDocument Module document = IsValidIn reads_document document
 IsValidDocument Estree document = IsValidIn reads_estree document
+IsValidDocument Source document = IsSourceDocument document
 IsValidDocument Stored document = IsConvertibleText document
 IsValidDocument Modules document = IsQuestionText document
 
--- The bytes aren't UTF-8, or the text has a fault as a document of the format.
-abbrev pub IsFaultyDocument : Format → List ℕ → Type 0
-IsFaultyDocument Module document = (¬ IsUtf8 document) ⊎ IsInvalidIn reads_document document
-IsFaultyDocument Estree document = (¬ IsUtf8 document) ⊎ IsInvalidIn reads_estree document
-IsFaultyDocument Stored document = (¬ IsUtf8 document) ⊎ IsNoConvertibleText document
-IsFaultyDocument Modules document = (¬ IsUtf8 document) ⊎ IsNoQuestionText document
+-- The text has a fault as a document of the format, and the report has the fault's name and its place.
+abbrev pub ReportsTextFault : Format → List ℕ → FaultReport → Type 0
+ReportsTextFault Module text report = IsFaultReport reads_document points_in_module text report
+ReportsTextFault Estree text report = IsFaultReport reads_estree points_nowhere text report
+ReportsTextFault Source text report = IsSourceFaultReport text report
+ReportsTextFault Stored text report = IsStoredFaultReport text report
+ReportsTextFault Modules text report = IsQuestionFaultReport text report
 
--- The report on a document is `Valid` only if the document has no fault, `Invalid` only if it has one.
+-- The report says that the bytes aren't UTF-8, or which fault the text has and where.
+abbrev pub IsFaultReportOn : Format → List ℕ → FaultReport → Type 0
+IsFaultReportOn format document report = ((¬ IsUtf8 document) × ReportsEncoding document report)
+    ⊎ ReportsTextFault format document report
+
+-- The report on a document is `Valid` only if the document has no fault, `Invalid` only with a fault of the
+-- document, its name and its place.
 abbrev pub IsReportOn : Format → List ℕ → Report → Type 0
-IsReportOn format document =
-    MatchReport (IsValidDocument format document) (IsFaultyDocument format document)
+IsReportOn format document = OfReport (IsValidDocument format document) (IsFaultReportOn format document)

@@ -1,57 +1,121 @@
--- When a report on a document of `convert` or `reach` is right.
-use Rattle.std.specs.Prelude.{◌≡◌, ◌≢◌, ◌⊎◌, ℕ, List, None, Some, false}
+-- When a report on a document of `convert`, of `reach` or of `analyze --source` is right.
+use Rattle.std.specs.Prelude.{◌≡◌, ◌≢◌, ◌⊎◌, ℕ, List, codes, None, Some, false}
 use Rattle.serde_json.specs.Data.{Data}
 use Rattle.serde_json.specs.Read.{read as read_text}
 use Rattle.serde_json.specs.Written.{has_float}
 use Rattle.deno_graph_info.specs.Conversion.{IsConverted, IsConvertFault}
+use Rattle.deno_graph_info.specs.FaultName.{convert_fault_name, info_fault_name}
 use Rattle.deno_graph_info.specs.declared.analysis.fault.InfoFault.{InfoFault}
 use Rattle.deno_graph_info.specs.declared.analysis.fault.InfoFault.TheVariants.{OutOfMemory as NoMemory}
 use Rattle.deno_graph_info.specs.declared.analysis.module_info.ModuleInfo.{ModuleInfo}
 use Rattle.deno_graph_info.specs.declared.conversion.fault.ConvertFault.{ConvertFault}
 use Rattle.deno_graph_info.specs.declared.conversion.fault.ConvertFault.TheVariants as convert
-use Rattle.modinfo_document.specs.Report.{MatchReport}
+use Rattle.modinfo_document.specs.Report.{HasTextPlace, IsNamed, PointsInto}
+use Rattle.modinfo_document.specs.declared.report.FaultReport.{FaultReport}
 use Rattle.modinfo_document.specs.declared.report.Report.{Report}
+use Rattle.modinfo_document.specs.declared.report.Report.TheVariants.{Valid, Invalid}
+use Rattle.modinfo.specs.Fault.{name_of_fault}
 use Rattle.modinfo.specs.Reach.{Asks, IsQuestionFault}
+use Rattle.modinfo.specs.Source.{CanBeParsed, IsNoInfoOfText, reads_text}
+use Rattle.modinfo.specs.declared.fault.Fault.{Fault}
+use Rattle.modinfo.specs.declared.fault.Fault.TheVariants.{OutOfMemory}
+use Rattle.modinfo.specs.declared.source.SourceText.{SourceText}
+
+-- The first holds where the report is `Valid`, the second of the report on a fault.
+abbrev pub OfReport : Type 0 → (FaultReport → Type 0) → Report → Type 0
+OfReport WhenValid WhenInvalid (Valid warnings) = WhenValid
+OfReport WhenValid WhenInvalid (Invalid report) = WhenInvalid report
 
 -- The value can be converted: it has no float, and there is a converted value.
 abbrev pub CanBeConverted : Data → Type 0
 CanBeConverted before = (has_float before ≡ false) × ((after : Data) × IsConverted before after)
 
--- The value has a fault as stored information.
-abbrev pub CannotBeConverted : Data → Type 0
-CannotBeConverted before = (fault : ConvertFault) × (fault ≢ convert.OutOfMemory)
-    × IsConvertFault before fault
-
 -- The text is JSON that can be converted.
 abbrev pub IsConvertibleText : List ℕ → Type 0
 IsConvertibleText text = (before : Data) × (read_text text ≡ Some before) × CanBeConverted before
 
--- The text isn't JSON, or is JSON that can't be converted.
-abbrev pub IsNoConvertibleText : List ℕ → Type 0
-IsNoConvertibleText text = (read_text text ≡ None)
-    ⊎ ((before : Data) × (read_text text ≡ Some before) × CannotBeConverted before)
+-- The text isn't JSON, and the report says so, with a place in the text.
+pub record ReportsNoJson (text : List ℕ) (report : FaultReport) : Type 0 where
+  pub no_json : read_text text ≡ None
+  pub name : IsNamed (codes "Json") report
+  pub place : HasTextPlace text report
 
--- `Valid` is returned only for a text that can be converted, `Invalid` only for one that can't.
+-- The report says that the bytes aren't UTF-8, with a place in them.
+pub record ReportsEncoding (bytes : List ℕ) (report : FaultReport) : Type 0 where
+  pub name : IsNamed (codes "Input") report
+  pub place : HasTextPlace bytes report
+
+-- The value has a fault as stored information, and the report has the fault's name; for a float also its
+-- path.
+pub record ReportsStored (value : Data) (report : FaultReport) : Type 0 where
+  pub fault : ConvertFault
+  pub no_memory : fault ≢ convert.OutOfMemory
+  pub has_fault : IsConvertFault value fault
+  pub name : IsNamed (convert_fault_name fault) report
+  pub place : fault ≡ convert.Float → PointsInto value report
+
+-- The text isn't JSON, or its value has a fault; and the report says which.
+abbrev pub IsStoredFaultReport : List ℕ → FaultReport → Type 0
+IsStoredFaultReport text report = ReportsNoJson text report
+    ⊎ ((value : Data) × (read_text text ≡ Some value) × ReportsStored value report)
+
+-- `Valid` is returned only for a text that can be converted, `Invalid` only with a fault of the text.
 abbrev pub ReportsOnStored : List ℕ → Report → Type 0
-ReportsOnStored text = MatchReport (IsConvertibleText text) (IsNoConvertibleText text)
+ReportsOnStored text = OfReport (IsConvertibleText text) (IsStoredFaultReport text)
 
 -- The value has modules and a root.
 abbrev pub AsksSome : Data → Type 0
 AsksSome value = (modules : List (List ℕ × ModuleInfo)) × (root : List ℕ) × Asks value modules root
 
--- The value has a fault as a document of `reach`.
-abbrev pub AsksNone : Data → Type 0
-AsksNone value = (fault : InfoFault) × (fault ≢ NoMemory) × IsQuestionFault value fault
-
 -- The text is JSON with modules and a root.
 abbrev pub IsQuestionText : List ℕ → Type 0
 IsQuestionText text = (value : Data) × (read_text text ≡ Some value) × AsksSome value
 
--- The text isn't JSON, or is JSON with a fault as a document of `reach`.
-abbrev pub IsNoQuestionText : List ℕ → Type 0
-IsNoQuestionText text = (read_text text ≡ None)
-    ⊎ ((value : Data) × (read_text text ≡ Some value) × AsksNone value)
+-- The value has a fault as a document of `reach`. The report has the fault's name, and the path of a value
+-- that isn't what the report expects there.
+pub record ReportsQuestion (value : Data) (report : FaultReport) : Type 0 where
+  pub fault : InfoFault
+  pub no_memory : fault ≢ NoMemory
+  pub has_fault : IsQuestionFault value fault
+  pub name : IsNamed (info_fault_name fault) report
+  pub place : PointsInto value report
 
--- `Valid` is returned only for a document of `reach`, `Invalid` only for a text with a fault as one.
+-- The text isn't JSON, or its value has a fault; and the report says which.
+abbrev pub IsQuestionFaultReport : List ℕ → FaultReport → Type 0
+IsQuestionFaultReport text report = ReportsNoJson text report
+    ⊎ ((value : Data) × (read_text text ≡ Some value) × ReportsQuestion value report)
+
+-- `Valid` is returned only for a document of `reach`, `Invalid` only with a fault of the text.
 abbrev pub ReportsOnQuestion : List ℕ → Report → Type 0
-ReportsOnQuestion text = MatchReport (IsQuestionText text) (IsNoQuestionText text)
+ReportsOnQuestion text = OfReport (IsQuestionText text) (IsQuestionFaultReport text)
+
+-- The text can't be parsed, and the report has the name of its fault.
+pub record ReportsUnparsed (text : SourceText) (report : FaultReport) : Type 0 where
+  pub fault : Fault
+  pub no_memory : fault ≢ OutOfMemory
+  pub has_fault : IsNoInfoOfText text fault
+  pub name : IsNamed (name_of_fault fault) report
+
+-- `Valid` is returned only for a text that can be parsed, `Invalid` only with a fault of the text.
+abbrev pub ReportsOnText : SourceText → Report → Type 0
+ReportsOnText text = OfReport (CanBeParsed text) (ReportsUnparsed text)
+
+-- The value has no text. The report says so, and has the path of a value that isn't what it expects there.
+pub record ReportsNoText (value : Data) (report : FaultReport) : Type 0 where
+  pub no_text : reads_text value ≡ None
+  pub name : IsNamed (codes "Tree") report
+  pub place : PointsInto value report
+
+-- The value has a text that can be parsed.
+abbrev pub HasParsedText : Data → Type 0
+HasParsedText value = (text : SourceText) × (reads_text value ≡ Some text) × CanBeParsed text
+
+-- The value has no text, or one that can't be parsed; and the report says which.
+abbrev pub IsTextFaultReport : Data → FaultReport → Type 0
+IsTextFaultReport value report = ReportsNoText value report
+    ⊎ ((text : SourceText) × (reads_text value ≡ Some text) × ReportsUnparsed text report)
+
+-- The document isn't JSON, or its value has a fault; and the report says which.
+abbrev pub IsSourceFaultReport : List ℕ → FaultReport → Type 0
+IsSourceFaultReport document report = ReportsNoJson document report
+    ⊎ ((value : Data) × (read_text document ≡ Some value) × IsTextFaultReport value report)

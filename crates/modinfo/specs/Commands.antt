@@ -20,12 +20,13 @@ use Rattle.std.specs.Str.{bytes_eq}
 use Rattle.modinfo.specs.Words.{are_among, are_distinct, is_among}
 use Rattle.modinfo.specs.declared.command.Command.{Command}
 use Rattle.modinfo.specs.declared.command.Command.TheVariants.{Answer, Check}
-use Rattle.modinfo.specs.declared.format.Format.TheVariants.{Module, Estree, Stored, Modules}
+use Rattle.modinfo.specs.declared.format.Format.TheVariants.{Module, Estree, Source, Stored, Modules}
 
 -- The first word of a command.
 abbrev pub name_of : Command → List ℕ
 name_of (Answer Module) = codes "analyze"
 name_of (Answer Estree) = codes "analyze"
+name_of (Answer Source) = codes "analyze"
 name_of (Answer Stored) = codes "convert"
 name_of (Answer Modules) = codes "reach"
 name_of (Check format is_strict) = codes "check"
@@ -34,10 +35,12 @@ name_of (Check format is_strict) = codes "check"
 abbrev pub needed_words : Command → List (List ℕ)
 needed_words (Answer Module) = []
 needed_words (Answer Estree) = codes "--estree" ∷ []
+needed_words (Answer Source) = codes "--source" ∷ []
 needed_words (Answer Stored) = []
 needed_words (Answer Modules) = []
 needed_words (Check Module is_strict) = []
 needed_words (Check Estree is_strict) = codes "--estree" ∷ []
+needed_words (Check Source is_strict) = codes "--source" ∷ []
 needed_words (Check Stored is_strict) = codes "convert" ∷ []
 needed_words (Check Modules is_strict) = codes "reach" ∷ []
 
@@ -45,11 +48,14 @@ needed_words (Check Modules is_strict) = codes "reach" ∷ []
 abbrev pub allowed_words : Command → List (List ℕ)
 allowed_words (Answer Module) = codes "--lines" ∷ []
 allowed_words (Answer Estree) = codes "--estree" ∷ codes "--lines" ∷ []
+allowed_words (Answer Source) = codes "--source" ∷ codes "--lines" ∷ []
 allowed_words (Answer Stored) = codes "--lines" ∷ []
 allowed_words (Answer Modules) = codes "--lines" ∷ []
 allowed_words (Check Module is_strict) = codes "analyze" ∷ codes "--lines" ∷ codes "--strict" ∷ []
 allowed_words (Check Estree is_strict) =
     codes "analyze" ∷ codes "--estree" ∷ codes "--lines" ∷ codes "--strict" ∷ []
+allowed_words (Check Source is_strict) =
+    codes "analyze" ∷ codes "--source" ∷ codes "--lines" ∷ codes "--strict" ∷ []
 allowed_words (Check Stored is_strict) = codes "convert" ∷ codes "--lines" ∷ codes "--strict" ∷ []
 allowed_words (Check Modules is_strict) = codes "reach" ∷ codes "--lines" ∷ codes "--strict" ∷ []
 
@@ -78,4 +84,6 @@ command_at number =
     else if number == 5 then Some (Check Modules false)
     else if number == 6 then Some (Answer Estree)
     else if number == 7 then Some (Check Estree false)
+    else if number == 8 then Some (Answer Source)
+    else if number == 9 then Some (Check Source false)
     else None

@@ -1,7 +1,9 @@
 -- The faults of the program: from the errors of the libraries, and to the printed names.
 use Rattle.std.specs.Prelude.{ℕ, List, codes}
-use Rattle.deno_graph_source.specs.declared.tree.fault.SourceFault.{SourceFault}
-use Rattle.deno_graph_source.specs.declared.tree.fault.SourceFault.TheVariants as source
+use Rattle.deno_graph_info.specs.FaultName.{convert_fault_name, info_fault_name}
+use Rattle.deno_graph_source.specs.FaultName.{fault_name}
+use Rattle.deno_graph_source.specs.declared.tree.parse_error.ParseError.{ParseError}
+use Rattle.deno_graph_source.specs.declared.tree.parse_error.ParseError.TheVariants as parse
 use Rattle.deno_graph_json.specs.declared.flat.error.TapeError.{TapeError}
 use Rattle.deno_graph_json.specs.declared.flat.error.TapeError.TheVariants as tape
 use Rattle.modinfo_document.specs.declared.error.DocumentError.{DocumentError}
@@ -16,6 +18,7 @@ use Rattle.modinfo.specs.declared.fault.Fault.TheVariants.{
   Json,
   Tree,
   Specifier,
+  Syntax,
   Source,
   Convert,
   Info,
@@ -36,6 +39,11 @@ fault_of_document error.Specifier = Specifier
 fault_of_document (error.Source fault) = Source fault
 fault_of_document error.OutOfMemory = OutOfMemory
 
+-- The fault for an error of the parser.
+abbrev pub fault_of_parse : ParseError → Fault
+fault_of_parse (parse.Diagnostic diagnostic) = Syntax
+fault_of_parse parse.OutOfMemory = OutOfMemory
+
 -- The fault for an error of the conversion.
 abbrev pub fault_of_conversion : ConvertFault → Fault
 fault_of_conversion convert.OutOfMemory = OutOfMemory
@@ -46,36 +54,15 @@ abbrev pub fault_of_info : InfoFault → Fault
 fault_of_info info.OutOfMemory = OutOfMemory
 fault_of_info fault = Info fault
 
--- The printed names of the faults of a source.
-abbrev pub name_of_source : SourceFault → List ℕ
-name_of_source source.RangeReversed = codes "RangeReversed"
-name_of_source source.RangeOutside = codes "RangeOutside"
-name_of_source source.RangeOffBoundary = codes "RangeOffBoundary"
-name_of_source source.CommentText = codes "CommentText"
-name_of_source source.CommentsOverlap = codes "CommentsOverlap"
-name_of_source source.Shape = codes "Shape"
-name_of_source source.OutOfMemory = codes "OutOfMemory"
-
--- The printed names of the faults of a conversion.
-abbrev pub name_of_conversion : ConvertFault → List ℕ
-name_of_conversion convert.ColumnOverflow = codes "ColumnOverflow"
-name_of_conversion convert.Float = codes "Float"
-name_of_conversion convert.OutOfMemory = codes "OutOfMemory"
-
--- The printed names of the faults of information.
-abbrev pub name_of_info : InfoFault → List ℕ
-name_of_info info.Shape = codes "Shape"
-name_of_info info.Float = codes "Float"
-name_of_info info.OutOfMemory = codes "OutOfMemory"
-
 -- The printed name of a fault.
 abbrev pub name_of_fault : Fault → List ℕ
 name_of_fault Input = codes "Input"
 name_of_fault Json = codes "Json"
 name_of_fault Tree = codes "Tree"
 name_of_fault Specifier = codes "Specifier"
-name_of_fault (Source fault) = name_of_source fault
-name_of_fault (Convert fault) = name_of_conversion fault
-name_of_fault (Info fault) = name_of_info fault
+name_of_fault Syntax = codes "Syntax"
+name_of_fault (Source fault) = fault_name fault
+name_of_fault (Convert fault) = convert_fault_name fault
+name_of_fault (Info fault) = info_fault_name fault
 name_of_fault Output = codes "Output"
 name_of_fault OutOfMemory = codes "OutOfMemory"

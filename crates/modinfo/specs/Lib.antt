@@ -6,5 +6,6 @@ pub mod Fault
 pub mod Lines
 pub mod Reach
 pub mod Run
+pub mod Source
 pub mod Words
 pub mod internal

@@ -28,6 +28,7 @@ use Rattle.modinfo.specs.declared.fault.Fault.TheVariants.{
   Json,
   Tree,
   Specifier,
+  Syntax,
   Source,
   Convert,
   Info,
@@ -50,6 +51,7 @@ IsFailure Input = Unit {0}
 IsFailure Json = ⊥
 IsFailure Tree = ⊥
 IsFailure Specifier = ⊥
+IsFailure Syntax = ⊥
 IsFailure (Source fault) = ⊥
 IsFailure (Convert fault) = ⊥
 IsFailure (Info fault) = ⊥

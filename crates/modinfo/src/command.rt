@@ -14,7 +14,7 @@ use crate::words::{are_among, are_distinct, is_among};
 use std::alloc::{AllocError, Global};
 
 /// The first words of all commands.
-pub const NAMES: &[&str] = &["analyze", "convert", "reach", "check"];
+pub const NAMES: &[&str] = &["analyze", "convert", "reach", "check", "files"];
 
 /// What the program does with each document.
 #[derive(Debug, Clone, Copy, PartialEq, Eq)]
@@ -48,6 +48,8 @@ impl Command {
             5 => Some(check_of(Format::Modules)),
             6 => Some(Command::Answer(Format::Estree)),
             7 => Some(check_of(Format::Estree)),
+            8 => Some(Command::Answer(Format::Source)),
+            9 => Some(check_of(Format::Source)),
             _ => None,
         }
     }
@@ -68,7 +70,7 @@ impl Command {
         ensures { result.now ≡ name_of self }
     {
         match self {
-            Command::Answer(Format::Module | Format::Estree) => "analyze",
+            Command::Answer(Format::Module | Format::Estree | Format::Source) => "analyze",
             Command::Answer(Format::Stored) => "convert",
             Command::Answer(Format::Modules) => "reach",
             Command::Check { .. } => "check",
@@ -81,10 +83,12 @@ impl Command {
     {
         match self {
             Command::Answer(Format::Estree) => &["--estree"],
+            Command::Answer(Format::Source) => &["--source"],
             Command::Answer(_) => &[],
             Command::Check { format, .. } => match format {
                 Format::Module => &[],
                 Format::Estree => &["--estree"],
+                Format::Source => &["--source"],
                 Format::Stored => &["convert"],
                 Format::Modules => &["reach"],
             },
@@ -97,10 +101,12 @@ impl Command {
     {
         match self {
             Command::Answer(Format::Estree) => &["--estree", "--lines"],
+            Command::Answer(Format::Source) => &["--source", "--lines"],
             Command::Answer(_) => &["--lines"],
             Command::Check { format, .. } => match format {
                 Format::Module => &["analyze", "--lines", "--strict"],
                 Format::Estree => &["analyze", "--estree", "--lines", "--strict"],
+                Format::Source => &["analyze", "--source", "--lines", "--strict"],
                 Format::Stored => &["convert", "--lines", "--strict"],
                 Format::Modules => &["reach", "--lines", "--strict"],
             },
@@ -153,6 +159,8 @@ fn asked_format(name: &str, words: &[&str]) -> Format
         Format::Modules
     } else if is_among("--estree", words) {
         Format::Estree
+    } else if is_among("--source", words) {
+        Format::Source
     } else {
         Format::Module
     }

@@ -1,8 +1,9 @@
 //! The arguments of the program.
 
 ghost use Rattle.std.specs.Prelude.{◌≡◌, ◌↔◌, IsTrue, map, Some};
-ghost use Rattle.modinfo.specs.CommandLine.{asks_for_help, asks_for_version, asks_for};
-ghost use Rattle.modinfo.specs.internal.Commands.{asked_line};
+ghost use Rattle.modinfo.specs.CommandLine.{are_names, asks_for, asks_for_help, asks_for_version, command_names, names_have_words};
+ghost use Rattle.modinfo.specs.Words.{is_among};
+ghost use Rattle.modinfo.specs.internal.Commands.{asked_line, asked_names};
 
 use crate::command::{Command, NAMES, asked_command};
 use crate::words::is_among;
@@ -18,6 +19,19 @@ pub enum CommandLine {
     Document(Command),
     /// Each line of the input is a document.
     Lines(Command),
+    /// The information on files.
+    Files(Names),
+}
+
+/// Where the names of files are.
+#[derive(Debug, Clone, Copy, PartialEq, Eq)]
+pub enum Names {
+    /// In the arguments after the first.
+    Arguments,
+    /// In the input, one on a line.
+    Lines,
+    /// In the input, each ended by a zero byte.
+    Zeros,
 }
 
 impl CommandLine {
@@ -47,9 +61,40 @@ impl CommandLine {
             (CommandLine::Lines(command), [name, words @ ..]) => {
                 is_among("--lines", words) && command.has_words(name, words)
             }
+            (CommandLine::Files(names), [name, words @ ..]) => {
+                *name == "files" && names.has_words(words)
+            }
             _ => false,
         }
     }
+}
+
+impl Names {
+    /// Whether the words after `files` have the names, or ask for names in the input.
+    fn has_words(self, words: &[&str]) -> bool
+        ensures { result ≡ names_have_words self (map (λ word. word.now) words.now) }
+    {
+        match (self, words) {
+            (Names::Lines, []) => true,
+            (Names::Zeros, [word]) => *word == "--null",
+            (Names::Arguments, [_, ..]) => are_names(words),
+            _ => false,
+        }
+    }
+}
+
+/// Whether no word begins with `-`.
+fn are_names(words: &[&str]) -> bool
+    ensures { result ≡ are_names (map (λ word. word.now) words.now) }
+{
+    let mut rest = words;
+    'words: while let [word, after @ ..] = rest {
+        if word.as_bytes().first() == Some(&b'-') {
+            return false;
+        }
+        rest = after;
+    }
+    true
 }
 
 /// Whether the words are `--help`, `-h`, or the name of a command and `--help`.
@@ -58,9 +103,16 @@ fn asks_for_help(words: &[&str]) -> bool
 {
     match words {
         [word] => is_among(word, &["--help", "-h"]),
-        [name, word] => *word == "--help" && is_among(name, NAMES),
+        [name, word] => *word == "--help" && is_command(name),
         _ => false,
     }
+}
+
+/// Whether a word is the first word of a command.
+fn is_command(word: &str) -> bool
+    ensures { result ≡ is_among word.now command_names }
+{
+    is_among(word, NAMES)
 }
 
 /// Whether the words are `--version` or `-V`.
@@ -84,9 +136,22 @@ fn asked_line(words: &[&str]) -> CommandLine
         CommandLine::Help
     } else if asks_for_version(words) {
         CommandLine::Version
+    } else if *name == "files" {
+        CommandLine::Files(asked_names(rest))
     } else if is_among("--lines", rest) {
         CommandLine::Lines(asked_command(name, rest))
     } else {
         CommandLine::Document(asked_command(name, rest))
+    }
+}
+
+/// Where the names of files may be.
+fn asked_names(words: &[&str]) -> Names
+    ensures { result ≡ asked_names (map (λ word. word.now) words.now) }
+{
+    match words {
+        [] => Names::Lines,
+        [word] if *word == "--null" => Names::Zeros,
+        _ => Names::Arguments,
     }
 }

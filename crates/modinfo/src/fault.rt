@@ -1,9 +1,9 @@
 ghost use Rattle.std.specs.Prelude.{◌≡◌};
-ghost use Rattle.modinfo.specs.Fault.{name_of_conversion, name_of_fault, name_of_info, name_of_source};
+ghost use Rattle.modinfo.specs.Fault.{name_of_fault};
 
 use deno_graph_info::analysis::{ConvertFault, InfoFault};
 use deno_graph_json::TapeError;
-use deno_graph_source::tree::SourceFault;
+use deno_graph_source::tree::{ParseError, SourceFault};
 use modinfo_document::DocumentError;
 use std::alloc::{AllocError, AllocFailed};
 use std::error::Error;
@@ -21,6 +21,8 @@ pub enum Fault {
     Tree,
     /// The specifier isn't a URL.
     Specifier,
+    /// The source text has a syntax error.
+    Syntax,
     /// The tree or the comments don't fit the source.
     Source(SourceFault),
     /// The stored information can't be converted.
@@ -43,46 +45,13 @@ impl Fault {
             Fault::Json => "Json",
             Fault::Tree => "Tree",
             Fault::Specifier => "Specifier",
-            Fault::Source(fault) => source_name(fault),
-            Fault::Convert(fault) => conversion_name(fault),
-            Fault::Info(fault) => info_name(fault),
+            Fault::Syntax => "Syntax",
+            Fault::Source(fault) => fault.name(),
+            Fault::Convert(fault) => fault.name(),
+            Fault::Info(fault) => fault.name(),
             Fault::Output => "Output",
             Fault::OutOfMemory => "OutOfMemory",
         }
-    }
-}
-
-fn source_name(fault: &SourceFault) -> &'static str
-    ensures { result.now ≡ name_of_source fault.now }
-{
-    match fault {
-        SourceFault::RangeReversed => "RangeReversed",
-        SourceFault::RangeOutside => "RangeOutside",
-        SourceFault::RangeOffBoundary => "RangeOffBoundary",
-        SourceFault::CommentText => "CommentText",
-        SourceFault::CommentsOverlap => "CommentsOverlap",
-        SourceFault::Shape => "Shape",
-        SourceFault::OutOfMemory => "OutOfMemory",
-    }
-}
-
-fn conversion_name(fault: &ConvertFault) -> &'static str
-    ensures { result.now ≡ name_of_conversion fault.now }
-{
-    match fault {
-        ConvertFault::ColumnOverflow => "ColumnOverflow",
-        ConvertFault::Float => "Float",
-        ConvertFault::OutOfMemory => "OutOfMemory",
-    }
-}
-
-fn info_name(fault: &InfoFault) -> &'static str
-    ensures { result.now ≡ name_of_info fault.now }
-{
-    match fault {
-        InfoFault::Shape => "Shape",
-        InfoFault::Float => "Float",
-        InfoFault::OutOfMemory => "OutOfMemory",
     }
 }
 
@@ -132,6 +101,23 @@ impl From<DocumentError> for Fault {
             DocumentError::Specifier => Fault::Specifier,
             DocumentError::Source(fault) => Fault::Source(fault),
             DocumentError::OutOfMemory => Fault::OutOfMemory,
+        }
+    }
+}
+
+impl From<ParseError> for Fault {
+    ghost use Rattle.std.specs.Prelude.{◌≡◌};
+    ghost use Rattle.modinfo.specs.Fault.{fault_of_parse};
+
+    ghost from_gives = { λ parse_error fault. fault ≡ fault_of_parse parse_error };
+
+    fn from(error: ParseError) -> Fault {
+        match error {
+            ParseError::Diagnostic(diagnostic) => {
+                drop(diagnostic);
+                Fault::Syntax
+            }
+            ParseError::OutOfMemory => Fault::OutOfMemory,
         }
     }
 }

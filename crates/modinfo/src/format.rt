@@ -5,7 +5,8 @@ ghost use Rattle.std.specs.String.{string_bytes};
 ghost use Rattle.modinfo.specs.Answer.{IsAnswerText, IsDocumentFault, IsReportOn};
 
 use crate::check::{
-    Report, check_document, check_estree, check_modules, check_stored, report_invalid_utf8,
+    Report, check_document, check_estree, check_modules, check_source, check_stored,
+    report_invalid_utf8,
 };
 use crate::fault::Fault;
 use crate::request::Request;
@@ -19,6 +20,8 @@ pub enum Format {
     Module,
     /// A document with the tree of a parser, as ESTree describes it. The answer is the `ModuleInfo`.
     Estree,
+    /// A source text with its specifier. The answer is the `ModuleInfo`.
+    Source,
     /// The stored information of one module, of version 1. The answer is that of version 2.
     Stored,
     /// A root and the information on modules. The answer has the keys that the root reaches.
@@ -56,6 +59,7 @@ impl Format {
         match self {
             Format::Module => check_document(alloc, text),
             Format::Estree => check_estree(alloc, text),
+            Format::Source => check_source(alloc, text),
             Format::Stored => check_stored(alloc, text),
             Format::Modules => check_modules(alloc, text),
         }

@@ -55,7 +55,7 @@ where
 }
 
 /// A buffered reader of the input.
-fn buffered<R: Read>(alloc: Global, input: R) -> Result<BufReader<R, Global>, Fault>
+pub fn buffered<R: Read>(alloc: Global, input: R) -> Result<BufReader<R, Global>, Fault>
 where
     R: Drop,
     ensures { MatchResult result (λ reader. reader_remaining R.remaining reader ≡ R.remaining input)

@@ -1,9 +1,10 @@
 //! Writing bytes, with a known result if a write fails.
 
-ghost use Rattle.std.specs.Prelude.{MatchBool};
+ghost use Rattle.std.specs.Prelude.{◌++◌, MatchBool, codes};
 ghost use Rattle.std.specs.Io.KnownBytes.{Appends};
-ghost use Rattle.modinfo.specs.Run.{AppendsFront};
+ghost use Rattle.modinfo.specs.Run.{AppendsFront, error_line};
 
+use crate::fault::Fault;
 use std::io::{ErrorKind, Write};
 
 /// Writes the bytes, or a beginning of them if a write fails. Returns whether all were written.
@@ -24,4 +25,22 @@ pub fn write_front<W: Write>(output: &mut W, bytes: &[u8]) -> bool
         }
     }
     false
+}
+
+/// Prints the line of a fault. A failed write ends the line.
+pub fn print_fault<E: Write>(errors: &mut E, fault: &Fault)
+    ensures { AppendsFront (E.contents errors.old) (E.contents errors.new) (error_line fault.now) }
+{
+    if write_front(errors, b"modinfo: ") {
+        print_line(errors, fault.name());
+    }
+}
+
+/// Prints a text and a line feed. A failed write ends the line.
+pub fn print_line<E: Write>(errors: &mut E, text: &str)
+    ensures { AppendsFront (E.contents errors.old) (E.contents errors.new) (text.now ++ codes "\n") }
+{
+    if write_front(errors, text.as_bytes()) {
+        let _ = write_front(errors, b"\n");
+    }
 }

@@ -1,18 +1,18 @@
 ghost use Rattle.std.specs.Prelude.{◌≡◌, ◌++◌, ℕ, Bool, codes, List, IfSome, IsTrue, map, if◌then◌else◌};
-ghost use Rattle.std.specs.Prelude.{MatchResult};
-ghost use Rattle.std.specs.Io.KnownBytes.{Appends};
+ghost use Rattle.std.specs.Prelude.{IsSomeAnd, MatchResult, None};
+ghost use Rattle.std.specs.Io.KnownBytes.{Appends, Keeps};
 ghost use Rattle.modinfo.specs.CommandLine.{asks_for};
 ghost use Rattle.modinfo.specs.Lines.{IsLinesRun, LeavesFirstLines, LeavesLines};
 ghost use Rattle.modinfo.specs.Run.{AppendsFront, IsDocumentRun, IsRunFault, IsTextRun, IsWrongRun, PrintsResult, error_line};
 ghost use Rattle.modinfo.specs.internal.Run.{Leaves, LeavesFault};
 
 use crate::command::{Command, Printed};
-use crate::command_line::CommandLine;
+use crate::command_line::{CommandLine, Names};
 use crate::fault::Fault;
 use crate::help::{HELP, USAGE, VERSION};
 use crate::input::read_to_end;
 use crate::lines::run_lines;
-use crate::output::write_front;
+use crate::output::{print_fault, print_line, write_front};
 use std::alloc::Global;
 use std::io::{Read, Write};
 
@@ -23,7 +23,8 @@ use std::io::{Read, Write};
 /// - Status 1: there was a fault. `errors` gets a line with its name, and `output` nothing, or a
 ///   beginning of the line if a write failed. A check whose document has a fault, or with `--strict` a
 ///   warning, prints its report and has status 1.
-/// - Status 2: wrong arguments. `errors` gets a line on the usage, and `output` nothing.
+/// - Status 2: wrong arguments, or those of `files`, which only `serve_files` runs. `errors` gets a line on
+///   the usage, and `output` nothing.
 ///
 /// With `--lines` each line of the input is a document, for which one line is printed; only a failed
 /// read, write or allocation ends the run. A failed write to `errors` is ignored.
@@ -48,21 +49,35 @@ pub fn serve<R: Read, W: Write, E: Write>(
         → IsTrue (asks_for (CommandLine.Lines command) (map (λ word. word.now) words.now))
         → IsLinesRun command (R.remaining input.old) (W.contents output.old) (W.contents output.new)
         (E.contents errors.old) (E.contents errors.new) result }
+    ensures files { (names : Names)
+        → IsTrue (asks_for (CommandLine.Files names) (map (λ word. word.now) words.now))
+        → IsWrongRun USAGE.now (W.contents output.old) (W.contents output.new)
+        (E.contents errors.old) (E.contents errors.new) result }
     ensures wrong { ((line : CommandLine) → ¬ IsTrue (asks_for line (map (λ word. word.now) words.now)))
         → IsWrongRun USAGE.now (W.contents output.old) (W.contents output.new)
         (E.contents errors.old) (E.contents errors.new) result }
 {
     let Some(command_line) = CommandLine::from_words(words) else {
-        print_line(errors, USAGE);
-        return 2;
+        return print_usage(errors);
     };
-    match run_command_line(alloc, command_line, input, output) {
+    let Some(ran) = run_command_line(alloc, command_line, input, output) else {
+        return print_usage(errors);
+    };
+    match ran {
         Ok(passes) => status_of(passes),
         Err(fault) => {
             print_fault(errors, &fault);
             1
         }
     }
+}
+
+/// Prints the usage, and returns the exit status of wrong words.
+fn print_usage<E: Write>(errors: &mut E) -> u8
+    ensures { (result ≡ 2) × AppendsFront (E.contents errors.old) (E.contents errors.new) (USAGE.now ++ codes "\n") }
+{
+    print_line(errors, USAGE);
+    2
 }
 
 /// The exit status of a run that printed its result.
@@ -72,55 +87,42 @@ fn status_of(passes: bool) -> u8
     if passes { 0 } else { 1 }
 }
 
-/// Prints the line of a fault. A failed write ends the line.
-fn print_fault<E: Write>(errors: &mut E, fault: &Fault)
-    ensures { AppendsFront (E.contents errors.old) (E.contents errors.new) (error_line fault.now) }
-{
-    if write_front(errors, b"modinfo: ") {
-        print_line(errors, fault.name());
-    }
-}
-
-/// Prints a text and a line feed. A failed write ends the line.
-fn print_line<E: Write>(errors: &mut E, text: &str)
-    ensures { AppendsFront (E.contents errors.old) (E.contents errors.new) (text.now ++ codes "\n") }
-{
-    if write_front(errors, text.as_bytes()) {
-        let _ = write_front(errors, b"\n");
-    }
-}
-
-/// Runs a command line, and returns whether its checks passed; true without a check.
+/// Runs a command line, and returns whether its checks passed; true without a check. `None` for `files`,
+/// which isn't run.
 fn run_command_line<R: Read, W: Write>(
     alloc: Global,
     command_line: CommandLine,
     input: &mut R,
     output: &mut W,
-) -> Result<bool, Fault>
-    ensures help { command_line ≡ CommandLine.Help → MatchResult result
+) -> Option<Result<bool, Fault>>
+    ensures help { command_line ≡ CommandLine.Help → IsSomeAnd result (λ ran. MatchResult ran
         (Leaves (λ passes line. IsTrue passes × (line ≡ HELP.now)) (W.contents output.old) (W.contents output.new))
         (LeavesFault (λ passes line. IsTrue passes × (line ≡ HELP.now)) (λ fault. fault ≡ Fault.Output)
-        (W.contents output.old) (W.contents output.new)) }
-    ensures version { command_line ≡ CommandLine.Version → MatchResult result
+        (W.contents output.old) (W.contents output.new))) }
+    ensures version { command_line ≡ CommandLine.Version → IsSomeAnd result (λ ran. MatchResult ran
         (Leaves (λ passes line. IsTrue passes × (line ≡ VERSION.now)) (W.contents output.old) (W.contents output.new))
         (LeavesFault (λ passes line. IsTrue passes × (line ≡ VERSION.now)) (λ fault. fault ≡ Fault.Output)
-        (W.contents output.old) (W.contents output.new)) }
+        (W.contents output.old) (W.contents output.new))) }
     ensures document { (command : Command) → command_line ≡ CommandLine.Document command
-        → (document : List ℕ) × IfSome (R.remaining input.old) (λ left. document ≡ left)
-        × MatchResult result
+        → IsSomeAnd result (λ ran. (document : List ℕ)
+        × IfSome (R.remaining input.old) (λ left. document ≡ left)
+        × MatchResult ran
         (Leaves (PrintsResult command document) (W.contents output.old) (W.contents output.new))
         (LeavesFault (PrintsResult command document) (IsRunFault command document)
-        (W.contents output.old) (W.contents output.new)) }
+        (W.contents output.old) (W.contents output.new))) }
     ensures lines { (command : Command) → command_line ≡ CommandLine.Lines command
-        → MatchResult result
+        → IsSomeAnd result (λ ran. MatchResult ran
         (LeavesLines command (R.remaining input.old) (W.contents output.old) (W.contents output.new))
-        (LeavesFirstLines command (R.remaining input.old) (W.contents output.old) (W.contents output.new)) }
+        (LeavesFirstLines command (R.remaining input.old) (W.contents output.old) (W.contents output.new))) }
+    ensures files { (names : Names) → command_line ≡ CommandLine.Files names → result ≡ None }
+    ensures unchanged { result ≡ None → Keeps (W.contents output.old) (W.contents output.new) }
 {
     match command_line {
-        CommandLine::Help => print_text(output, HELP),
-        CommandLine::Version => print_text(output, VERSION),
-        CommandLine::Document(command) => run_document(alloc, command, input, output),
-        CommandLine::Lines(command) => run_lines(alloc, command, input, output),
+        CommandLine::Help => Some(print_text(output, HELP)),
+        CommandLine::Version => Some(print_text(output, VERSION)),
+        CommandLine::Document(command) => Some(run_document(alloc, command, input, output)),
+        CommandLine::Lines(command) => Some(run_lines(alloc, command, input, output)),
+        CommandLine::Files(_) => None,
     }
 }
 

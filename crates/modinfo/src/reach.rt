@@ -55,7 +55,7 @@ pub fn parse_question(alloc: Global, text: &str) -> Result<Question, Fault>
 
 /// Reads the value of a document. The error is the fault of the value, or `OutOfMemory` if an
 /// allocation fails.
-fn read_question(alloc: Global, document: Element<'_>) -> Result<Question, Fault>
+pub fn read_question(alloc: Global, document: Element<'_>) -> Result<Question, Fault>
     ensures { MatchResult result
         (λ question. Asks (data_of document.entry) (entries_of question.infos) question.root)
         (IsNoQuestion (data_of document.entry)) }

@@ -12,8 +12,9 @@ ghost use Rattle.modinfo.specs.internal.Request.{IsReadFrom, format_of};
 
 use crate::fault::Fault;
 use crate::format::Format;
-use crate::input::{converted_of, document_of, estree_of, question_of};
+use crate::input::{converted_of, document_of, estree_of, question_of, source_text_of};
 use crate::reach::Question;
+use crate::source::SourceText;
 use deno_graph_info::analysis::ModuleInfo;
 use deno_graph_module_info::module_info;
 use deno_graph_source::tree::ParsedSource;
@@ -27,6 +28,8 @@ pub enum Request {
     Module(Document),
     /// The module document that the tree of a parser is.
     Estree(Document),
+    /// A source text, which isn't parsed yet.
+    Source(SourceText),
     /// The information of version 2 to which a document was converted, as compact JSON.
     Stored(String),
     /// A root, and the information on modules.
@@ -44,6 +47,7 @@ impl Request {
         match format {
             Format::Module => Ok(Request::Module(document_of(alloc, document)?)),
             Format::Estree => Ok(Request::Estree(estree_of(alloc, document)?)),
+            Format::Source => Ok(Request::Source(source_text_of(alloc, document)?)),
             Format::Stored => Ok(Request::Stored(converted_of(alloc, document)?)),
             Format::Modules => Ok(Request::Modules(question_of(alloc, document)?)),
         }
@@ -59,6 +63,7 @@ impl Request {
         match self {
             Request::Module(document) => analyze(alloc, document),
             Request::Estree(document) => analyze(alloc, document),
+            Request::Source(text) => text.info_text(alloc),
             Request::Stored(text) => Ok(text),
             Request::Modules(question) => Ok(question.answer(alloc)?),
         }

@@ -1,11 +1,16 @@
 -- The status of a call, and what the call writes to the memory of its caller.
-use Rattle.std.specs.Prelude.{◌≡◌, ◌++◌, ◌<◌, ◌≤◌, ℕ, List, length, drop, Bool}
+use Rattle.std.specs.Prelude.{◌≡◌, ◌⊎◌, ◌++◌, ◌<◌, ◌≤◌, ℕ, List, codes, length, drop, Bool}
+use Rattle.modinfo_document.specs.ReportText.{report_text}
+use Rattle.modinfo_document.specs.declared.report.Report.{Report}
+use Rattle.modinfo.specs.Check.{ReportsOnText}
 use Rattle.modinfo.specs.Fault.{name_of_fault}
 use Rattle.modinfo.specs.Lines.{PrintsLines, lines_of}
 use Rattle.modinfo.specs.Run.{PrintsResult}
+use Rattle.modinfo.specs.Source.{AreNoParts, HasParts, IsInfoOfText, IsNoInfoOfText}
 use Rattle.modinfo.specs.declared.command.Command.{Command}
 use Rattle.modinfo.specs.declared.fault.Fault.{Fault}
 use Rattle.modinfo.specs.declared.fault.Fault.TheVariants.{OutOfMemory}
+use Rattle.modinfo.specs.declared.source.SourceText.{SourceText}
 
 -- The text was written to the start of the buffer, and the other bytes are unchanged.
 pub record IsPut (text before after : List ℕ) : Type 0 where
@@ -41,3 +46,18 @@ IsResultLine command document line = (passes : Bool) × PrintsResult command doc
 -- The text has the printed lines for the lines of the documents, in the same order.
 abbrev pub IsLinesText : Command → List ℕ → List ℕ → Type 0
 IsLinesText command documents text = (passes : Bool) × PrintsLines command (lines_of documents) passes text
+
+-- The line is the information on the text with these parts, as compact JSON.
+abbrev pub IsInfoLine : List ℕ → List ℕ → ℕ → List ℕ → Type 0
+IsInfoLine source specifier number line = (of : SourceText) × HasParts source specifier number of
+    × (text : List ℕ) × IsInfoOfText of text × (line ≡ text ++ codes "\n")
+
+-- Why there is no such line: the parts are no text, or the text has no information.
+abbrev pub IsNoInfoLine : List ℕ → List ℕ → ℕ → Fault → Type 0
+IsNoInfoLine source specifier number fault = AreNoParts source specifier number fault
+    ⊎ ((of : SourceText) × HasParts source specifier number of × IsNoInfoOfText of fault)
+
+-- The line is the JSON of a report on the text with these parts.
+abbrev pub IsReportLine : List ℕ → List ℕ → ℕ → List ℕ → Type 0
+IsReportLine source specifier number line = (of : SourceText) × HasParts source specifier number of
+    × (report : Report) × ReportsOnText of report × (line ≡ report_text report ++ codes "\n")

@@ -2,12 +2,17 @@
 //! `include/modinfo.h` declares the functions.
 #![tactic(auto)]
 
-ghost use Rattle.std.specs.Prelude.{◌≡◌, false, None, Some};
+ghost use Rattle.std.specs.Prelude.{◌≡◌, false, MatchResult, None, Some};
+ghost use Rattle.std.specs.String.{string_bytes};
 ghost use Rattle.modinfo.specs.Commands.{command_at};
 ghost use Rattle.modinfo.specs.Fault.{name_of_fault};
 ghost use Rattle.modinfo.specs.Run.{IsNoResult};
+ghost use Rattle.modinfo.specs.Source.{AreNoParts};
+ghost use Rattle.modinfo_c.specs.Call.{IsInfoLine, IsNoInfoLine, IsReportLine};
 ghost use Rattle.modinfo_c.specs.Call.{IsAnswered, IsLeft, IsLinesText, IsOutOfMemory, IsResultLine};
 
+use modinfo::check::check_text;
+use modinfo::source::SourceText;
 use modinfo::{Command, Fault, Format};
 use std::alloc::Global;
 
@@ -190,6 +195,80 @@ pub extern "C" fn modinfo_check_reach(
         (IsNoResult (Command.Check Format.Modules false) document.now) answer.old answer.new length.new result }
 {
     write_report(alloc, Format::Modules, document, answer, length)
+}
+
+/// Runs `modinfo analyze --source` on a text, its specifier and the number of its media type, which is
+/// that of `MediaType`'s variants from 1 on, or 0 for the media type of the specifier. `Input` if the text
+/// or the specifier isn't UTF-8, `Tree` if no media type has the number. Otherwise like `modinfo_run`.
+#[unsafe(no_mangle)]
+pub extern "C" fn modinfo_analyze_source(
+    alloc: Global,
+    text: &[u8],
+    specifier: &[u8],
+    media_type: u8,
+    answer: &mut [u8],
+    length: &mut usize,
+) -> u8
+    ensures { IsAnswered (IsInfoLine text.now specifier.now media_type)
+        (IsNoInfoLine text.now specifier.now media_type) answer.old answer.new length.new result }
+{
+    match source_line(alloc, text, specifier, media_type) {
+        Ok(line) => put(line.as_bytes(), ANSWERED, answer, length),
+        Err(fault) => put_name(&fault, answer, length),
+    }
+}
+
+/// The information on the module of a text, as JSON with a line feed.
+fn source_line(
+    alloc: Global,
+    text: &[u8],
+    specifier: &[u8],
+    media_type: u8,
+) -> Result<String, Fault>
+    ensures { MatchResult result (λ line. IsInfoLine text.now specifier.now media_type (string_bytes line))
+        (IsNoInfoLine text.now specifier.now media_type) }
+{
+    let source = SourceText::from_parts(alloc, text, specifier, media_type)?;
+    let mut line = source.info_text(alloc)?;
+    line.push('\n')?;
+    Ok(line)
+}
+
+/// Runs `modinfo check --source`. The answer is the report, even on a text with a fault; its pointers
+/// lead into the document that has these parts. Otherwise like `modinfo_analyze_source`.
+#[unsafe(no_mangle)]
+pub extern "C" fn modinfo_check_source(
+    alloc: Global,
+    text: &[u8],
+    specifier: &[u8],
+    media_type: u8,
+    answer: &mut [u8],
+    length: &mut usize,
+) -> u8
+    ensures { IsAnswered (IsReportLine text.now specifier.now media_type)
+        (AreNoParts text.now specifier.now media_type) answer.old answer.new length.new result }
+{
+    match source_report_line(alloc, text, specifier, media_type) {
+        Ok(line) => put(line.as_bytes(), ANSWERED, answer, length),
+        Err(fault) => put_name(&fault, answer, length),
+    }
+}
+
+/// The report on a text, as JSON with a line feed.
+fn source_report_line(
+    alloc: Global,
+    text: &[u8],
+    specifier: &[u8],
+    media_type: u8,
+) -> Result<String, Fault>
+    ensures { MatchResult result (λ line. IsReportLine text.now specifier.now media_type (string_bytes line))
+        (AreNoParts text.now specifier.now media_type) }
+{
+    let source = SourceText::from_parts(alloc, text, specifier, media_type)?;
+    let report = check_text(alloc, source)?;
+    let mut line = report.to_line(alloc)?;
+    line.push('\n')?;
+    Ok(line)
 }
 
 /// Like `modinfo_run_lines`, by its older name.

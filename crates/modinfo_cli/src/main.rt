@@ -1,6 +1,7 @@
 //! The program `modinfo`, over the standard streams.
 #![tactic(auto)]
 
+use modinfo::{CommandLine, serve, serve_files};
 use std::io::ErrorKind;
 use std::process::ExitCode;
 use std::{env, io};
@@ -21,13 +22,14 @@ fn run(rt: &HostRuntime) -> io::Result<u8> {
         .iter()
         .map(|word| word.as_str())
         .collect(rt.alloc())?;
-    Ok(modinfo::serve(
-        rt.alloc(),
-        words.as_slice(),
-        &mut rt.stdin(),
-        &mut rt.stdout(),
-        &mut rt.stderr(),
-    ))
+    let words = words.as_slice();
+    let (mut input, mut output, mut errors) = (rt.stdin(), rt.stdout(), rt.stderr());
+    Ok(match CommandLine::from_words(words) {
+        Some(CommandLine::Files(_)) => {
+            serve_files(rt, words, &mut input, &mut output, &mut errors)
+        }
+        _ => serve(rt.alloc(), words, &mut input, &mut output, &mut errors),
+    })
 }
 
 /// The arguments after the program's name. None if one isn't UTF-8, since no arguments are wrong ones too.

@@ -1,11 +1,13 @@
 -- Comments by position and number, among the entries of a side.
 use Rattle.std.proofs.Common.{◌≡◌, ℕ, zero, suc, ◌-◌, ◌<◌, ◌≤◌, List, [], ◌∷◌, ◌++◌, length, Bool, true}
 use Rattle.std.proofs.Common.{false, eqb, if◌then◌else◌, codes, Option, Some, None, slice_get, arith, refl}
-use Rattle.std.proofs.Common.{sym, ap, subst, ◌∙◌}
+use Rattle.std.proofs.Common.{sym, ap, subst, ◌∙◌, unwrap_or}
 use Rattle.std.proofs.lemmas.Option.{none-some, option_and_then_some, same_Some}
-use Rattle.serde_json.specs.Data.{Data, Items, no_items, item, Members}
+use Rattle.serde_json.specs.Data.{Data, array, Items, no_items, item, Members}
 use Rattle.serde_json.specs.Events.{items_len}
-use Rattle.serde_json.specs.Find.{as_array, as_object, as_str, get_item, get_member}
+use Rattle.serde_json.specs.Find.{as_array, as_object, as_str, at, get, get_item, get_member}
+use Rattle.deno_graph_json.specs.Read.Error.{value_at}
+use Rattle.deno_graph_json.specs.declared.error.Step.TheVariants.{Item, Member}
 use Rattle.deno_graph_json.specs.Read.Partial.{
   ◌>>=◌,
   as_usize,
@@ -15,13 +17,21 @@ use Rattle.deno_graph_json.specs.Read.Partial.{
   reads_array,
   reads_items,
 }
-use Rattle.deno_graph_json.proofs.Reading.{goes_on}
+use Rattle.deno_graph_json.proofs.Reading.{goes_on, is_array}
+use Rattle.deno_graph_source.specs.ByOffset.{item_at}
+use Rattle.deno_graph_source.specs.Comments.{FiledComments, Filing}
+use Rattle.deno_graph_source.specs.FaultPlace.{comment_at, side_of}
+use Rattle.deno_graph_source.specs.declared.tree.comments.CommentPlace.{CommentPlace}
+use Rattle.deno_graph_source.specs.declared.tree.comments.DependencyComment.{DependencyComment}
 use Rattle.deno_graph_source.specs.declared.tree.comments.CommentSide.{CommentSide}
 use Rattle.deno_graph_source.specs.declared.tree.comments.CommentSide.TheVariants.{Leading, Trailing}
 use Rattle.modinfo_document.specs.declared.comments.FiledEntry.{FiledEntry}
 use Rattle.modinfo_document.specs.Comments.{
+  AreThoseOf,
+  HasCommentsOf,
   Sides,
   comments_at,
+  followed_by,
   reads_comment,
   reads_entry,
   reads_side,
@@ -34,7 +44,8 @@ use Rattle.modinfo_document.specs.Node.{reads_program}
 use Rattle.modinfo_document.specs.Lookup.{side_entries}
 use Rattle.modinfo_document.specs.internal.Lookup.{entry_items}
 use Rattle.modinfo_document.specs.Comments.{entry_with}
-use Rattle.modinfo_document.proofs.NodeLookup.{items_from, read_from, step}
+use Rattle.modinfo_document.specs.Place.{comment_path}
+use Rattle.modinfo_document.proofs.NodeLookup.{got, items_from, read_from, step}
 
 -- The length of the list that is read is the number of items.
 items_count : {A : Type 0} (reads : Data → Option A) (values : Items) (xs : List A)
@@ -231,3 +242,70 @@ entries_from value contents is side found at =
     (of_member (side_entries comments side) (get_member (side_name side) members)
     (side_in side members comments read) found
     (at ∙ ap (λ o. o >>= (λ ms. get_member (side_name side) ms >>= as_array)) object))))))))
+
+-- ---- Paths
+
+-- The comments of an entry are its member `comments`.
+pub entry_array : (position : ℕ) (value : Data) (values : Items) → Some values ≡ entry_items position value
+    → get (codes "comments") value ≡ Some (array values)
+unfolding entry_items member_at
+entry_array position value values is =
+    let object_ = step (as_object value) _ values (sym is) in
+    let pos = step (get_member (codes "pos") object_.0 >>= as_usize) _ values object_.2 in
+    let listed = chosen (eqb pos.0 position) pos.2 in
+    let found = step (get_member (codes "comments") object_.0) as_array values listed in
+    got (codes "comments") value object_.0 found.0 object_.1 found.1
+    ∙ ap Some (is_array found.0 values found.2)
+  where
+    chosen : {o : Option Items} (b : Bool) → (if b then o else None) ≡ Some values → o ≡ Some values
+    chosen true here = here
+    chosen false here = absurd (none-some values here)
+
+-- The comment with a number in the entry with an index.
+pub comment_leads : (all values : Items) (passed left : ℕ) (entry value : Data)
+    → get_item passed all ≡ Some entry → get (codes "comments") entry ≡ Some (array values)
+    → get_item left values ≡ Some value
+    → value_at (Item left ∷ Member (codes "comments") ∷ Item passed ∷ []) (array all) ≡ Some value
+comment_leads all values passed left entry value here comments there =
+    ap (λ o. o >>= get (codes "comments") >>= at left) here ∙ ap (λ o. o >>= at left) comments ∙ there
+
+-- The entries of a side are its member.
+pub side_array : (side : CommentSide) (value : Data) (values : Items) → Some values ≡ side_items side value
+    → get (side_name side) value ≡ Some (array values)
+side_array side value values is =
+    let object_ = step (as_object value) _ values (sym is) in
+    let found = step (get_member (side_name side) object_.0) as_array values object_.2 in
+    got (side_name side) value object_.0 found.0 object_.1 found.1
+    ∙ ap Some (is_array found.0 values found.2)
+
+-- The path through the entries of a side.
+pub side_leads : (side : CommentSide) (root : Data) (values : Items) (entry number : ℕ) (value : Data)
+    → get (side_name side) root ≡ Some (array values)
+    → value_at (Item number ∷ Member (codes "comments") ∷ Item entry ∷ []) (array values) ≡ Some value
+    → value_at (comment_path side entry number) root ≡ Some value
+side_leads side root values entry number value there leads =
+    ap (λ o. o >>= at entry >>= get (codes "comments") >>= at number) there ∙ leads
+
+-- The comments of a side of a source are those of its entries.
+pub filed_at : (entries : List FiledEntry) (filing : Filing) (position number : ℕ)
+    → HasCommentsOf entries filing
+    → item_at filing position number ≡ slice_get (comments_at position entries) number
+filed_at entries filing position number is =
+    ap (λ o. slice_get (unwrap_or o []) number) (is.at_each position)
+    ∙ by (comments_at position entries)
+  where
+    by : (xs : List DependencyComment) → slice_get (unwrap_or (followed_by None xs) []) number
+        ≡ slice_get xs number
+    by [] = refl
+    by (x ∷ xs) = refl
+
+pub comment_filed : (sides : Sides) (comments : FiledComments) (place : CommentPlace)
+    → AreThoseOf sides comments
+    → comment_at comments place
+    ≡ slice_get (comments_at place.position (side_entries sides place.side)) place.number
+comment_filed sides comments place are = by place.side
+  where
+    by : (side : CommentSide) → item_at (side_of comments side) place.position place.number
+        ≡ slice_get (comments_at place.position (side_entries sides side)) place.number
+    by Leading = filed_at sides.leading comments.leading place.position place.number are.0
+    by Trailing = filed_at sides.trailing comments.trailing place.position place.number are.1

@@ -6,5 +6,6 @@ pub mod Documents
 pub mod NodeLookup
 pub mod CommentLookup
 pub mod Places
+pub mod Reported
 pub mod ReportTexts
 pub mod Urls

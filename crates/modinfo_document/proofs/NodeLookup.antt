@@ -20,8 +20,20 @@ use Rattle.std.proofs.Common.{
   ◌∙◌,
 }
 use Rattle.std.proofs.lemmas.Option.{none-some, option_and_then_some, same_Some}
-use Rattle.serde_json.specs.Data.{Data, Items, no_items, item, Members}
-use Rattle.serde_json.specs.Find.{as_array, as_bool, as_object, as_str, get_item, get_member}
+use Rattle.serde_json.specs.Data.{
+  Data,
+  null,
+  boolean,
+  number,
+  string,
+  array,
+  object,
+  Items,
+  no_items,
+  item,
+  Members,
+}
+use Rattle.serde_json.specs.Find.{as_array, as_bool, as_object, as_str, get, get_item, get_member}
 use Rattle.deno_graph_json.specs.Read.Partial.{
   ◌>>=◌,
   member_at,
@@ -37,21 +49,41 @@ use Rattle.deno_graph_source.specs.declared.tree.node.Kind.{Kind}
 use Rattle.deno_graph_source.specs.declared.tree.node.Program.{Program}
 use Rattle.deno_graph_base.specs.declared.text.position.SourceRange.{SourceRange}
 use Rattle.deno_graph_source.specs.Node.{children_of}
-use Rattle.deno_graph_source.specs.NodePath.{NodePath, node_at, node_below}
 use Rattle.modinfo_document.specs.Kind.{reads_kind, reads_named, media_types}
 use Rattle.modinfo_document.specs.Comments.{reads_sides}
 use Rattle.modinfo_document.specs.Document.{Contents, reads_document}
 use Rattle.modinfo_document.specs.Literal.{reads_source_range}
 use Rattle.modinfo_document.specs.Node.{children_in, reads_node, reads_nodes, reads_program, node_with}
-use Rattle.modinfo_document.specs.Lookup.{IsReadAt}
-use Rattle.modinfo_document.specs.internal.Lookup.{member_item, below}
 use Rattle.modinfo_document.proofs.Nodes.{children_read, node_read, nodes_read}
+
+-- The item of this number, in the array that is the member of this name.
+abbrev pub member_item : List ℕ → ℕ → Data → Option Data
+member_item name k value =
+    as_object value >>= (λ ms. get_member name ms >>= (λ found. as_array found >>= get_item k))
 
 -- A reader with a value has a value at its first step.
 pub step : {A B : Type 0} (o : Option A) (f : A → Option B) (y : B) → (o >>= f) ≡ Some y
     → (x : A) × (o ≡ Some x) × (f x ≡ Some y)
 step (Some x) f y is = (x, refl, is)
 step None f y is = absurd (none-some y is)
+
+-- A member that is read is there.
+pub member_read : {A : Type 0} (reads : Data → Option A) (name : List ℕ) (members : Members) (x : A)
+    → member_at reads name members ≡ Some x
+    → (d : Data) × (get_member name members ≡ Some d) × (reads d ≡ Some x)
+unfolding member_at
+member_read reads name members x is = step (get_member name members) reads x is
+
+-- A member of an object is got by its name.
+pub got : (name : List ℕ) (value : Data) (members : Members) (d : Data) → as_object value ≡ Some members
+    → get_member name members ≡ Some d
+    → get name value ≡ Some d
+got name null members d is there = absurd (none-some members is)
+got name (boolean b) members d is there = absurd (none-some members is)
+got name (number n) members d is there = absurd (none-some members is)
+got name (string s) members d is there = absurd (none-some members is)
+got name (array held) members d is there = absurd (none-some members is)
+got name (object held) members d is there = ap (get_member name) (same_Some held members is) ∙ there
 
 -- The second is read from the first, or there is neither.
 abbrev pub IsReadFrom : {A : Type 0} → (Data → Option A) → Option Data → Option A → Type 0
@@ -125,7 +157,6 @@ children_with members below node is =
 -- The children of a node.
 pub children_from : (value : Data) (node : Node) → reads_node value ≡ Some node → (k : ℕ)
     → IsReadFrom reads_node (member_item (codes "children") k value) (slice_get (children_of node) k)
-unfolding member_item
 children_from value node is k =
     option_and_then_some _ (as_object value) node (sym (node_read value) ∙ is)
     (λ members object with_members.
@@ -138,7 +169,7 @@ children_from value node is k =
 -- The body of a program.
 pub body_from : (value : Data) (program : Program) → reads_program value ≡ Some program → (k : ℕ)
     → IsReadFrom reads_node (member_item (codes "body") k value) (slice_get program.body k)
-unfolding member_item reads_program member_at
+unfolding reads_program member_at
 body_from value program is k =
     option_and_then_some _ (as_object value) program is
     (λ members object with_members. option_and_then_some _
@@ -158,83 +189,3 @@ body_from value program is k =
     (subst (λ p. IsReadFrom reads_node (as_array found >>= get_item k) (slice_get p.body k))
     (same_Some _ program made)
     (array_from found body is_body k))))))))
-
--- ---- Paths
-
-below_from : (path : NodePath) (found : Option Data) (node : Option Node) → IsReadFrom reads_node found node
-    → IsReadFrom reads_node (found >>= below path) (node_below node path)
-below_from path None None is = tt
-below_from path None (Some node) is = absurd is
-below_from path (Some value) None is = absurd is
-below_from [] (Some value) (Some node) is = is
-below_from (index ∷ path) (Some value) (Some node) is =
-    below_from path (member_item (codes "children") index value) (slice_get (children_of node) index)
-    (children_from value node is index)
-
--- A path leads from the value of a program to the value of the node at the path.
-pub path_from : (value : Data) (program : Program) → reads_program value ≡ Some program
-    → (index : ℕ) (path : NodePath)
-    → IsReadAt program (index ∷ path) (member_item (codes "body") index value >>= below path)
-path_from value program is index path =
-    read_from reads_node (member_item (codes "body") index value >>= below path)
-    (node_at program.body (index ∷ path))
-    (below_from path (member_item (codes "body") index value) (slice_get program.body index)
-    (body_from value program is index))
-
--- The value of the program.
-abbrev pub program_in : Data → Option Data
-program_in value = as_object value >>= get_member (codes "program")
-
--- The value at a path in a document.
-abbrev pub at_path : Data → NodePath → Option Data
-at_path value [] = program_in value
-at_path value (index ∷ path) = program_in value
-    >>= (λ program. member_item (codes "body") index program >>= below path)
-
--- The node at a path is read from the value at the path.
-pub read_at : (value : Data) (contents : Contents) → reads_document value ≡ Some contents → (path : NodePath)
-    → IsReadAt contents.program path (at_path value path)
-unfolding reads_document member_at
-read_at value contents is path =
-    option_and_then_some _ (as_object value) contents is
-    (λ members object with_members. option_and_then_some _
-    (get_member (codes "specifier") members >>= as_str) contents with_members
-    (λ specifier _ with_specifier. option_and_then_some _
-    (get_member (codes "mediaType") members >>= reads_named media_types) contents with_specifier
-    (λ media_type _ with_media_type. option_and_then_some _
-    (get_member (codes "source") members >>= as_str) contents with_media_type
-    (λ source _ with_source. option_and_then_some _ (reads_sides members) contents with_source
-    (λ comments _ with_comments. option_and_then_some _
-    (get_member (codes "program") members >>= reads_program) contents with_comments
-    (λ program read made. option_and_then_some reads_program
-    (get_member (codes "program") members) program read
-    (λ found there is_program.
-    subst (λ p. IsReadAt p path (at_path value path)) (ap (λ s. s.program) (same_Some _ contents made))
-    (by path program found (ap (λ o. o >>= get_member (codes "program")) object ∙ there) is_program))))))))
-  where
-    by : (path : NodePath) (p : Program) (pv : Data) → program_in value ≡ Some pv
-        → reads_program pv ≡ Some p → IsReadAt p path (at_path value path)
-    by [] p pv found is = ap (λ o. o >>= reads_program) found ∙ is
-    by (index ∷ path) p pv found is =
-        subst (λ o. IsReadAt p (index ∷ path)
-        (o >>= (λ program. member_item (codes "body") index program >>= below path))) (sym found)
-        (path_from pv p is index path)
-
-pub of_path : (value : Data) (found : Option Data) (path : NodePath) → found ≡ at_path value path
-    → (contents : Contents) → reads_document value ≡ Some contents → IsReadAt contents.program path found
-of_path value found path at contents is = subst (λ o. IsReadAt contents.program path o) (sym at)
-    (read_at value contents is path)
-
--- A document without a program has no value at any path.
-pub none_at : (value : Data) (path : NodePath) → program_in value ≡ None → None ≡ at_path value path
-none_at value [] none = sym none
-none_at value (index ∷ path) none = sym
-    (ap (λ o. o >>= (λ program. member_item (codes "body") index program >>= below path)) none)
-
--- A path through the body.
-pub body_path : (value : Data) (program : Data) (path rest : NodePath) (index : ℕ)
-    → program_in value ≡ Some program
-    → path ≡ index ∷ rest → (member_item (codes "body") index program >>= below rest) ≡ at_path value path
-body_path value program path rest index found is =
-    sym (ap (at_path value) is
-    ∙ ap (λ o. o >>= (λ p. member_item (codes "body") index p >>= below rest)) found)

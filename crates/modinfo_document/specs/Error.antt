@@ -1,5 +1,6 @@
 -- The errors in reading a document's text, its JSON, its specifier and its source, each as an error of the
--- document.
+-- document; and the printed names.
+use Rattle.std.specs.Prelude.{ℕ, List, codes}
 use Rattle.deno_graph_json.specs.declared.error.ReadError.{ReadError}
 use Rattle.deno_graph_json.specs.declared.error.ReadError.TheVariants as read
 use Rattle.deno_graph_json.specs.declared.flat.error.TapeError.{TapeError}
@@ -9,6 +10,7 @@ use Rattle.deno_graph_json.specs.declared.flat.error.TapeError.TheVariants.{
 }
 use Rattle.url.specs.declared.error.ParseError.{ParseError}
 use Rattle.url.specs.declared.error.ParseError.TheVariants as url
+use Rattle.deno_graph_source.specs.FaultName.{fault_name}
 use Rattle.deno_graph_source.specs.declared.tree.fault.SourceFault.{SourceFault}
 use Rattle.deno_graph_source.specs.declared.tree.fault.SourceFault.TheVariants as source
 use Rattle.modinfo_document.specs.declared.error.DocumentError.{DocumentError}
@@ -54,3 +56,11 @@ of_source source.CommentText = Source source.CommentText
 of_source source.CommentsOverlap = Source source.CommentsOverlap
 of_source source.Shape = Source source.Shape
 of_source source.OutOfMemory = OutOfMemory
+
+-- The printed name of an error.
+abbrev pub error_name : DocumentError → List ℕ
+error_name (Json _) = codes "Json"
+error_name (Tree _) = codes "Tree"
+error_name Specifier = codes "Specifier"
+error_name (Source fault) = fault_name fault
+error_name OutOfMemory = codes "OutOfMemory"

@@ -6,8 +6,10 @@ pub mod Kind
 pub mod Literal
 pub mod Node
 pub mod Lookup
+pub mod Place
 pub mod Pointer
 pub mod Report
 pub mod ReportText
 pub mod Result
+pub mod Spelling
 pub mod internal

@@ -1,20 +1,11 @@
--- The values of a document that a program, a node and a comment are read from.
-use Rattle.std.specs.Prelude.{◌≡◌, ℕ, List, [], ◌∷◌, Option, Some, slice_get}
+-- The values of a document that a comment is read from.
+use Rattle.std.specs.Prelude.{◌≡◌, ℕ, List, Option, slice_get}
 use Rattle.serde_json.specs.Data.{Data}
 use Rattle.deno_graph_json.specs.Read.Partial.{◌>>=◌}
 use Rattle.deno_graph_source.specs.declared.tree.comments.CommentSide.{CommentSide}
 use Rattle.deno_graph_source.specs.declared.tree.comments.CommentSide.TheVariants.{Leading, Trailing}
-use Rattle.deno_graph_source.specs.declared.tree.node.Program.{Program}
-use Rattle.deno_graph_source.specs.NodePath.{NodePath, node_at}
 use Rattle.modinfo_document.specs.declared.comments.FiledEntry.{FiledEntry}
 use Rattle.modinfo_document.specs.Comments.{Sides, comments_at, reads_comment}
-use Rattle.modinfo_document.specs.Node.{reads_node, reads_program}
-
--- The node at the path is read from the value; for the empty path, the program. There is a value exactly
--- where there is a node.
-abbrev pub IsReadAt : Program → NodePath → Option Data → Type 0
-IsReadAt program [] found = (found >>= reads_program) ≡ Some program
-IsReadAt program (index ∷ path) found = (found >>= reads_node) ≡ node_at program.body (index ∷ path)
 
 -- The entries of a side.
 abbrev pub side_entries : Sides → CommentSide → List FiledEntry

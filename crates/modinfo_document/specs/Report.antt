@@ -1,14 +1,16 @@
 -- Reports on documents.
-use Rattle.std.specs.Prelude.{◌≡◌, Bool, [], true, IfSome, IsSomeAnd}
+use Rattle.std.specs.Prelude.{◌≡◌, ℕ, ◌≤◌, Bool, List, [], length, true, None, IsSomeAnd}
 use Rattle.std.specs.String.{string_bytes}
 use Rattle.serde_json.specs.Data.{Data}
 use Rattle.deno_graph_json.specs.Read.Error.{IsIn}
 use Rattle.deno_graph_json.specs.Read.Expected.{words}
 use Rattle.deno_graph_json.specs.declared.error.Mismatch.{Mismatch}
 use Rattle.deno_graph_json.specs.declared.error.ReadError.TheVariants as read
-use Rattle.modinfo_document.specs.Pointer.{LeadsInto, pointer_text}
+use Rattle.deno_graph_json.specs.declared.error.Step.{Step}
+use Rattle.modinfo_document.specs.Pointer.{pointer_text}
 use Rattle.modinfo_document.specs.declared.report.Report.{Report}
 use Rattle.modinfo_document.specs.declared.report.FaultReport.{FaultReport}
+use Rattle.modinfo_document.specs.declared.report.text_place.TextPlace.{TextPlace}
 use Rattle.modinfo_document.specs.declared.report.warning.Warnings.{Warnings}
 use Rattle.modinfo_document.specs.declared.report.Report.TheVariants.{Valid, Invalid}
 
@@ -26,13 +28,23 @@ abbrev pub LetsPass : Bool → Report → Type 0
 LetsPass is_strict (Valid warnings) = is_strict ≡ true → HasNone warnings
 LetsPass is_strict (Invalid fault) = ⊥
 
+-- The report has this fault.
+abbrev pub IsNamed : List ℕ → FaultReport → Type 0
+IsNamed name report = string_bytes report.fault ≡ name
+
+-- The report has the pointer of this path, and no other place.
+pub record HasPath (path : List Step) (report : FaultReport) : Type 0 where
+  pub pointer : IsSomeAnd report.pointer (λ pointer. string_bytes pointer ≡ pointer_text path)
+  pub other : report.other ≡ None
+  pub range : report.range ≡ None
+  pub at : report.at ≡ None
+
 -- The report has the path of the mismatch as a JSON Pointer, and the expected value in words.
 abbrev pub Reports : Mismatch → FaultReport → Type 0
-Reports mismatch report =
-    IsSomeAnd report.pointer (λ pointer. string_bytes pointer ≡ pointer_text mismatch.path)
+Reports mismatch report = HasPath mismatch.path report
     × (string_bytes report.expected ≡ words mismatch.expected)
 
--- The pointer of the report leads to a value that isn't what the report expects there.
+-- The report has the path of a value that isn't what the report expects there.
 abbrev pub PointsInto : Data → FaultReport → Type 0
 PointsInto value report = (mismatch : Mismatch) × IsIn value (read.Mismatch mismatch)
     × Reports mismatch report
@@ -42,8 +54,13 @@ abbrev pub HasPointerInto : Data → Report → Type 0
 HasPointerInto value (Valid _) = Unit {0}
 HasPointerInto value (Invalid report) = PointsInto value report
 
--- Each pointer of the report leads to a part of the value.
-abbrev pub HasPlaces : Data → FaultReport → Type 0
-HasPlaces value report =
-    IfSome report.pointer (λ pointer. LeadsInto value (string_bytes pointer))
-    × IfSome report.other (λ pointer. LeadsInto value (string_bytes pointer))
+-- The offset of the place is inside the text, or the text's length.
+abbrev pub IsPlaceIn : List ℕ → TextPlace → Type 0
+IsPlaceIn text place = place.offset ≤ length text
+
+-- The report has a place in the text, and neither pointers nor a range.
+pub record HasTextPlace (text : List ℕ) (report : FaultReport) : Type 0 where
+  pub at : IsSomeAnd report.at (IsPlaceIn text)
+  pub pointer : report.pointer ≡ None
+  pub other : report.other ≡ None
+  pub range : report.range ≡ None

@@ -1,16 +1,15 @@
 //! Checking module documents.
 
-ghost use Rattle.std.specs.Prelude.{◌≡◌, ℕ, IfOk, IfSome, IsNone, List, None, Ok, Some};
+ghost use Rattle.std.specs.Prelude.{◌≡◌, ℕ, IfOk, IfSome, IsNone, IsSomeAnd, List, None, Ok, Some};
 ghost use Rattle.std.specs.Rc.{rc_str_bytes};
-ghost use Rattle.serde_json.specs.Data.{Data};
 ghost use Rattle.serde_json.specs.Read.{read as read_text};
-ghost use Rattle.deno_graph_json.specs.Data.{tape_data};
+ghost use Rattle.deno_graph_json.specs.Data.{data_of, tape_data};
 ghost use Rattle.url.specs.Parts.{Parts};
 ghost use Rattle.url.specs.Parser.{parse_url};
 ghost use Rattle.deno_graph_source.specs.Source.{HasFault, IsValid};
-ghost use Rattle.modinfo_document.specs.Document.{IsDocumentOf, reads_document};
-ghost use Rattle.modinfo_document.specs.Check.{ReportsOn};
-ghost use Rattle.modinfo_document.specs.Report.{HasPointerInto};
+ghost use Rattle.modinfo_document.specs.Document.{Has, reads_document};
+ghost use Rattle.modinfo_document.specs.Check.{IsFaultOf, IsModuleReport, ReportsIn};
+ghost use Rattle.modinfo_document.specs.Spelling.{WarnsOfLiterals};
 
 use crate::report::{
     Report, find_warnings, json_report_at, source_report, specifier_report, tree_report,
@@ -24,9 +23,9 @@ use std::alloc::{AllocError, Global};
 /// Checks a text as a module document. Returns `Valid` if its source can be analyzed, else `Invalid`
 /// with the first fault. The only error is a failed allocation.
 pub fn check_document(alloc: Global, text: &str) -> Result<Report, AllocError>
-    ensures verdict { IfOk result (ReportsOn text.now) }
-    ensures place { (value : Data) → read_text text.now ≡ Some value → reads_document value ≡ None
-        → IfOk result (HasPointerInto value) }
+    ensures verdict { IfOk result (ReportsIn reads_document text.now) }
+    ensures report { IfOk result (IsModuleReport text.now) }
+    ensures warnings { IfOk result (WarnsOfLiterals text.now) }
 {
     let mut scratch = Scratch::new(alloc);
     match Tape::read(alloc, text, &mut scratch) {
@@ -40,10 +39,10 @@ pub fn check_document(alloc: Global, text: &str) -> Result<Report, AllocError>
 
 /// Checks the JSON of a document.
 fn check_tape(alloc: Global, tape: &Tape<'_>) -> Result<Report, AllocError>
-    ensures verdict { (text : List ℕ) → read_text text ≡ Some (tape_data tape.now)
-        → IfOk result (ReportsOn text) }
-    ensures place { reads_document (tape_data tape.now) ≡ None
-        → IfOk result (HasPointerInto (tape_data tape.now)) }
+    ensures report { (text : List ℕ) → read_text text ≡ Some (tape_data tape.now)
+        → IfOk result (IsModuleReport text) }
+    ensures warnings { (text : List ℕ) → read_text text ≡ Some (tape_data tape.now)
+        → IfOk result (WarnsOfLiterals text) }
 {
     match read_document(alloc, tape.root()) {
         Ok(document) => check_parts(alloc, tape.root(), &document),
@@ -56,35 +55,46 @@ fn check_tape(alloc: Global, tape: &Tape<'_>) -> Result<Report, AllocError>
 
 /// Checks the specifier of the document at `root`, and then the source.
 fn check_parts(alloc: Global, root: Element<'_>, document: &Document) -> Result<Report, AllocError>
-    ensures { (text : List ℕ) → IsDocumentOf text document.now → IfOk result (ReportsOn text) }
+    ensures report { (text : List ℕ) → read_text text ≡ Some (data_of root.entry)
+        → IsSomeAnd (reads_document (data_of root.entry)) (λ contents. Has contents document.now)
+        → IfOk result (IsModuleReport text) }
+    ensures warnings { (text : List ℕ) → read_text text ≡ Some (data_of root.entry)
+        → IsSomeAnd (reads_document (data_of root.entry)) (λ contents. Has contents document.now)
+        → IfOk result (WarnsOfLiterals text) }
 {
     match document.url(alloc) {
         Ok(_) => check_source(alloc, root, document),
-        Err(DocumentError::OutOfMemory) => Err(AllocError),
-        Err(fault) => Ok(Report::Invalid(specifier_report(alloc, &fault)?)),
+        Err(DocumentError::Specifier) => Ok(Report::Invalid(specifier_report(alloc)?)),
+        Err(_) => Err(AllocError),
     }
 }
 
 /// Checks the tree and the comments of the document at `root` against the source text.
 fn check_source(alloc: Global, root: Element<'_>, document: &Document) -> Result<Report, AllocError>
-    ensures { (text : List ℕ) → IsDocumentOf text document.now
-        → (url : Parts) → parse_url None document.now.specifier ≡ Ok url → IfOk result (ReportsOn text) }
+    ensures report { (text : List ℕ) → read_text text ≡ Some (data_of root.entry)
+        → IsSomeAnd (reads_document (data_of root.entry)) (λ contents. Has contents document.now)
+        → (url : Parts) → parse_url None document.now.specifier ≡ Ok url
+        → IfOk result (IsModuleReport text) }
+    ensures warnings { (text : List ℕ) → read_text text ≡ Some (data_of root.entry)
+        → IsSomeAnd (reads_document (data_of root.entry)) (λ contents. Has contents document.now)
+        → IfOk result (WarnsOfLiterals text) }
 {
     match fault_place(alloc, document)? {
-        Some(found) => {
-            let length = document.source.len();
-            Ok(Report::Invalid(source_report(alloc, root, length, &found)?))
-        }
+        Some(found) => Ok(Report::Invalid(source_report(alloc, root, document, &found)?)),
         None => Ok(Report::Valid(find_warnings(alloc, root, document)?)),
     }
 }
 
-/// The first fault of the source, if it has one.
-fn fault_place(alloc: Global, document: &Document) -> Result<Option<SourceFaultPlace>, AllocError>
+/// The first fault of the source, if it has one. The only error is a failed allocation.
+pub fn fault_place(
+    alloc: Global,
+    document: &Document,
+) -> Result<Option<SourceFaultPlace>, AllocError>
     ensures valid { IfOk result (λ found. IsNone found
         → IsValid (rc_str_bytes document.now.source) document.now.program document.now.comments) }
     ensures fault { IfOk result (λ found. IfSome found (λ found.
         HasFault (rc_str_bytes document.now.source) document.now.program document.now.comments found.fault)) }
+    ensures place { IfOk result (λ found. IfSome found (IsFaultOf document.now)) }
 {
     let text = document.source.as_str();
     source_fault_place(alloc, text, &document.program, &document.comments)

@@ -1,30 +1,51 @@
+ghost use Rattle.std.specs.Prelude.{◌≡◌};
+ghost use Rattle.modinfo_document.specs.Error.{error_name};
+
 use deno_graph_json::{Mismatch, ReadError, TapeError};
 use deno_graph_source::tree::SourceFault;
 use std::alloc::{AllocError, AllocFailed};
-use thiserror::Error;
+use std::error::Error;
+use std::fmt;
 use url::ParseError;
 
-/// Why a text isn't a module document, or a document has no source. Each is displayed by the name of
-/// the fault that the program prints.
-#[derive(Debug, PartialEq, Eq, Drop, Error)]
+/// Why a text isn't a module document, or a document has no source. Displayed by its name.
+#[derive(Debug, PartialEq, Eq, Drop)]
 pub enum DocumentError {
     /// The text isn't JSON, nests deeper than 127 or has a number too large for a float. The offset,
     /// in bytes, is that of `TapeError::Json`.
-    #[error("Json")]
     Json { offset: usize },
     /// A value in the JSON isn't what is expected there.
-    #[error("Tree")]
     Tree(Mismatch),
     /// The specifier isn't a URL.
-    #[error("Specifier")]
     Specifier,
     /// The tree or the comments don't fit the source.
-    #[error("{0}")]
     Source(SourceFault),
     /// An allocation failed, or the specifier is a URL of 4 GB.
-    #[error("OutOfMemory")]
     OutOfMemory,
 }
+
+impl DocumentError {
+    /// The name of the fault that the program prints.
+    pub fn name(&self) -> &'static str
+        ensures { result.now ≡ error_name self.now }
+    {
+        match self {
+            DocumentError::Json { .. } => "Json",
+            DocumentError::Tree(_) => "Tree",
+            DocumentError::Specifier => "Specifier",
+            DocumentError::Source(fault) => fault.name(),
+            DocumentError::OutOfMemory => "OutOfMemory",
+        }
+    }
+}
+
+impl fmt::Display for DocumentError {
+    fn fmt<W: fmt::Write>(&self, f: &mut fmt::Formatter<W>) -> fmt::Result {
+        f.write_str(self.name())
+    }
+}
+
+impl Error for DocumentError {}
 
 impl From<AllocError> for DocumentError {
     ghost use Rattle.std.specs.Prelude.{◌≡◌};

@@ -18,10 +18,9 @@ mod node;
 mod property;
 pub mod report;
 
-pub use check::check_document;
+pub use check::{check_document, fault_place};
 pub use document::{Document, parse_document, read_document};
 pub use error::DocumentError;
 pub use kind::KINDS;
 pub use literal::read_string;
-pub use lookup::{comment_at, node_at};
 pub use names::{Role, member_names};

@@ -1,64 +1,21 @@
-//! Finding the element of a document that a node or a comment was read from.
+//! Finding the element of a document that a comment was read from.
 
-ghost use Rattle.std.specs.Prelude.{◌≡◌, List, Some, option_map};
+ghost use Rattle.std.specs.Prelude.{◌≡◌, [], ◌∷◌, IfSome, List, Some, codes, option_map};
+ghost use Rattle.serde_json.specs.Data.{Data, array};
 ghost use Rattle.deno_graph_json.specs.Data.{data_of, elements_data};
+ghost use Rattle.deno_graph_json.specs.Read.Error.{value_at};
 ghost use Rattle.deno_graph_json.specs.Read.Partial.{as_usize, reads_items};
+ghost use Rattle.deno_graph_json.specs.declared.error.Step.TheVariants.{Item, Member};
 ghost use Rattle.modinfo_document.specs.declared.comments.FiledEntry.{FiledEntry};
 ghost use Rattle.modinfo_document.specs.Comments.{reads_entry};
 ghost use Rattle.modinfo_document.specs.Document.{Contents, reads_document};
-ghost use Rattle.modinfo_document.specs.Lookup.{IsCommentAt, IsReadAt, side_entries};
-ghost use Rattle.modinfo_document.specs.internal.Lookup.{below, entry_items, items_of, member_item, member_of as member_data};
+ghost use Rattle.modinfo_document.specs.Lookup.{IsCommentAt, side_entries};
+ghost use Rattle.modinfo_document.specs.Place.{comment_path};
+ghost use Rattle.modinfo_document.specs.internal.Lookup.{entry_items, items_of, member_of as member_data};
 
 use crate::comments::member_of;
 use deno_graph_json::{Element, Elements, View};
 use deno_graph_source::tree::CommentSide;
-
-/// Finds the element of the node at a path, in the document at `root`. The empty path leads to the
-/// program, `[0]` to the first node of its body. `None` if there is no such node.
-pub fn node_at<'a>(root: Element<'a>, path: &[usize]) -> Option<Element<'a>>
-    ensures { (contents : Contents) → reads_document (data_of root.entry) ≡ Some contents
-        → IsReadAt contents.program path.now (option_map data_of result) }
-{
-    let program = root.members()?.get("program")?;
-    match path.split_first() {
-        None => Some(program),
-        Some((first, rest)) => below(child(program, "body", *first)?, rest),
-    }
-}
-
-/// Finds the element of the node at a path below a node.
-fn below<'a>(node: Element<'a>, path: &[usize]) -> Option<Element<'a>>
-    ensures { option_map data_of result ≡ below path.now (data_of node.entry) }
-{
-    let mut found = node;
-    for number in path {
-        found = child(found, "children", *number)?;
-    }
-    Some(found)
-}
-
-/// Finds the element of this number in the array at the member `name`.
-#[tactic(auto, unfolding(crate::specs::internal::Lookup::member_item, crate::specs::internal::Lookup::items_of, crate::specs::internal::Lookup::member_of))]
-fn child<'a>(value: Element<'a>, name: &str, number: usize) -> Option<Element<'a>>
-    ensures { option_map data_of result ≡ member_item name.now number (data_of value.entry) }
-{
-    elements(value, name)?.get(number)
-}
-
-/// Finds the element of a comment by its side, its position, an offset in bytes, and its number from
-/// zero. The comments of all entries with that position count, in the order of the document.
-pub fn comment_at<'a>(
-    root: Element<'a>,
-    side: CommentSide,
-    position: usize,
-    number: usize,
-) -> Option<Element<'a>>
-    ensures { (contents : Contents) → reads_document (data_of root.entry) ≡ Some contents
-        → IsCommentAt (side_entries contents.comments side) position number (option_map data_of result) }
-{
-    let found = find_comment(root, side, position, number)?;
-    Some(found.value)
-}
 
 /// The element of a comment, and where it is in the document.
 #[derive(Drop)]
@@ -70,34 +27,40 @@ pub struct FoundComment<'a> {
     pub number: usize,
 }
 
-/// Like `comment_at`.
+/// Finds a comment by its side, its position, an offset in bytes, and its number from zero. The comments
+/// of all entries with that position count, in the order of the document.
 pub fn find_comment<'a>(
     root: Element<'a>,
     side: CommentSide,
     position: usize,
     number: usize,
 ) -> Option<FoundComment<'a>>
-    ensures { (contents : Contents) → reads_document (data_of root.entry) ≡ Some contents
+    ensures comment { (contents : Contents) → reads_document (data_of root.entry) ≡ Some contents
         → IsCommentAt (side_entries contents.comments side) position number
         (option_map (λ found. data_of found.value) result) }
+    ensures path { IfSome result (λ found.
+        value_at (comment_path side found.entry found.number) (data_of root.entry) ≡ Some (data_of found.value)) }
 {
     let entries = root.members()?.get(member_of(side))?.elements()?;
     comment_in(entries, position, number)
 }
 
-/// Like `comment_at`, among these entries.
+/// Like `find_comment`, among these entries.
 fn comment_in<'a>(entries: Elements<'a>, position: usize, number: usize) -> Option<FoundComment<'a>>
-    ensures { (read : List FiledEntry) → reads_items reads_entry (elements_data entries.entry) ≡ Some read
+    ensures comment { (read : List FiledEntry) → reads_items reads_entry (elements_data entries.entry) ≡ Some read
         → IsCommentAt read position number (option_map (λ found. data_of found.value) result) }
+    ensures path { IfSome result (λ found.
+        value_at (Item found.number ∷ Member (codes "comments") ∷ Item found.entry ∷ [])
+        (array (elements_data entries.entry)) ≡ Some (data_of found.value)) }
 {
     let mut passed = 0usize;
     let mut left = number;
     for entry in entries {
         let index = passed;
-        passed = passed.saturating_add(1);
+        passed += 1;
         if let Some(comments) = comments_at(entry, position) {
-            let count = comments.len();
-            if left < count {
+            let filed = comments.len();
+            if left < filed {
                 let value = comments.get(left)?;
                 return Some(FoundComment {
                     value,
@@ -105,7 +68,7 @@ fn comment_in<'a>(entries: Elements<'a>, position: usize, number: usize) -> Opti
                     number: left,
                 });
             }
-            left -= count;
+            left -= filed;
         }
     }
     None

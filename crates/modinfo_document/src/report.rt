@@ -1,6 +1,6 @@
 //! Reports on documents: the fault of a document, and where it is. docs/FORMATS.md describes them.
 
-ghost use Rattle.std.specs.Prelude.{◌≡◌, ◌↔◌, ◌==◌, IfOk, IsTrue, OnOk, Some, codes, option_map};
+ghost use Rattle.std.specs.Prelude.{◌≡◌, ◌↔◌, ◌==◌, IfOk, IsTrue, None, OnOk, Some, codes, option_map};
 ghost use Rattle.std.specs.String.{string_bytes};
 ghost use Rattle.json.specs.Json.{string};
 ghost use Rattle.json.specs.Tree.{json_tokens};
@@ -10,9 +10,11 @@ ghost use Rattle.modinfo_document.specs.Report.{LetsPass, Reports};
 ghost use Rattle.modinfo_document.specs.ReportText.{json_of_count, json_of_fault, json_of_offsets, json_of_place, json_of_valid, json_of_warning, json_of_warnings, report_text};
 ghost use Rattle.modinfo_document.specs.internal.ReportText.{member_tokens};
 
-mod element;
+mod comment;
+mod place;
 mod pointer;
 mod source;
+mod spelling;
 mod syntax;
 mod text_place;
 mod token;
@@ -26,7 +28,7 @@ use deno_graph_source::text::SourceRange;
 pub(crate) use source::source_report;
 pub use source::source_report_without_pointers;
 use std::alloc::{AllocError, Global};
-pub use syntax::{json_report, json_report_at, report_invalid_utf8};
+pub use syntax::json_report_at;
 pub use text_place::TextPlace;
 pub use tree::{specifier_report, tree_report};
 pub use warning::{Warning, Warnings};
@@ -50,21 +52,13 @@ pub struct FaultReport {
 }
 
 impl FaultReport {
-    /// A report without a pointer, a range or a place in the text.
-    pub fn new(fault: String, expected: String) -> FaultReport {
-        FaultReport {
-            fault,
-            pointer: None,
-            other: None,
-            range: None,
-            at: None,
-            expected,
-        }
-    }
-
     /// The report on the value to which this JSON Pointer leads.
     pub fn of_value(fault: String, pointer: String, expected: String) -> FaultReport
+        ensures fault { result.fault ≡ fault }
         ensures pointer { result.pointer ≡ Some pointer }
+        ensures other { result.other ≡ None }
+        ensures range { result.range ≡ None }
+        ensures at { result.at ≡ None }
         ensures expected { result.expected ≡ expected }
     {
         FaultReport {
@@ -83,7 +77,8 @@ impl FaultReport {
         fault: String,
         mismatch: &Mismatch,
     ) -> Result<FaultReport, AllocError>
-        ensures { IfOk result (Reports mismatch.now) }
+        ensures fault { IfOk result (λ report. report.fault ≡ fault) }
+        ensures mismatch { IfOk result (Reports mismatch.now) }
     {
         let pointer = pointer_of(alloc, &mismatch.path)?;
         let expected = mismatch.expected.to_words(alloc)?;
@@ -91,7 +86,13 @@ impl FaultReport {
     }
 
     /// The report on a text with an invalid byte at this place.
-    pub(crate) fn of_text(fault: String, at: TextPlace, expected: String) -> FaultReport {
+    pub fn of_text(fault: String, at: TextPlace, expected: String) -> FaultReport
+        ensures fault { result.fault ≡ fault }
+        ensures pointer { result.pointer ≡ None }
+        ensures other { result.other ≡ None }
+        ensures range { result.range ≡ None }
+        ensures at { result.at ≡ Some at }
+    {
         FaultReport {
             fault,
             pointer: None,

@@ -42,9 +42,8 @@ use Rattle.modinfo_estree.specs.Comments.{
   comment_at,
   comment_of,
   comment_with,
-  is_boundary,
-  is_text_range,
 }
+use Rattle.modinfo_estree.specs.Range.{is_boundary, is_text_range}
 
 start_of_char : (b : ℕ) → (128 ≤ b → 192 ≤ b) → is_char_start b ≡ true
 start_of_char b lead = elim (cases_lt b 128) [

@@ -201,20 +201,22 @@ module _ (source : EstreeSource) where
   no_child_outside role (array items) outer = absurd (true≢false outer)
   no_child_outside role (object ms) outer = absurd (true≢false outer)
 
+module _ (source : EstreeSource) (is_jsx : Bool) where
   -- a member that is no candidate has no child
   passed_over : (x : Entry) (xs : List Entry) → is_inner x ≡ false
-      → children_in source (named_data (x ∷ xs)) ≡ children_in source (named_data xs)
-  passed_over x xs outer = member_next source (role_of x.0) (x ∷ xs) xs x refl refl
-      ∙ ap (λ o. and_then o (children_in source (named_data xs)))
-      (no_child_outside (role_of x.0) (data_of x.1) outer)
-      ∙ and_then_nothing (children_in source (named_data xs))
+      → children_in source is_jsx (named_data (x ∷ xs)) ≡ children_in source is_jsx (named_data xs)
+  passed_over x xs outer = member_next source is_jsx (role_of is_jsx x.0) (x ∷ xs) xs x refl refl
+      ∙ ap (λ o. and_then o (children_in source is_jsx (named_data xs)))
+      (no_child_outside source (role_of is_jsx x.0) (data_of x.1) outer)
+      ∙ and_then_nothing (children_in source is_jsx (named_data xs))
 
   -- The next candidate, and the members after it.
   pub record IsNext (all : Members) (left : List Entry) (e : Entry) (rest : List Entry) : Type 0 where
     pub after : List Entry
     pub here : IsRest all (e ∷ after)
     pub kept : rest ≡ filter is_inner after
-    pub same : children_in source (named_data left) ≡ children_in source (named_data (e ∷ after))
+    pub same : children_in source is_jsx (named_data left)
+        ≡ children_in source is_jsx (named_data (e ∷ after))
 
   pub next_candidate : (all : Members) (left : List Entry) (e : Entry) (rest : List Entry) → IsRest all left
       → e ∷ rest ≡ filter is_inner left → IsNext all left e rest
@@ -228,7 +230,7 @@ module _ (source : EstreeSource) where
               after = xs;
               here = subst (λ y. IsRest all (y ∷ xs)) (sym head) h;
               kept = tail;
-              same = ap (λ y. children_in source (named_data (y ∷ xs))) (sym head);
+              same = ap (λ y. children_in source is_jsx (named_data (y ∷ xs))) (sym head);
             }
         | inr outer ↦
             let next = next_candidate all xs e rest (rest_next all (x ∷ xs) xs x h refl)
@@ -241,8 +243,8 @@ module _ (source : EstreeSource) where
       ]
 
   pub no_candidate : (left : List Entry) → [] ≡ filter is_inner left
-      → children_in source (named_data left) ≡ Some []
-  no_candidate [] is = no_member_next source [] refl
+      → children_in source is_jsx (named_data left) ≡ Some []
+  no_candidate [] is = no_member_next source is_jsx [] refl
   no_candidate (x ∷ xs) is =
       elim (cases_Bool (is_inner x)) [
         | inl inner ↦ let clash : [] ≡ x ∷ filter is_inner xs = is ∙ filter-kept x xs inner in cc
@@ -251,11 +253,11 @@ module _ (source : EstreeSource) where
 
 -- The children of the candidates so far were read, and these candidates are left.
 pub record AreLeft (all : Members) (found : List Entry) (old new : List Child) (source : EstreeSource)
-    : Type 0 where
+    (is_jsx : Bool) : Type 0 where
   pub left : List Entry
   pub rest : IsRest all left
   pub kept : found ≡ filter is_inner left
-  pub so_far : AreSoFar old new (children_in source all) (children_in source (named_data left))
+  pub so_far : AreSoFar old new (children_in source is_jsx all) (children_in source is_jsx (named_data left))
 
 item_first : (found : List Candidate) (at : ℕ) (item : Candidate) → at < length found
     → item ≡ get_or found at item
@@ -266,10 +268,11 @@ item_first found at item lt here =
     ∙ ap (λ n. get_or found at item ∷ drop n found) (sym (add-one at))))
 
 -- the candidate at an index is the next one
-pub next_left : (source : EstreeSource) (all : Members) (found : List Candidate) (at : ℕ) (item : Candidate)
-    (old new : List Child) (h : AreLeft all (map entry_of (drop at found)) old new source)
+pub next_left : (source : EstreeSource) (is_jsx : Bool) (all : Members) (found : List Candidate) (at : ℕ)
+    (item : Candidate)
+    (old new : List Child) (h : AreLeft all (map entry_of (drop at found)) old new source is_jsx)
     → at < length found → item ≡ get_or found at item
-    → IsNext source all h.left (entry_of item) (map entry_of (drop (at + 1) found))
-next_left source all found at item old new h lt here =
-    next_candidate source all h.left (entry_of item) (map entry_of (drop (at + 1) found)) h.rest
+    → IsNext source is_jsx all h.left (entry_of item) (map entry_of (drop (at + 1) found))
+next_left source is_jsx all found at item old new h lt here =
+    next_candidate source is_jsx all h.left (entry_of item) (map entry_of (drop (at + 1) found)) h.rest
     (item_first found at item lt here ∙ h.kept)

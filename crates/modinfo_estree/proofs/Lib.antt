@@ -6,6 +6,6 @@ pub mod Filings
 pub mod InnerMembers
 pub mod JsonMembers
 pub mod Nodes
-pub mod SortedChildren
+pub mod SortedByStart
 pub mod TokenTables
 pub mod UnitSizes

@@ -1,6 +1,6 @@
 -- Reading nodes and the nodes below them, one child after another.
 use Rattle.std.proofs.Common.{◌≡◌, ℕ, List, [], ◌∷◌, ◌++◌, Option, Some, None, refl, sym, ap, ◌∙◌}
-use Rattle.std.proofs.Common.{append_assoc, append-nil, codes, Bool, Bor, bytes_eq, option_map, unwrap_or}
+use Rattle.std.proofs.Common.{append_assoc, append-nil, codes, Bool, bytes_eq}
 use Rattle.std.proofs.Common.{Result, IsErrAnd, IsSomeAnd}
 use Rattle.serde_json.specs.Data.{
   Data,
@@ -15,10 +15,10 @@ use Rattle.serde_json.specs.Data.{
   item,
   Members,
 }
-use Rattle.serde_json.specs.Find.{as_object}
+use Rattle.serde_json.specs.Find.{as_object, as_str}
 use Rattle.deno_graph_base.specs.declared.text.position.SourceRange.{SourceRange}
 use Rattle.deno_graph_json.specs.Data.{data_of, named_data, view_data}
-use Rattle.deno_graph_json.specs.Read.Partial.{◌>>=◌}
+use Rattle.deno_graph_json.specs.Read.Partial.{◌>>=◌, member_at}
 use Rattle.deno_graph_json.specs.Read.Result.{IsReadError}
 use Rattle.deno_graph_json.specs.declared.error.ReadError.{ReadError}
 use Rattle.deno_graph_json.specs.declared.flat.Elements.{Elements}
@@ -29,15 +29,16 @@ use Rattle.deno_graph_json.proofs.ObjectMembers.{Entry}
 use Rattle.deno_graph_json.proofs.Reading.{before, step_error}
 use Rattle.deno_graph_source.specs.declared.tree.node.Node.{Node}
 use Rattle.modinfo_document.proofs.Results.{exits_by, some_and, some_with}
-use Rattle.modinfo_estree.specs.Child.{role_of, sorted_by_start}
+use Rattle.modinfo_estree.specs.Child.{role_of, sorted_children}
 use Rattle.modinfo_estree.specs.Kind.{reads_type}
-use Rattle.modinfo_estree.specs.Member.{reads_range, text_at, type_of}
+use Rattle.modinfo_estree.specs.Member.{reads_range, type_of}
 use Rattle.modinfo_estree.specs.Node.{
   and_then,
   as_child,
   children_at,
   children_among,
   children_in,
+  is_jsx_attribute,
   item_child,
   node_with,
   reads_node,
@@ -49,19 +50,20 @@ use Rattle.modinfo_estree.specs.internal.Node.{AreAppended}
 
 module _ (source : EstreeSource) where
   -- a node is read from the members of its object
-  pub node_read : (value : Data) → reads_node source value
-      ≡ (as_object value >>= (λ members. node_with source members (children_in source members)))
+  pub node_read : (role : Role) (value : Data) → reads_node source role value
+      ≡ (as_object value >>= (λ members. node_with source role members
+      (children_in source (is_jsx_attribute members) members)))
   unfolding reads_node
-  node_read null = refl
-  node_read (boolean b) = refl
-  node_read (number x) = refl
-  node_read (string s) = refl
-  node_read (array items) = refl
-  node_read (object ms) = refl
+  node_read role null = refl
+  node_read role (boolean b) = refl
+  node_read role (number x) = refl
+  node_read role (string s) = refl
+  node_read role (array items) = refl
+  node_read role (object ms) = refl
 
   -- an item with a type is read as a node
   pub item_read : (role : Role) (value : Data)
-      → item_child source role value ≡ as_child role (type_of value) (reads_node source value)
+      → item_child source role value ≡ as_child role (type_of value) (reads_node source role value)
   unfolding item_child reads_node
   item_read role null = refl
   item_read role (boolean b) = refl
@@ -93,7 +95,7 @@ module _ (source : EstreeSource) where
 
   -- a value with a type is a child, if it can be read
   pub one_child : (role : Role) (value : Data) (type : List ℕ) (node : Node) (is_spread : Bool)
-      (old new : List Child) → Some type ≡ type_of value → reads_node source value ≡ Some node
+      (old new : List Child) → Some type ≡ type_of value → reads_node source role value ≡ Some node
       → is_spread ≡ bytes_eq type (codes "SpreadElement")
       → new ≡ old ++ record { role = role; is_spread = is_spread; node = node } ∷ []
       → IsSomeAnd (item_child source role value) (λ children. new ≡ old ++ children)
@@ -108,16 +110,11 @@ module _ (source : EstreeSource) where
   -- a value with a type that can't be read
   pub child_error : (role : Role) (value : Data) (type : List ℕ) (old new : List Child) (error : ReadError)
       (result : Result (Unit {0}) ReadError) → Some type ≡ type_of value
-      → IsErrAnd result (λ other. other ≡ error) → IsReadError value (reads_node source value) error
+      → IsErrAnd result (λ other. other ≡ error) → IsReadError value (reads_node source role value) error
       → AreAppended value (item_child source role value) old new result
   child_error role value type old new error result typed is h = rw (item_read role value, ← typed)
-      (exits_by (λ children done. new ≡ old ++ children) value (reads_node source value) _ error result is h)
-
--- a text that may be missing, and the empty text in its place
-pub text_or : (found : Option (Bor (List ℕ))) (other : Bor (List ℕ)) → other.now ≡ []
-    → (unwrap_or found other).now ≡ unwrap_or (option_map (λ text. text.now) found) []
-text_or None other empty = empty
-text_or (Some text) other empty = refl
+      (exits_by (λ children done. new ≡ old ++ children) value (reads_node source role value) _ error result
+      is h)
 
 -- ---- children so far
 
@@ -190,21 +187,22 @@ module _ (source : EstreeSource) where
   no_item_next role left none = rw none refl
 
   -- the first member of those that are left
-  pub member_next : (role : Role) (left rest : List Entry) (e : Entry) → left ≡ e ∷ rest → role ≡ role_of e.0
-      → children_in source (named_data left)
-      ≡ and_then (children_at source role (data_of e.1)) (children_in source (named_data rest))
+  pub member_next : (is_jsx : Bool) (role : Role) (left rest : List Entry) (e : Entry) → left ≡ e ∷ rest
+      → role ≡ role_of is_jsx e.0 → children_in source is_jsx (named_data left)
+      ≡ and_then (children_at source role (data_of e.1)) (children_in source is_jsx (named_data rest))
   unfolding children_in
-  member_next role left rest e first is = rw (first, is) refl
+  member_next is_jsx role left rest e first is = rw (first, is) refl
 
-  pub no_member_next : (left : List Entry) → left ≡ [] → children_in source (named_data left) ≡ Some []
+  pub no_member_next : (is_jsx : Bool) (left : List Entry) → left ≡ []
+      → children_in source is_jsx (named_data left) ≡ Some []
   unfolding children_in
-  no_member_next left none = rw none refl
+  no_member_next is_jsx left none = rw none refl
 
   -- the node with the children that were read
-  pub type_read : (members : Members) (range : SourceRange) (children : List Child)
-      → reads_range (byte_of source) members ≡ Some range → children_in source members ≡ Some children
-      → node_with source members (children_in source members)
-      ≡ reads_type source members range (sorted_by_start children)
-      (unwrap_or (text_at (codes "type") members) [])
+  pub type_read : (role : Role) (is_jsx : Bool) (members : Members) (type : List ℕ) (range : SourceRange)
+      (children : List Child) → member_at as_str (codes "type") members ≡ Some type
+      → reads_range (byte_of source) members ≡ Some range → children_in source is_jsx members ≡ Some children
+      → node_with source role members (children_in source is_jsx members)
+      ≡ reads_type source role members range (sorted_children children) type
   unfolding node_with
-  type_read ms range children first second = rw (first, second) refl
+  type_read role is_jsx ms type range children named first second = rw (named, first, second) refl

@@ -1,8 +1,6 @@
 -- The nodes below a node, as the tree of a parser has them.
 use Rattle.std.specs.Prelude.{
   ℕ,
-  ◌==◌,
-  ◌&&◌,
   List,
   [],
   ◌∷◌,
@@ -14,7 +12,6 @@ use Rattle.std.specs.Prelude.{
   not,
   filter,
   unwrap_or,
-  nat_le,
   if◌then◌else◌,
 }
 use Rattle.deno_graph_base.specs.declared.text.position.SourceRange.{SourceRange}
@@ -22,6 +19,8 @@ use Rattle.deno_graph_source.specs.declared.tree.node.Kind.TheVariants.{Other as
 use Rattle.deno_graph_source.specs.declared.tree.node.Node.{Node, roll-Node}
 use Rattle.deno_graph_source.specs.Node.{range_of}
 use Rattle.modinfo_document.specs.Kind.{named}
+use Rattle.modinfo_estree.specs.Order.{sorted_by_start}
+use Rattle.modinfo_estree.specs.Range.{is_range}
 use Rattle.modinfo_estree.specs.declared.child.Child.{Child}
 use Rattle.modinfo_estree.specs.declared.role.Group.{Group}
 use Rattle.modinfo_estree.specs.declared.role.Group.TheVariants as group
@@ -52,9 +51,28 @@ roles =
     ∷ (codes "properties", Properties) ∷ (codes "right", Right) ∷ (codes "source", Source)
     ∷ (codes "value", Value) ∷ []
 
--- The role of the nodes in a member.
-unfoldable pub role_of : List ℕ → Role
-role_of name = unwrap_or (named roles name) Other
+-- The role of the nodes in a member. Those of an attribute of JSX are `Other`: the string that is its value
+-- isn't written as in JavaScript, and no rule reads it.
+unfoldable pub role_of : Bool → List ℕ → Role
+role_of is_jsx name = if is_jsx then Other else unwrap_or (named roles name) Other
+
+-- Whether a rule may read a string literal of this role: as a specifier, an argument, its operand, an option,
+-- the name of a module, a key or a value.
+abbrev pub is_read : Role → Bool
+is_read Arguments = true
+is_read Attributes = false
+is_read Callee = false
+is_read Decorators = false
+is_read Expressions = true
+is_read Id = true
+is_read Key = true
+is_read Left = true
+is_read Options = true
+is_read Properties = false
+is_read Right = true
+is_read Source = true
+is_read Value = true
+is_read Other = false
 
 -- Whether nodes of a role belong to a group.
 abbrev pub is_in : Group → Role → Bool
@@ -111,21 +129,9 @@ nodes_outside group children = map node_of (filter (lacks_group group) children)
 abbrev pub start_of : Child → ℕ
 start_of child = (range_of child.node).start
 
--- Children in the order of their starts, with one more child: before the first that doesn't start before it.
-unfoldable pub insert_by_start : Child → List Child → List Child
-insert_by_start child [] = child ∷ []
-insert_by_start child (next ∷ others) =
-    if nat_le (start_of child) (start_of next) then child ∷ next ∷ others
-    else next ∷ insert_by_start child others
-
--- Children in the order of their starts. Children that start at the same byte keep their order.
-unfoldable pub sorted_by_start : List Child → List Child
-sorted_by_start [] = []
-sorted_by_start (child ∷ others) = insert_by_start child (sorted_by_start others)
-
--- Whether two ranges are the same.
-abbrev pub is_range : SourceRange → SourceRange → Bool
-is_range a b = (a.start == b.start) && (a.end == b.end)
+-- Children in the order of their starts.
+abbrev pub sorted_children : List Child → List Child
+sorted_children children = sorted_by_start start_of children
 
 -- A node, inside of an `Other` of the range `extent` if that isn't the range of the node: then the node is
 -- in parentheses.

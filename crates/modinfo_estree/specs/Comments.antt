@@ -13,10 +13,11 @@ use Rattle.std.specs.Prelude.{
   ◌∷◌,
   codes,
   drop,
+  filter,
   length,
   nat_eq,
-  nat_le,
   nat_lt,
+  not,
   slice_index,
   take,
   if◌then◌else◌,
@@ -24,7 +25,6 @@ use Rattle.std.specs.Prelude.{
   Some,
   None,
 }
-use Rattle.std.specs.Fmt.{is_char_start}
 use Rattle.std.specs.List.{ends_with, filter_map, flat_map, starts_with}
 use Rattle.deno_graph_base.specs.SourceRange.{slice_of}
 use Rattle.deno_graph_base.specs.declared.text.position.SourceRange.{SourceRange}
@@ -35,17 +35,10 @@ use Rattle.deno_graph_source.specs.declared.tree.comments.CommentSide.TheVariant
 use Rattle.deno_graph_source.specs.declared.tree.comments.DependencyComment.{DependencyComment}
 use Rattle.modinfo_document.specs.Comments.{Sides, entry_with}
 use Rattle.modinfo_document.specs.declared.comments.FiledEntry.{FiledEntry}
+use Rattle.modinfo_estree.specs.Order.{sorted_by_start}
+use Rattle.modinfo_estree.specs.Range.{is_range, is_text_range}
 use Rattle.modinfo_estree.specs.Tokens.{Layout, is_on_line, token_end, token_start}
 use Rattle.modinfo_estree.specs.declared.comments.Place.{Place}
-
--- The offset is the start of a character of the text, or the end of the text.
-abbrev pub is_boundary : List ℕ → ℕ → Bool
-is_boundary text at = nat_le at (length text) && is_char_start (slice_index text at)
-
--- The range is inside the text, not reversed, and starts and ends at boundaries.
-abbrev pub is_text_range : List ℕ → SourceRange → Bool
-is_text_range text range =
-    (nat_le range.start range.end && is_boundary text range.start) && is_boundary text range.end
 
 -- The comment of this kind with this range and text.
 abbrev pub comment_with : CommentKind → SourceRange → List ℕ → DependencyComment
@@ -56,12 +49,18 @@ comment_with kind range text = record { kind = kind; range = range; text = text 
 abbrev pub block_text : List ℕ → List ℕ
 block_text rest = if ends_with nat_eq rest (codes "*/") then take (length rest - 2) rest else []
 
--- The comment with these bytes. A `#!` line and the HTML-like comments of scripts are none.
+-- The bytes begin a `#!` line or a comment as in HTML, which are no comments.
+abbrev pub is_no_comment : List ℕ → Bool
+is_no_comment bytes = starts_with nat_eq bytes (codes "#!")
+    || (starts_with nat_eq bytes (codes "<!--") || starts_with nat_eq bytes (codes "-->"))
+
+-- The comment with these bytes. Other bytes that don't begin what is no comment are read as an empty line
+-- comment, and the check of the source reports the comment.
 unfoldable pub comment_of : SourceRange → List ℕ → Option DependencyComment
 comment_of range bytes =
     if starts_with nat_eq bytes (codes "//") then Some (comment_with Line range (drop 2 bytes)) else
     (if starts_with nat_eq bytes (codes "/*") then Some (comment_with Block range (block_text (drop 2 bytes)))
-    else None)
+    else (if is_no_comment bytes then None else Some (comment_with Line range [])))
 
 -- The comment of a text at a range. For a range that is none of the text it is an empty line comment, and
 -- the check of the source reports the range.
@@ -69,6 +68,30 @@ unfoldable pub comment_at : List ℕ → SourceRange → Option DependencyCommen
 comment_at text range =
     if is_text_range text range then comment_of range (slice_of text range) else
     Some (comment_with Line range [])
+
+-- The start of a range.
+abbrev pub range_start : SourceRange → ℕ
+range_start range = range.start
+
+-- Whether the text has no `#!` line and no comment as in HTML at a range.
+unfoldable pub is_comment : List ℕ → SourceRange → Bool
+is_comment text range = not (is_text_range text range && is_no_comment (slice_of text range))
+
+-- Ranges in the order of the text after the range `last`: equal ones once, up to the first that begins before
+-- the one before it ends.
+unfoldable pub apart_after : SourceRange → List SourceRange → List SourceRange
+apart_after last [] = []
+apart_after last (next ∷ others) = if is_range last next then apart_after last others else
+    (if nat_lt next.start last.end then next ∷ [] else next ∷ apart_after next others)
+
+abbrev pub apart : List SourceRange → List SourceRange
+apart [] = []
+apart (first ∷ others) = first ∷ apart_after first others
+
+-- The ranges of the comments of a text, by those that a document has: in the order of the text, equal ones
+-- once. After two that share a byte there are no others: the check of the source reports the two.
+unfoldable pub comment_ranges : List ℕ → List SourceRange → List SourceRange
+comment_ranges text ranges = apart (sorted_by_start range_start (filter (is_comment text) ranges))
 
 -- A line comment.
 abbrev pub is_line : CommentKind → Bool
@@ -118,7 +141,7 @@ abbrev pub entries_on : CommentSide → List ℕ → Layout → Bool → List De
 entries_on side text layout is_empty comments =
     flat_map (λ comment. entry_on side (place_of text layout is_empty comment) comment) comments
 
--- The entries of both sides for the comments at some ranges, in the order of the ranges.
+-- The entries of both sides for the comments at these ranges, in the order of the ranges.
 unfoldable pub sides_of : List ℕ → Layout → Bool → List SourceRange → Sides
 sides_of text layout is_empty ranges =
     let comments = filter_map (comment_at text) ranges in

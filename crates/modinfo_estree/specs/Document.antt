@@ -24,22 +24,35 @@ use Rattle.serde_json.specs.Find.{as_object, as_str}
 use Rattle.deno_graph_base.specs.declared.text.position.SourceRange.{SourceRange}
 use Rattle.deno_graph_json.specs.Read.Partial.{◌>>=◌, member_at, member_or, reads_array}
 use Rattle.deno_graph_source.specs.declared.tree.node.Node.{Node}
-use Rattle.deno_graph_source.specs.declared.tree.node.Program.{Program}
+use Rattle.deno_graph_source.specs.declared.tree.node.Program.{Program as ParsedProgram}
 use Rattle.modinfo_document.specs.Comments.{Sides}
 use Rattle.modinfo_document.specs.Document.{Contents}
 use Rattle.modinfo_document.specs.Kind.{media_types, reads_named}
-use Rattle.modinfo_estree.specs.Comments.{sides_of}
-use Rattle.modinfo_estree.specs.Member.{has_text, is_present, reads_range}
+use Rattle.modinfo_estree.specs.Comments.{comment_ranges, sides_of}
+use Rattle.modinfo_estree.specs.Member.{is_present, reads_range}
 use Rattle.modinfo_estree.specs.Node.{reads_node}
 use Rattle.modinfo_estree.specs.Offsets.{Counted}
 use Rattle.modinfo_estree.specs.Source.{EstreeSource, byte_in}
 use Rattle.modinfo_estree.specs.Tokens.{Layout, layout}
 use Rattle.modinfo_estree.specs.declared.offsets.OffsetUnit.{OffsetUnit}
 use Rattle.modinfo_estree.specs.declared.offsets.OffsetUnit.TheVariants.{Utf16, Utf8}
+use Rattle.modinfo_estree.specs.declared.program.Outermost.{Outermost}
+use Rattle.modinfo_estree.specs.declared.program.Outermost.TheVariants.{File, Program}
+use Rattle.modinfo_estree.specs.declared.program.ProgramType.{ProgramType}
+use Rattle.modinfo_estree.specs.declared.program.ProgramType.TheVariants as inner
+use Rattle.modinfo_estree.specs.declared.role.Role.TheVariants.{Other}
 
 -- The units of offsets, by name.
 abbrev pub units : List (List ℕ × OffsetUnit)
 units = (codes "utf16", Utf16) ∷ (codes "utf8", Utf8) ∷ []
+
+-- What the outermost node is, by its type: a program, or the `File` around one, as Babel has it.
+abbrev pub outermost_types : List (List ℕ × Outermost)
+outermost_types = (codes "Program", Program) ∷ (codes "File", File) ∷ []
+
+-- The type of a program inside of a file.
+abbrev pub program_types : List (List ℕ × ProgramType)
+program_types = (codes "Program", inner.Program) ∷ []
 
 -- Ranges of comments, in the tree of a text.
 module _ (counted : Counted) where
@@ -68,21 +81,27 @@ module _ (counted : Counted) where
 module _ (source : EstreeSource) where
   unfoldable pub reads_body : Members → Option (List Node)
   reads_body members = do
-    directives ← member_or (reads_array (reads_node source)) (codes "directives") [] members
-    body ← member_at (reads_array (reads_node source)) (codes "body") members
+    directives ← member_or (reads_array (reads_node source Other)) (codes "directives") [] members
+    body ← member_at (reads_array (reads_node source Other)) (codes "body") members
     Some (directives ++ body)
 
   unfoldable pub reads_program : Data → Option (List Node)
   reads_program value = do
     members ← as_object value
+    type ← member_at (reads_named program_types) (codes "type") members
     reads_body members
 
-  -- A program, or the `File` around one, as Babel has it.
+  -- What is inside of the outermost node.
+  abbrev pub reads_inside : Members → Outermost → Option (List Node)
+  reads_inside members Program = reads_body members
+  reads_inside members File = member_at reads_program (codes "program") members
+
+  -- A program, or the `File` around one.
   unfoldable pub reads_file : Data → Option (List Node)
   reads_file value = do
     members ← as_object value
-    if has_text (codes "type") (codes "File") members then member_at reads_program (codes "program") members
-        else reads_body members
+    outermost ← member_at (reads_named outermost_types) (codes "type") members
+    reads_inside members outermost
 
 -- Whether a text begins with `#!`, after a byte order mark if there is one.
 abbrev pub has_shebang : List ℕ → Bool
@@ -99,9 +118,9 @@ abbrev pub is_empty : List ℕ → List Node → Bool
 is_empty text body = has_none body && not (has_shebang text)
 
 -- The comments and the program of a text.
-abbrev pub tree_of : List ℕ → Layout → List SourceRange → List Node → Sides × Program
+abbrev pub tree_of : List ℕ → Layout → List SourceRange → List Node → Sides × ParsedProgram
 tree_of text layout comments body = (
-  sides_of text layout (is_empty text body) comments,
+  sides_of text layout (is_empty text body) (comment_ranges text comments),
   record {
     range = record { start = 0; end = length text };
     body = body;
@@ -117,7 +136,7 @@ source_with counted comments = record {
   gaps = (layout counted.text comments).is_gap;
 }
 
-unfoldable pub reads_tree : Counted → Members → Option (Sides × Program)
+unfoldable pub reads_tree : Counted → Members → Option (Sides × ParsedProgram)
 reads_tree counted members = do
   comments ← reads_comments counted members
   body ← member_at (reads_file (source_with counted comments)) (codes "program") members

@@ -3,7 +3,7 @@
 -- that isn't here, or that lacks what is asked for here, is an `Other` with all nodes below it.
 use Rattle.std.specs.Prelude.{
   ℕ,
-  ◌==◌,
+  ◌+◌,
   ◌&&◌,
   ◌||◌,
   List,
@@ -50,12 +50,13 @@ use Rattle.deno_graph_source.specs.declared.tree.node.PropKey.TheVariants as key
 use Rattle.deno_graph_source.specs.Node.{children_of, kind_of, range_of}
 use Rattle.deno_graph_source.specs.declared.tree.node.StrLit.{StrLit}
 use Rattle.deno_graph_source.specs.Node.{is_object}
-use Rattle.modinfo_document.specs.Kind.{named, phases}
+use Rattle.modinfo_document.specs.Kind.{named, phases, reads_named}
 use Rattle.modinfo_document.specs.Literal.{reads_string}
 use Rattle.modinfo_estree.specs.Child.{
   around,
   has_group,
   in_extent,
+  is_read,
   lacks_group,
   node_of,
   nodes_in,
@@ -68,16 +69,18 @@ use Rattle.modinfo_estree.specs.Member.{
   has_type,
   is_present,
   is_true,
-  reads_literal,
   reads_range,
   text_at,
 }
+use Rattle.modinfo_estree.specs.Literal.{if_spelled, reads_literal}
+use Rattle.modinfo_estree.specs.Offsets.{Counted}
 use Rattle.modinfo_estree.specs.Parentheses.{extent_in_call, is_byte}
 use Rattle.modinfo_estree.specs.Source.{EstreeSource, byte_of, gaps}
 use Rattle.modinfo_estree.specs.Tokens.{token_start}
 use Rattle.modinfo_estree.specs.declared.child.Child.{Child}
 use Rattle.modinfo_estree.specs.declared.role.Group.{Group}
 use Rattle.modinfo_estree.specs.declared.role.Group.TheVariants as group
+use Rattle.modinfo_estree.specs.declared.role.Role.{Role}
 
 -- A node of this kind.
 abbrev pub made : Kind → SourceRange → List Node → Node
@@ -101,11 +104,6 @@ key_of_kind _ = key.Other
 abbrev pub first_key : List Node → PropKey
 first_key [] = key.Other
 first_key (node ∷ _) = key_of_kind (kind_of node)
-
--- Whether an identifier is `require`.
-abbrev pub is_require_kind : Kind → Bool
-is_require_kind (kind.Ident name) = bytes_eq name (codes "require")
-is_require_kind _ = false
 
 -- Whether a key is `with`, or `assert` as it was once.
 abbrev pub is_with : List ℕ → Bool
@@ -141,10 +139,10 @@ abbrev pub clause_of : List Node → List Node
 clause_of [] = []
 clause_of (options ∷ _) = clause_among (children_of options)
 
--- The phases of an import, by name. An import without a phase is evaluated.
-abbrev pub phase_named : Option (List ℕ) → ImportPhase
-phase_named None = phase.Evaluation
-phase_named (Some name) = unwrap_or (named phases name) phase.Evaluation
+-- The phase of an import, by its name. An import without a phase is evaluated.
+unfoldable pub reads_phase : Members → Option ImportPhase
+reads_phase members = if is_present (codes "phase") members
+    then member_at (reads_named phases) (codes "phase") members else Some phase.Evaluation
 
 -- The operator of a binary expression.
 abbrev pub operator_of : Bool → BinaryOp
@@ -164,10 +162,10 @@ reads_cooked value = do
 
 -- The literal of an import type: `source`, or `argument` in older trees, a literal or a node with a
 -- `literal`.
-module _ (byte_of : ℕ → ℕ) where
+module _ (counted : Counted) where
   abbrev pub literal_or : Data → Option Data → Option StrLit
-  literal_or argument None = reads_literal byte_of argument
-  literal_or argument (Some literal) = reads_literal byte_of literal
+  literal_or argument None = reads_literal counted argument
+  literal_or argument (Some literal) = reads_literal counted literal
 
   unfoldable pub reads_literal_in : Data → Option StrLit
   reads_literal_in argument = do
@@ -176,7 +174,7 @@ module _ (byte_of : ℕ → ℕ) where
 
   unfoldable pub reads_argument : Members → Option StrLit
   reads_argument members =
-      if is_present (codes "source") members then member_at (reads_literal byte_of) (codes "source") members
+      if is_present (codes "source") members then member_at (reads_literal counted) (codes "source") members
       else member_at reads_literal_in (codes "argument") members
 
 -- The first decorator.
@@ -234,11 +232,6 @@ module _ (range : SourceRange) where
   unfoldable pub module_of : List Child → Node
   module_of children = whole children (module_kind (first_literal (nodes_in group.Id children)))
 
-  -- Whether a callee is `require`, not in parentheses.
-  abbrev pub is_require : List Node → Bool
-  is_require [] = false
-  is_require (callee ∷ _) = is_require_kind (kind_of callee) && ((range_of callee).start == range.start)
-
   -- A method of Babel: a function, and outside of it its decorators and its computed key, as ESTree has them.
   abbrev pub method_of : Group → List Child → Node
   method_of group children = made kind.Other range
@@ -290,19 +283,21 @@ module _ (members : Members) where
   unfoldable pub kind_of_type : List ℕ → Kind
   kind_of_type type = unwrap_or (named kinds type) kind.Other
 
-  -- The callee of a call that may be a dependency: `require`, or `import` as Babel has it.
-  unfoldable pub callee : SourceRange → List Child → Option Callee
-  callee range children =
+  -- Whether a callee is `import`, as Babel has it, or as an identifier.
+  abbrev pub is_import : Bool
+  is_import = has_type (codes "callee") (codes "Import") members
+      || has_name (codes "callee") (codes "import") members
+
+  -- The callee of a call that isn't optional: `import`, if the call has an argument, or an expression.
+  unfoldable pub callee : List Child → Option Callee
+  callee children =
       if is_true (codes "optional") members
-      || not (nat_lt 0 (length (nodes_in group.Arguments children))) then None
-      else (if has_type (codes "callee") (codes "Import") members then Some (Import phase.Evaluation)
-      else (if is_require range (nodes_in group.Callee children) then Some Expr else None))
+      || not (nat_lt 0 (length (nodes_in group.Callee children))) then None
+      else (if is_import && nat_lt 0 (length (nodes_in group.Arguments children))
+      then Some (Import phase.Evaluation) else Some Expr)
 
 -- A node from its members, its range and the nodes below it.
 module _ (members : Members) (range : SourceRange) (children : List Child) where
-  unfoldable pub literal : Node
-  literal = whole_or_other range children (option_map kind.Str (string_value members))
-
   abbrev pub template_with : Option (List (List ℕ)) → Node
   template_with None = whole range children kind.Other
   template_with (Some texts) = made (kind.Template texts) range (nodes_in group.Expressions children)
@@ -328,6 +323,11 @@ module _ (members : Members) (range : SourceRange) (children : List Child) where
   method = if is_true (codes "computed") members then method_of range group.DecoratorsAndKey children
       else method_of range group.Decorators children
 
+-- The nodes of a callee, of which an import has none.
+abbrev pub nodes_of_callee : Callee → List Node → List Node
+nodes_of_callee Expr nodes = nodes
+nodes_of_callee _ nodes = []
+
 -- Nodes for which the text has to be asked.
 module _ (source : EstreeSource) (range : SourceRange) where
   -- Whether a declaration has a `with` clause: it has attributes; or a token follows its source that isn't
@@ -337,22 +337,40 @@ module _ (source : EstreeSource) (range : SourceRange) where
       || (nat_lt (token_start (gaps source) src.range.end) range.end
       && not (is_byte 59 (slice_get source.text (token_start (gaps source) src.range.end))))
 
-  -- The arguments of a call, each with the parentheses around it.
-  abbrev pub argument_extent : Child → SourceRange
-  argument_extent child = extent_in_call source range.end (range_of child.node)
+  -- The callee or an argument of a call with the parentheses around it, within these bounds.
+  abbrev pub in_call : SourceRange → Child → Node
+  in_call bounds child = around (extent_in_call source bounds (range_of child.node)) child.node
 
-  abbrev pub argument : Child → Arg
-  argument child = record { spread = child.is_spread; range = argument_extent child }
+  abbrev pub argument : SourceRange → Child → Arg
+  argument bounds child = record {
+    spread = child.is_spread;
+    range = extent_in_call source bounds (range_of child.node);
+  }
 
-  abbrev pub argument_node : Child → Node
-  argument_node child = around (argument_extent child) child.node
+  -- The offset after the byte at an offset, or the end of the text.
+  abbrev pub after_byte : ℕ → ℕ
+  after_byte at = if nat_lt at (length source.text) then at + 1 else length source.text
+
+  -- Where parentheses around arguments are: after the first token that follows the callee, which opens the
+  -- arguments or type arguments, and before the end of the call.
+  abbrev pub argument_bounds : List Node → SourceRange
+  argument_bounds [] = range
+  argument_bounds (callee ∷ _) = record {
+    start = after_byte (token_start (gaps source) (range_of callee).end);
+    end = range.end;
+  }
 
   -- A call: nodes of its callee, its arguments, and other nodes as type arguments.
-  unfoldable pub call_of : Callee → List Node → List Child → Node
-  call_of callee callee_nodes below =
-      made (kind.Call callee (map argument (filter (has_group group.Arguments) below))) range
-      (callee_nodes ++ map argument_node (filter (has_group group.Arguments) below)
+  unfoldable pub call_of : Callee → SourceRange → List Node → List Child → Node
+  call_of callee bounds callee_nodes below =
+      made (kind.Call callee (map (argument bounds) (filter (has_group group.Arguments) below))) range
+      (callee_nodes ++ map (in_call bounds) (filter (has_group group.Arguments) below)
       ++ nodes_outside group.Arguments below)
+
+  -- A call of a callee, with the nodes of that.
+  abbrev pub call_by : Callee → List Node → List Child → Node
+  call_by callee nodes below =
+      call_of callee (argument_bounds nodes) (nodes_of_callee callee nodes) below
 
 -- Nodes for which the members, the nodes below and the text are asked.
 module _ (source : EstreeSource) (members : Members) (range : SourceRange) (children : List Child) where
@@ -372,44 +390,47 @@ module _ (source : EstreeSource) (members : Members) (range : SourceRange) (chil
 
   unfoldable pub reads_import : Option Node
   reads_import = do
-    src ← member_at (reads_literal (byte_of source)) (codes "source") members
+    src ← member_at (reads_literal source.counted) (codes "source") members
+    phase ← reads_phase members
     Some (made
         (kind.ImportDecl (has_text (codes "importKind") (codes "type") members)
-        (phase_named (text_at (codes "phase") members)) src (has_items (codes "specifiers") members)
+        phase src (has_items (codes "specifiers") members)
         (has_clause source range attributes src))
         range (clause range attributes (has_clause source range attributes src)))
 
   -- An export from a module. `export *` and `export { .. }` give the same information.
   unfoldable pub reads_export_from : Option Node
   reads_export_from = do
-    src ← member_at (reads_literal (byte_of source)) (codes "source") members
+    src ← member_at (reads_literal source.counted) (codes "source") members
     Some (made
         (kind.NamedExport (has_text (codes "exportKind") (codes "type") members) (Some src)
         (has_clause source range attributes src))
         range (clause range attributes (has_clause source range attributes src)))
 
-  -- The call of a callee, if that may be a dependency.
+  -- The call of a callee, if there is one.
   abbrev pub call_with : Option Callee → Node
   call_with None = whole range children kind.Other
-  call_with (Some Expr) =
-      call_of source range Expr (nodes_in group.Callee children) (filter (lacks_group group.Callee) children)
-  call_with (Some other) = call_of source range other [] (filter (lacks_group group.Callee) children)
+  call_with (Some callee) = call_by source range callee
+      (map (in_call source range range) (filter (has_group group.Callee) children))
+      (filter (lacks_group group.Callee) children)
 
   unfoldable pub call : Node
-  call = call_with (callee members range children)
+  call = call_with (callee members children)
 
   -- The children of an `ImportExpression`. Some trees have the options as `attributes` too.
   abbrev pub import_children : List Node → List Child
   import_children [] = children
   import_children (_ ∷ _) = filter (lacks_group group.Attributes) children
 
-  unfoldable pub import_call : Node
-  import_call = call_of source range (Import (phase_named (text_at (codes "phase") members))) []
-      (import_children (nodes_in group.Options children))
+  unfoldable pub reads_import_call : Option Node
+  reads_import_call = do
+    phase ← reads_phase members
+    Some (call_of source range (Import phase) range []
+        (import_children (nodes_in group.Options children)))
 
   unfoldable pub reads_import_type : Option Node
   reads_import_type = do
-    arg ← reads_argument (byte_of source) members
+    arg ← reads_argument source.counted members
     Some (made (kind.ImportType arg (nat_lt 0 (length (clause_of (nodes_in group.Options children)))))
         range (clause_of (nodes_in group.Options children) ++ nodes_outside group.Options children))
 
@@ -419,9 +440,6 @@ module _ (source : EstreeSource) (members : Members) (range : SourceRange) (chil
       (codes "ExportDefaultDeclaration", export_of)
       ∷ (codes "TSModuleDeclaration", module_of range children)
       ∷ (codes "CallExpression", call)
-      ∷ (codes "ImportExpression", import_call)
-      ∷ (codes "Literal", literal members range children)
-      ∷ (codes "StringLiteral", literal members range children)
       ∷ (codes "TemplateLiteral", template members range children)
       ∷ (codes "BinaryExpression", binary members range children)
       ∷ (codes "Identifier", identifier members range children)
@@ -440,7 +458,7 @@ module _ (source : EstreeSource) (members : Members) (range : SourceRange) (chil
 abbrev pub external_in : EstreeSource → Data → Option StrLit
 external_in source reference = do
   members ← as_object reference
-  member_at (reads_literal (byte_of source)) (codes "expression") members
+  member_at (reads_literal source.counted) (codes "expression") members
 
 -- Whether a declaration imports types only.
 abbrev pub is_type_import : Members → Bool
@@ -466,7 +484,6 @@ module _ (source : EstreeSource) (range : SourceRange) (children : List Child) w
     declared ← as_object declaration
     reads_import_equals true declared
 
--- The node of a type.
 module _ (source : EstreeSource) (members : Members) (range : SourceRange) (children : List Child) where
   -- An export: from a module, of an `import name = ..`, or of a declaration or names of this module.
   unfoldable pub reads_named_export : Option Node
@@ -476,16 +493,38 @@ module _ (source : EstreeSource) (members : Members) (range : SourceRange) (chil
       then member_at (reads_exported source range children) (codes "declaration") members
       else Some (export_of source members range children))
 
+-- A literal, which is a string or an `Other`.
+module _ (source : EstreeSource) (role : Role) (range : SourceRange) (children : List Child) where
+  -- The node of a string. If a rule may read the string, the text has to spell it.
+  abbrev pub reads_spelled : List ℕ → Option Node
+  reads_spelled text = if is_read role then (do
+    spelled ← if_spelled source.counted.text range text
+    Some (whole range children (kind.Str spelled))) else Some (whole range children (kind.Str text))
+
+  abbrev pub reads_string_with : Option (List ℕ) → Option Node
+  reads_string_with None = Some (whole range children kind.Other)
+  reads_string_with (Some text) = reads_spelled text
+
+unfoldable pub reads_string_node : EstreeSource → Role → Members → SourceRange → List Child → Option Node
+reads_string_node source role members range children =
+    reads_string_with source role range children (string_value members)
+
+-- The node of a type.
+module _ (source : EstreeSource) (role : Role) (members : Members) (range : SourceRange)
+    (children : List Child) where
   -- The nodes of the types that need a member.
   abbrev pub types : List (List ℕ × Option Node)
   types =
       (codes "ImportDeclaration", reads_import source members range children)
       ∷ (codes "ExportAllDeclaration", reads_export_from source members range children)
-      ∷ (codes "ExportNamedDeclaration", reads_named_export)
+      ∷ (codes "ExportNamedDeclaration", reads_named_export source members range children)
       ∷ (
         codes "TSImportEqualsDeclaration",
         reads_import_equals source range children (is_true (codes "isExport") members) members,
       )
+      ∷ (codes "ImportExpression", reads_import_call source members range children)
+      ∷ (codes "Literal", reads_string_node source role members range children)
+      ∷ (codes "StringLiteral", reads_string_node source role members range children)
       ∷ (codes "TSImportType", reads_import_type source members range children) ∷ []
 
   unfoldable pub reads_type : List ℕ → Option Node

@@ -2,10 +2,13 @@ pub mod Child
 pub mod Comments
 pub mod Document
 pub mod Kind
+pub mod Literal
 pub mod Member
 pub mod Node
 pub mod Offsets
+pub mod Order
 pub mod Parentheses
+pub mod Range
 pub mod Source
 pub mod Tokens
 pub mod internal

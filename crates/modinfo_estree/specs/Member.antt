@@ -20,8 +20,6 @@ use Rattle.serde_json.specs.Events.{items_len}
 use Rattle.serde_json.specs.Find.{as_array, as_bool, as_object, as_str, get_member}
 use Rattle.deno_graph_base.specs.declared.text.position.SourceRange.{SourceRange}
 use Rattle.deno_graph_json.specs.Read.Partial.{◌>>=◌, as_usize, member_at, reads_pair}
-use Rattle.deno_graph_source.specs.declared.tree.node.StrLit.{StrLit}
-use Rattle.modinfo_document.specs.Literal.{reads_string}
 
 -- The text of a member that is a string.
 abbrev pub text_at : List ℕ → Members → Option (List ℕ)
@@ -71,7 +69,7 @@ is_given (Some _) = true
 abbrev pub is_present : List ℕ → Members → Bool
 is_present name members = is_given (get_member name members)
 
--- Ranges and literals in the tree of a text, whose offsets in bytes are given by `byte_of`.
+-- Ranges in the tree of a text, whose offsets in bytes are given by `byte_of`.
 module _ (byte_of : ℕ → ℕ) where
   -- The range between two offsets of the tree.
   abbrev pub range_between : ℕ → ℕ → SourceRange
@@ -98,15 +96,3 @@ module _ (byte_of : ℕ → ℕ) where
   -- The range of a node or comment: `range`, or `start` and `end`.
   abbrev pub reads_range : Members → Option SourceRange
   reads_range members = range_or members (get_member (codes "range") members)
-
-  -- A string literal, whose member `value` is its value.
-  unfoldable pub reads_literal : Data → Option StrLit
-  reads_literal value = do
-    members ← as_object value
-    range ← reads_range members
-    text ← member_at reads_string (codes "value") members
-    Some (record { value = text; range = range })
-
-  -- The literal that is a member.
-  abbrev pub reads_literal_at : List ℕ → Members → Option StrLit
-  reads_literal_at name members = member_at reads_literal name members

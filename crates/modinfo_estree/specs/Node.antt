@@ -1,5 +1,5 @@
 -- Reading nodes, with all nodes below.
-use Rattle.std.specs.Prelude.{ℕ, List, [], ◌∷◌, ◌++◌, codes, bytes_eq, Option, Some, None, unwrap_or}
+use Rattle.std.specs.Prelude.{ℕ, List, [], ◌∷◌, ◌++◌, Bool, codes, bytes_eq, Option, Some, None}
 use Rattle.serde_json.specs.Data.{
   Data,
   null,
@@ -15,11 +15,12 @@ use Rattle.serde_json.specs.Data.{
   no_members,
   member,
 }
-use Rattle.deno_graph_json.specs.Read.Partial.{◌>>=◌}
+use Rattle.serde_json.specs.Find.{as_str}
+use Rattle.deno_graph_json.specs.Read.Partial.{◌>>=◌, member_at}
 use Rattle.deno_graph_source.specs.declared.tree.node.Node.{Node}
-use Rattle.modinfo_estree.specs.Child.{role_of, sorted_by_start}
+use Rattle.modinfo_estree.specs.Child.{role_of, sorted_children}
 use Rattle.modinfo_estree.specs.Kind.{reads_type}
-use Rattle.modinfo_estree.specs.Member.{reads_range, text_at}
+use Rattle.modinfo_estree.specs.Member.{has_text, reads_range, text_at}
 use Rattle.modinfo_estree.specs.Source.{EstreeSource, byte_of}
 use Rattle.modinfo_estree.specs.declared.child.Child.{Child}
 use Rattle.modinfo_estree.specs.declared.role.Role.{Role}
@@ -46,29 +47,35 @@ and_then first others = do
   ys ← others
   Some (xs ++ ys)
 
+-- Whether a node is an attribute of JSX.
+abbrev pub is_jsx_attribute : Members → Bool
+is_jsx_attribute = has_text (codes "type") (codes "JSXAttribute")
+
 module _ (source : EstreeSource) where
   -- The node with these members and these nodes below it, which are in the order of their members' names.
-  unfoldable pub node_with : Members → Option (List Child) → Option Node
-  node_with members below = do
+  unfoldable pub node_with : Role → Members → Option (List Child) → Option Node
+  node_with role members below = do
+    type ← member_at as_str (codes "type") members
     range ← reads_range (byte_of source) members
     children ← below
-    reads_type source members range (sorted_by_start children) (unwrap_or (text_at (codes "type") members) [])
+    reads_type source role members range (sorted_children children) type
 
   unfoldable mutual
-    -- A node, with all nodes below it.
-    pub reads_node : Data → Option Node
-    reads_node null = None
-    reads_node (boolean _) = None
-    reads_node (number _) = None
-    reads_node (string _) = None
-    reads_node (array _) = None
-    reads_node (object members) = node_with members (children_in members)
+    -- A node of a role, with all nodes below it.
+    pub reads_node : Role → Data → Option Node
+    reads_node role null = None
+    reads_node role (boolean _) = None
+    reads_node role (number _) = None
+    reads_node role (string _) = None
+    reads_node role (array _) = None
+    reads_node role (object members) =
+        node_with role members (children_in (is_jsx_attribute members) members)
 
-    -- The nodes in the members of a node.
-    pub children_in : Members → Option (List Child)
-    children_in no_members = Some []
-    children_in (member name value members) =
-        and_then (children_at (role_of name) value) (children_in members)
+    -- The nodes in the members of a node, which may be an attribute of JSX.
+    pub children_in : Bool → Members → Option (List Child)
+    children_in is_jsx no_members = Some []
+    children_in is_jsx (member name value members) =
+        and_then (children_at (role_of is_jsx name) value) (children_in is_jsx members)
 
     -- The nodes in a member: its value, or the items of an array.
     pub children_at : Role → Data → Option (List Child)
@@ -78,7 +85,8 @@ module _ (source : EstreeSource) where
     children_at role (string _) = Some []
     children_at role (array items) = children_among role items
     children_at role (object members) =
-        as_child role (text_at (codes "type") members) (node_with members (children_in members))
+        as_child role (text_at (codes "type") members)
+        (node_with role members (children_in (is_jsx_attribute members) members))
 
     -- The items of an array that are nodes.
     pub children_among : Role → Items → Option (List Child)
@@ -93,4 +101,5 @@ module _ (source : EstreeSource) where
     item_child role (string _) = Some []
     item_child role (array _) = Some []
     item_child role (object members) =
-        as_child role (text_at (codes "type") members) (node_with members (children_in members))
+        as_child role (text_at (codes "type") members)
+        (node_with role members (children_in (is_jsx_attribute members) members))

@@ -1,4 +1,5 @@
--- Parentheses around the arguments of calls. The tree of a parser has none, so the text has to tell.
+-- Parentheses around the callees and the arguments of calls. The tree of a parser has none, so the text has
+-- to tell.
 use Rattle.std.specs.Prelude.{
   ℕ,
   zero,
@@ -12,6 +13,8 @@ use Rattle.std.specs.Prelude.{
   Some,
   None,
   Option,
+  length,
+  nat_le,
   nat_lt,
   slice_get,
   if◌then◌else◌,
@@ -33,26 +36,27 @@ module _ (source : EstreeSource) where
     end = token_start (gaps source) range.end + 1;
   }
 
-  -- Whether parentheses are the next tokens on both sides of a range, and end before the offset `limit`,
-  -- which is the end of the call.
-  abbrev pub has_pair : ℕ → SourceRange → Bool
-  has_pair limit range =
+  -- Whether parentheses are the next tokens on both sides of a range, the first at the start of `bounds` or
+  -- after it, and the second before the end of `bounds`.
+  abbrev pub has_pair : SourceRange → SourceRange → Bool
+  has_pair bounds range =
       nat_lt 0 (token_end (gaps source) range.start)
       && is_byte 40 (slice_get source.text (token_end (gaps source) range.start - 1))
       && is_byte 41 (slice_get source.text (token_start (gaps source) range.end))
-      && nat_lt (token_start (gaps source) range.end + 1) limit
+      && nat_le bounds.start (token_end (gaps source) range.start - 1)
+      && nat_lt (token_start (gaps source) range.end + 1) bounds.end
 
   -- The pair of parentheses around a range, if there is one.
-  abbrev pub pair_around : ℕ → SourceRange → Option SourceRange
-  pair_around limit range = if has_pair limit range then Some (outside range) else None
+  abbrev pub pair_around : SourceRange → SourceRange → Option SourceRange
+  pair_around bounds range = if has_pair bounds range then Some (outside range) else None
 
   -- The range with at most `count` pairs of parentheses around it.
-  unfoldable pub with_parentheses : ℕ → ℕ → SourceRange → SourceRange
-  with_parentheses zero limit range = range
-  with_parentheses (suc count) limit range =
-      if has_pair limit range then with_parentheses count limit (outside range) else range
+  unfoldable pub with_parentheses : ℕ → SourceRange → SourceRange → SourceRange
+  with_parentheses zero bounds range = range
+  with_parentheses (suc count) bounds range =
+      if has_pair bounds range then with_parentheses count bounds (outside range) else range
 
-  -- The range of an argument with the parentheses around it, in a call that ends at `limit`. No tree that
-  -- can be read nests deeper than 127.
-  abbrev pub extent_in_call : ℕ → SourceRange → SourceRange
-  extent_in_call limit range = with_parentheses 127 limit range
+  -- The range of the callee or of an argument of a call with the parentheses around it, within these bounds.
+  -- A text has fewer pairs than bytes.
+  abbrev pub extent_in_call : SourceRange → SourceRange → SourceRange
+  extent_in_call bounds range = with_parentheses (length source.text) bounds range

@@ -2,7 +2,7 @@
 #![tactic(auto, unfolding(deno_graph_source::specs::Node::range_of))]
 
 ghost use Rattle.std.specs.Prelude.{◌≡◌, [], ◌∷◌, ◌++◌, IfOk, OnOk, filter, map, option_copied, slice_get};
-ghost use Rattle.modinfo_estree.specs.Child.{has_group, in_extent, lacks_group, node_of, sorted_by_start};
+ghost use Rattle.modinfo_estree.specs.Child.{has_group, in_extent, lacks_group, node_of, sorted_children};
 ghost use Rattle.modinfo_estree.specs.Child.{around as around_node, extent_in, nodes_in};
 
 use crate::role::{Group, Role};
@@ -22,7 +22,7 @@ pub struct Child {
 
 /// Puts children into the order of their starts. Children that start at the same byte keep their order.
 pub fn sort_by_start(children: &mut Vec<Child>) -> Result<(), AllocError>
-    ensures { OnOk result (children.new.items ≡ sorted_by_start children.old.items) }
+    ensures { OnOk result (children.new.items ≡ sorted_children children.old.items) }
 {
     children.sort_by_key(|child| child.node.range.start)
 }

@@ -3,24 +3,24 @@
 ghost use Rattle.std.specs.Prelude.{◌≡◌, ◌-◌, true, false, drop, length, nat_eq, slice_index, take};
 ghost use Rattle.std.specs.Prelude.{IfOk, OnOk, MatchOption};
 ghost use Rattle.std.specs.List.{ends_with, starts_with};
-ghost use Rattle.deno_graph_base.specs.SourceRange.{slice_of};
 ghost use Rattle.modinfo_document.specs.Comments.{AreThoseOf};
 ghost use Rattle.modinfo_estree.specs.Comments.{block_text, comment_at, comment_of, comment_with};
 ghost use Rattle.modinfo_estree.specs.Comments.{is_closing, is_line};
-ghost use Rattle.modinfo_estree.specs.Comments.{is_boundary, is_text_range};
 ghost use Rattle.modinfo_estree.specs.Comments.{place_of, sides_of, trails};
 ghost use Rattle.modinfo_estree.specs.internal.Comments.{IsFiled};
 
+use crate::comment_order::is_no_comment;
+use crate::slice::slice_at;
 use crate::tokens::Tokens;
 use deno_graph_base::text::SourceRange;
 use deno_graph_base::values::Text;
 use deno_graph_source::tree::{CommentKind, CommentSide, Comments, DependencyComment};
 use std::alloc::{AllocError, Global};
 
-/// Files the comments at some ranges, in the order of the ranges. Passes over a range where the text has
-/// no comment. Files an empty line comment for a range that is none of the text, so that a check of the
-/// source reports the range. `is_empty` says that the text has no token. Fails only if an allocation
-/// fails.
+/// Files the comments at some ranges, in the order of the ranges. Passes over a range where the text has a
+/// `#!` line or a comment as in HTML. Files an empty line comment where the text has no comment or no such
+/// range, so that a check of the source reports the range. `is_empty` says that the text has no token. Fails
+/// only if an allocation fails.
 pub fn file_comments(
     alloc: Global,
     text: &str,
@@ -136,7 +136,8 @@ fn comment_at(
     }
 }
 
-/// Returns the comment with these bytes, or `None` if they are no comment.
+/// Returns the comment with these bytes, or `None` if they begin a `#!` line or a comment as in HTML. Other
+/// bytes are read as an empty line comment, so that a check of the source reports the comment.
 #[tactic(auto, unfolding(crate::specs::Comments::comment_of))]
 fn comment_of(
     alloc: Global,
@@ -149,7 +150,8 @@ fn comment_of(
         Some(rest) => comment_with(alloc, CommentKind::Line, range, rest),
         None => match after(bytes, "/*") {
             Some(rest) => comment_with(alloc, CommentKind::Block, range, block_text(rest)),
-            None => Ok(None),
+            None if is_no_comment(bytes) => Ok(None),
+            None => comment_with(alloc, CommentKind::Line, range, ""),
         },
     }
 }
@@ -175,28 +177,6 @@ fn block_text(rest: &str) -> &str
         Some(inside) => inside,
         None => "",
     }
-}
-
-/// Returns the part of a text at a range, or `None` if the range is none of the text.
-fn slice_at(text: &str, range: SourceRange) -> Option<&str>
-    ensures { MatchOption result (is_text_range text.now range ≡ false)
-        (λ part. (is_text_range text.now range ≡ true) × (part.now ≡ slice_of text.now range)) }
-{
-    let is_inside = range.start <= range.end
-        && is_boundary(text, range.start)
-        && is_boundary(text, range.end);
-    if is_inside {
-        Some(&text[range.start..range.end])
-    } else {
-        None
-    }
-}
-
-/// Returns whether an offset is the start of a character of a text, or the end of the text.
-fn is_boundary(text: &str, at: usize) -> bool
-    ensures { result ≡ is_boundary text.now at }
-{
-    text.is_char_boundary(at)
 }
 
 /// Returns what follows `start` at the start of a text, or `None` if the text doesn't start so.

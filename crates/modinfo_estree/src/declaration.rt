@@ -1,6 +1,6 @@
 //! Imports, exports and modules.
 
-ghost use Rattle.std.specs.Prelude.{◌≡◌, IfOk, map, option_map};
+ghost use Rattle.std.specs.Prelude.{◌≡◌, IfOk, map};
 ghost use Rattle.deno_graph_json.specs.Data.{data_of};
 ghost use Rattle.deno_graph_json.specs.ObjectReader.{readable, value_of};
 ghost use Rattle.deno_graph_json.specs.Read.Result.{IsReadResult};
@@ -10,13 +10,15 @@ ghost use Rattle.modinfo_estree.specs.Kind as spec;
 ghost use Rattle.modinfo_estree.specs.Source.{source_of};
 
 use crate::child::{Child, first_in, nodes_of, split};
-use crate::member::{has_items, has_text, has_type, is_present, read_literal_at, text_at};
+use crate::literal::read_literal_at;
+use crate::member::{has_items, has_text, has_type, is_present};
+use crate::phase::read_phase;
 use crate::reading::Reading;
 use crate::required::in_member;
 use crate::role::Group;
 use crate::source::Members;
 use deno_graph_json::{Element, ReadError};
-use deno_graph_source::tree::{ImportPhase, Kind, Node, StrLit};
+use deno_graph_source::tree::{Kind, Node, StrLit};
 use deno_graph_source::values::{Items, TryClone};
 use std::alloc::{AllocError, Global};
 
@@ -35,12 +37,13 @@ impl<'a, 't, 'v> Reading<'a, 't, 'v> {
             children.items) result }
     {
         let src = read_literal_at(self.alloc, &self.source.offsets, &self.members, "source")?;
+        let phase = read_phase(&self.members)?;
         let (attributes, _) = split(self.alloc, children, Group::Attributes)?;
         let has_with = self.has_clause(&src, &attributes);
         let children = self.clause(has_with, attributes)?;
         let kind = Kind::ImportDecl {
             type_only: has_text(&self.members, "importKind", "type"),
-            phase: phase_named(text_at(&self.members, "phase")),
+            phase,
             src,
             has_specifiers: has_items(&self.members, "specifiers"),
             has_with,
@@ -182,18 +185,6 @@ impl<'a, 't, 'v> Reading<'a, 't, 'v> {
             None => Kind::Other,
         };
         self.whole(kind, children)
-    }
-}
-
-/// Returns the phase of this name. An import without a phase is evaluated.
-#[tactic(auto, unfolding(modinfo_document::specs::Kind::named))]
-pub fn phase_named(name: Option<&str>) -> ImportPhase
-    ensures { result ≡ spec.phase_named (option_map (λ text. text.now) name.entry) }
-{
-    match name {
-        Some("source") => ImportPhase::Source,
-        Some("defer") => ImportPhase::Defer,
-        _ => ImportPhase::Evaluation,
     }
 }
 

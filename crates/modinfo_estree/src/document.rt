@@ -12,6 +12,7 @@ ghost use Rattle.modinfo_estree.specs.Document as spec;
 ghost use Rattle.modinfo_estree.specs.Document.{reads_estree, units};
 ghost use Rattle.modinfo_estree.specs.internal.Document.{HasTree, reads_tree_in};
 
+use crate::comment_order::comment_ranges;
 use crate::comment_ranges::read_comments;
 use crate::comments::file_comments;
 use crate::offsets::{OffsetUnit, Offsets};
@@ -22,7 +23,7 @@ use deno_graph_json::read::{read_object, read_str};
 use deno_graph_json::{Element, Expected, FromJson, ObjectReader, ReadError, Tape};
 use deno_graph_source::text::SourceRange;
 use deno_graph_source::tree::{Comments, MediaType, Node, Program};
-use deno_graph_source::values::Text;
+use deno_graph_source::values::{Items, Text};
 use json::Scratch;
 use modinfo_document::{Document, DocumentError};
 use std::alloc::Global;
@@ -100,23 +101,24 @@ fn read_tree(
         offsets,
         tokens,
     };
-    read_tree_in(alloc, &source, ranges.as_slice(), members)
+    read_tree_in(alloc, &source, ranges, members)
 }
 
 /// Reads the program of a source, and files the comments at some ranges.
 fn read_tree_in(
     alloc: Global,
     source: &Source<'_>,
-    ranges: &[SourceRange],
+    ranges: Items<SourceRange>,
     members: &Members<'_>,
 ) -> Result<(Comments, Program), ReadError>
     ensures { IsReadResultBy HasTree (value_of members.now)
-        (reads_tree_in source.now ranges.now (readable members.now)) result }
+        (reads_tree_in source.now ranges (readable members.now)) result }
 {
     let text = source.text;
     let body = read_file_at(alloc, source, members)?;
     let is_empty = is_empty(text, body.as_slice());
-    let comments = file_comments(alloc, text, &source.tokens, ranges, is_empty)?;
+    let kept = comment_ranges(alloc, text, ranges)?;
+    let comments = file_comments(alloc, text, &source.tokens, kept.as_slice(), is_empty)?;
     let program = Program {
         range: SourceRange::new(0, text.len()),
         body,

@@ -1,15 +1,17 @@
 //! Strings, templates, operators, names and objects.
 
-ghost use Rattle.std.specs.Prelude.{◌≡◌, IfOk, Option};
+ghost use Rattle.std.specs.Prelude.{◌≡◌, codes, IfOk, Option, Some};
 ghost use Rattle.deno_graph_json.specs.Data.{data_of};
 ghost use Rattle.serde_json.specs.Data.{Data};
-ghost use Rattle.deno_graph_json.specs.ObjectReader.{readable};
+ghost use Rattle.deno_graph_json.specs.ObjectReader.{readable, value_of};
 ghost use Rattle.deno_graph_json.specs.Read.Result.{IsReadResult};
-ghost use Rattle.deno_graph_json.specs.Read.Partial.{reads_array};
+ghost use Rattle.deno_graph_json.specs.Read.Partial.{member_at, reads_array};
 ghost use Rattle.modinfo_document.specs.Literal.{reads_string};
 ghost use Rattle.modinfo_estree.specs.Kind as spec;
+ghost use Rattle.modinfo_estree.specs.Source.{source_of};
 
 use crate::child::{Child, nodes_in_parentheses, nodes_of, split};
+use crate::literal::if_spelled;
 use crate::member::{has_text, text_at};
 use crate::reading::Reading;
 use crate::role::Group;
@@ -23,15 +25,32 @@ use std::alloc::{AllocError, Global};
 
 impl<'a, 't, 'v> Reading<'a, 't, 'v> {
     /// Reads a literal, an `Other` if it is no string. A BigInt of Babel has its digits as `value`.
-    #[tactic(auto, unfolding(crate::specs::Kind::literal))]
-    pub fn literal(&self, children: Vec<Child>) -> Result<Node, AllocError>
-        ensures { IfOk result (λ node. node ≡ spec.literal (readable self.now.members) self.now.range
-            children.items) }
+    #[tactic(auto, using(deno_graph_json::proofs::Reading::reading), unfolding(crate::specs::Kind::reads_string_node))]
+    pub fn literal(&self, children: Vec<Child>) -> Result<Node, ReadError>
+        ensures { IsReadResult (value_of self.now.members) (spec.reads_string_node
+            (source_of self.now.source.now) self.now.role (readable self.now.members) self.now.range
+            children.items) result }
     {
         match self.string_value()? {
-            Some(text) => self.whole(Kind::Str(text), children),
-            None => self.whole(Kind::Other, children),
+            Some(text) => self.string(text, children),
+            None => Ok(self.whole(Kind::Other, children)?),
         }
+    }
+
+    /// Reads a string literal with the value that was read from its members. If a rule may read the value,
+    /// the text has to spell it.
+    #[tactic(auto, using(deno_graph_json::proofs::Reading::reading))]
+    fn string(&self, text: JsString, children: Vec<Child>) -> Result<Node, ReadError>
+        requires { member_at reads_string (codes "value") (readable self.now.members) ≡ Some text }
+        ensures { IsReadResult (value_of self.now.members) (spec.reads_spelled
+            (source_of self.now.source.now) self.now.role self.now.range children.items text) result }
+    {
+        if !self.role.is_read() {
+            return Ok(self.whole(Kind::Str(text), children)?);
+        }
+        let offsets = &self.source.offsets;
+        let spelled = if_spelled(self.alloc, offsets, self.range, &self.members, text)?;
+        Ok(self.whole(Kind::Str(spelled), children)?)
     }
 
     /// Returns the value of a literal that is a string.

@@ -6,11 +6,12 @@ ghost use Rattle.deno_graph_json.specs.ObjectReader.{readable, value_of};
 ghost use Rattle.deno_graph_json.specs.Read.Result.{IsReadResult};
 ghost use Rattle.modinfo_estree.specs.Child.{nodes_in, nodes_outside};
 ghost use Rattle.modinfo_estree.specs.Kind as spec;
-ghost use Rattle.modinfo_estree.specs.Source.{byte_of, source_of};
+ghost use Rattle.modinfo_estree.specs.Source.{source_of};
 
 use crate::child::{Child, nodes_of, push_nodes, split};
 use crate::clause::clause_of;
-use crate::member::{is_present, read_literal, read_literal_at};
+use crate::literal::{read_literal, read_literal_at};
+use crate::member::is_present;
 use crate::reading::Reading;
 use crate::required::{in_member, required};
 use crate::role::Group;
@@ -38,7 +39,7 @@ impl<'a, 't, 'v> Reading<'a, 't, 'v> {
     #[tactic(auto, using(deno_graph_json::proofs::Reading::reading), unfolding(crate::specs::Kind::reads_argument, deno_graph_json::specs::Read::Partial::member_at))]
     fn import_type_literal(&self) -> Result<StrLit, ReadError>
         ensures { IsReadResult (value_of self.now.members)
-            (spec.reads_argument (byte_of (source_of self.now.source.now)) (readable self.now.members))
+            (spec.reads_argument (source_of self.now.source.now).counted (readable self.now.members))
             result }
     {
         if is_present(&self.members, "source") {
@@ -53,7 +54,7 @@ impl<'a, 't, 'v> Reading<'a, 't, 'v> {
     #[tactic(auto, using(deno_graph_json::proofs::Reading::reading), unfolding(crate::specs::Kind::reads_literal_in, deno_graph_json::specs::Read::Partial::member_at))]
     fn literal_in(&self, argument: Element<'_>) -> Result<StrLit, ReadError>
         ensures { IsReadResult (data_of argument.entry)
-            (spec.reads_literal_in (byte_of (source_of self.now.source.now)) (data_of argument.entry))
+            (spec.reads_literal_in (source_of self.now.source.now).counted (data_of argument.entry))
             result }
     {
         let members = Members::new(self.alloc, argument)?;

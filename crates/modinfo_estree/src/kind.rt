@@ -18,8 +18,8 @@ impl<'a, 't, 'v> Reading<'a, 't, 'v> {
     #[tactic(auto, unfolding(crate::specs::Kind::reads_type, modinfo_document::specs::Kind::named))]
     pub fn node_of_type(&self, name: &str, children: Vec<Child>) -> Result<Node, ReadError>
         ensures { IsReadResult (value_of self.now.members)
-            (spec.reads_type (source_of self.now.source.now) (readable self.now.members) self.now.range
-            children.items name.now) result }
+            (spec.reads_type (source_of self.now.source.now) self.now.role (readable self.now.members)
+            self.now.range children.items name.now) result }
     {
         match name {
             "ImportDeclaration" => self.import(children),
@@ -28,6 +28,8 @@ impl<'a, 't, 'v> Reading<'a, 't, 'v> {
             "TSImportEqualsDeclaration" => {
                 self.import_equals(is_true(&self.members, "isExport"), &self.members, children)
             }
+            "ImportExpression" => self.import_call(children),
+            "Literal" | "StringLiteral" => self.literal(children),
             "TSImportType" => self.import_type(children),
             _ => Ok(self.other_type(name, children)?),
         }
@@ -43,8 +45,6 @@ impl<'a, 't, 'v> Reading<'a, 't, 'v> {
             "ExportDefaultDeclaration" => self.export(children),
             "TSModuleDeclaration" => self.module(children),
             "CallExpression" => self.call(children),
-            "ImportExpression" => self.import_call(children),
-            "Literal" | "StringLiteral" => self.literal(children),
             "TemplateLiteral" => self.template(children),
             "BinaryExpression" => self.binary(children),
             "Identifier" => self.identifier(children),

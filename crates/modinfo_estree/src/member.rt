@@ -10,13 +10,9 @@ ghost use Rattle.modinfo_estree.specs.Member.{range_between};
 ghost use Rattle.modinfo_estree.specs.Source.{byte_in};
 
 use crate::offsets::Offsets;
-use crate::required::{in_member, required};
 use crate::source::Members;
-use deno_graph_json::{Element, Expected, FromJson, ReadError, View};
-use deno_graph_source::text::{JsString, SourceRange};
-use deno_graph_source::tree::StrLit;
-use modinfo_document::read_string;
-use std::alloc::Global;
+use deno_graph_json::{Element, Expected, ReadError, View};
+use deno_graph_source::text::SourceRange;
 
 /// Returns the type of a node, or None if the value is no node: nodes are the objects whose member `type`
 /// is a string.
@@ -33,19 +29,6 @@ pub fn text_at<'v>(members: &Members<'v>, name: &str) -> Option<&'v str>
     ensures { option_map (λ text. text.now) result ≡ spec.text_at name.now (readable members.now) }
 {
     members.get(name)?.as_str()
-}
-
-/// Like `text_at`, for a member that `find` found.
-#[inline(always)]
-pub fn text_found<'v>(
-    members: &Members<'_>,
-    name: &str,
-    found: Option<Element<'v>>,
-) -> Option<&'v str>
-    requires { option_map data_of found ≡ get_member name.now (readable members.now) }
-    ensures { option_map (λ text. text.now) result ≡ spec.text_at name.now (readable members.now) }
-{
-    found?.as_str()
 }
 
 /// Returns whether a member is this string.
@@ -183,34 +166,3 @@ fn range_between(offsets: &Offsets<'_>, start: usize, end: usize) -> SourceRange
 }
 
 const EXPECTED_RANGE: Expected = Expected::WholePair("two whole numbers, [start,end]");
-
-/// Reads a string literal, whose member `value` is its value.
-#[tactic(auto, using(deno_graph_json::proofs::Reading::reading), unfolding(crate::specs::Member::reads_literal))]
-pub fn read_literal(
-    alloc: Global,
-    offsets: &Offsets<'_>,
-    value: Element<'_>,
-) -> Result<StrLit, ReadError>
-    ensures { IsReadResult (data_of value.entry)
-        (spec.reads_literal (byte_in offsets.now) (data_of value.entry)) result }
-{
-    let members = Members::new(alloc, value)?;
-    let range = read_range(offsets, &members)?;
-    let value = members.read("value")?;
-    Ok(StrLit { value, range })
-}
-
-/// Reads the string literal that is a member.
-#[tactic(auto, using(deno_graph_json::proofs::Reading::reading), unfolding(deno_graph_json::specs::Read::Partial::member_at))]
-pub fn read_literal_at(
-    alloc: Global,
-    offsets: &Offsets<'_>,
-    members: &Members<'_>,
-    name: &'static str,
-) -> Result<StrLit, ReadError>
-    ensures { IsReadResult (value_of members.now) (spec.reads_literal_at (byte_in offsets.now) name.now
-        (readable members.now)) result }
-{
-    let value = required(alloc, members, name)?;
-    in_member(alloc, members, name, read_literal(alloc, offsets, value))
-}

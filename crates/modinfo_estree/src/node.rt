@@ -11,7 +11,7 @@ ghost use Rattle.modinfo_estree.specs.internal.Node.{AreAppended};
 
 use crate::candidates::{Candidate, candidates, candidates_of};
 use crate::child::{Child, sort_by_start};
-use crate::member::{read_found_range, text_found, type_of};
+use crate::member::{read_found_range, type_of};
 use crate::reading::Reading;
 use crate::role::Role;
 use crate::source::{Members, Source};
@@ -23,44 +23,53 @@ use std::alloc::Global;
 
 /// Reads a node, with all nodes below.
 #[cycle(read)]
-pub fn read_node(alloc: Global, source: &Source<'_>, value: Element<'_>) -> Result<Node, ReadError>
+pub fn read_node(
+    alloc: Global,
+    source: &Source<'_>,
+    role: Role,
+    value: Element<'_>,
+) -> Result<Node, ReadError>
     ensures { IsReadResult (data_of value.entry)
-        (reads_node (source_of source.now) (data_of value.entry)) result }
+        (reads_node (source_of source.now) role (data_of value.entry)) result }
 {
     let members = read_object(alloc, value)?;
     let object = Members::of_members(alloc, members);
     let mut found = [None; 4];
     object.find(&["type", "range", "start", "end"], &mut found);
     let [type_name, range, start, end] = found;
+    let name = object.read_found_str("type", type_name)?;
     let range = read_found_range(&source.offsets, &object, range, start, end)?;
-    let mut children = read_children(alloc, source, members)?.into_vec();
+    let is_jsx = name == "JSXAttribute";
+    let mut children = read_children(alloc, source, is_jsx, members)?.into_vec();
     sort_by_start(&mut children)?;
-    let name = text_found(&object, "type", type_name).unwrap_or("");
     let reading = Reading {
         alloc,
         source,
+        role,
         members: object,
         range,
     };
     reading.node_of_type(name, children)
 }
 
-/// Reads the nodes below a node, in the order of the names of their members.
+/// Reads the nodes below a node, in the order of the names of their members. `is_jsx` says that the node is
+/// an attribute of JSX.
 #[cycle(read)]
 fn read_children(
     alloc: Global,
     source: &Source<'_>,
+    is_jsx: bool,
     members: deno_graph_json::Members<'_>,
 ) -> Result<Items<Child>, ReadError>
     ensures { IsReadResult (object (members_data members.entry))
-        (children_in (source_of source.now) (members_data members.entry)) result }
+        (children_in (source_of source.now) is_jsx (members_data members.entry)) result }
 {
     match candidates(alloc, members)? {
-        Some(found) => read_candidates(alloc, source, members, &found),
+        Some(found) => read_candidates(alloc, source, is_jsx, members, &found),
         None => {
             let sorted = members.sorted(alloc)?;
             let found = candidates_of(alloc, &sorted)?;
-            read_candidates(alloc, source, members, &found)
+            read_candidates(alloc, source, is_jsx, members, &found)
         }
     }
 }
@@ -70,12 +79,13 @@ fn read_children(
 fn read_candidates(
     alloc: Global,
     source: &Source<'_>,
+    is_jsx: bool,
     members: deno_graph_json::Members<'_>,
     found: &[Candidate<'_, '_>],
 ) -> Result<Items<Child>, ReadError>
     requires { AreCandidates (members_data members) found.now }
     ensures { IsReadResult (object (members_data members.entry))
-        (children_in (source_of source.now) (members_data members.entry)) result }
+        (children_in (source_of source.now) is_jsx (members_data members.entry)) result }
 {
     let mut children = Items::new(alloc);
     for candidate in found {
@@ -83,7 +93,7 @@ fn read_candidates(
         match push_children(
             alloc,
             source,
-            Role::of_member(name),
+            Role::of_member(is_jsx, name),
             candidate.value,
             &mut children,
         ) {
@@ -149,7 +159,7 @@ fn push_node(
 {
     if let Some(name) = type_of(value) {
         let is_spread = name == "SpreadElement";
-        let node = read_node(alloc, source, value)?;
+        let node = read_node(alloc, source, role, value)?;
         children.push(Child {
             role,
             is_spread,
@@ -159,20 +169,20 @@ fn push_node(
     Ok(())
 }
 
-/// Reads an array of nodes, each with all nodes below.
+/// Reads an array of statements, each with all nodes below.
 pub fn read_nodes(
     alloc: Global,
     source: &Source<'_>,
     value: Element<'_>,
 ) -> Result<Items<Node>, ReadError>
     ensures { IsReadResult (data_of value.entry)
-        (reads_array (reads_node (source_of source.now)) (data_of value.entry)) result }
+        (reads_array (reads_node (source_of source.now) Role.Other) (data_of value.entry)) result }
 {
     let values = read_array(alloc, value)?;
     let mut nodes = Items::with_capacity(alloc, values.len())?;
     for item in values {
         let number = nodes.len();
-        match read_node(alloc, source, item) {
+        match read_node(alloc, source, Role::Other, item) {
             Ok(node) => nodes.push(node)?,
             Err(error) => return Err(error.in_item(number)),
         }

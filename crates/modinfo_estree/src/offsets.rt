@@ -51,6 +51,13 @@ impl<'a> Offsets<'a> {
         Ok(Offsets { unit, text, bytes })
     }
 
+    /// Returns the text.
+    pub fn text(&self) -> &'a str
+        ensures { result.now ≡ self.now.text }
+    {
+        self.text
+    }
+
     /// Returns the offset in bytes of an offset in the unit. In `Utf16` this is one byte after the end
     /// of the text if the offset is after the end.
     pub fn byte_offset(&self, offset: usize) -> usize

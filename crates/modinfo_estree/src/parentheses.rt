@@ -1,4 +1,5 @@
-//! Parentheses around the arguments of calls. The tree of a parser has none, so the text has to tell.
+//! Parentheses around the callees and the arguments of calls. The tree of a parser has none, so the text has
+//! to tell.
 
 ghost use Rattle.std.specs.Prelude.{◌≡◌};
 ghost use Rattle.modinfo_estree.specs.Parentheses.{extent_in_call, pair_around};
@@ -7,18 +8,15 @@ ghost use Rattle.modinfo_estree.specs.Source.{source_of};
 use crate::source::Source;
 use deno_graph_source::text::SourceRange;
 
-/// The most pairs of parentheses around an argument that are looked for.
-const MAX_PAIRS: usize = 127;
-
-/// Returns the range of an argument with the parentheses around it, in a call that ends at the offset
-/// `limit`.
-pub fn extent_in(source: &Source<'_>, limit: usize, range: SourceRange) -> SourceRange
-    ensures { result ≡ extent_in_call (source_of source.now) limit range }
+/// Returns the range of the callee or of an argument of a call with the parentheses around it, which are
+/// within `bounds`.
+pub fn extent_in(source: &Source<'_>, bounds: SourceRange, range: SourceRange) -> SourceRange
+    ensures { result ≡ extent_in_call (source_of source.now) bounds range }
 {
     let mut extent = range;
-    let mut left = MAX_PAIRS;
+    let mut left = source.text.len();
     while left > 0 {
-        match pair_around(source, limit, extent) {
+        match pair_around(source, bounds, extent) {
             Some(outer) => extent = outer,
             None => return extent,
         }
@@ -27,16 +25,16 @@ pub fn extent_in(source: &Source<'_>, limit: usize, range: SourceRange) -> Sourc
     extent
 }
 
-/// Returns the range of the pair of parentheses around a range, if they are the next tokens on both sides
-/// and end before `limit`.
-fn pair_around(source: &Source<'_>, limit: usize, range: SourceRange) -> Option<SourceRange>
-    ensures { result ≡ pair_around (source_of source.now) limit range }
+/// Returns the range of the pair of parentheses around a range, if they are the next tokens on both sides,
+/// the first at the start of `bounds` or after it, and the second before the end of `bounds`.
+fn pair_around(source: &Source<'_>, bounds: SourceRange, range: SourceRange) -> Option<SourceRange>
+    ensures { result ≡ pair_around (source_of source.now) bounds range }
 {
     let bytes = source.text.as_bytes();
     let start = source.tokens.end(range.start).checked_sub(1)?;
     let end = source.tokens.start(range.end);
     let is_pair = bytes.get(start) == Some(&b'(') && bytes.get(end) == Some(&b')');
-    if is_pair && end + 1 < limit {
+    if is_pair && bounds.start <= start && end + 1 < bounds.end {
         Some(SourceRange::new(start, end + 1))
     } else {
         None

@@ -6,18 +6,85 @@ ghost use Rattle.deno_graph_json.specs.Data.{data_of};
 ghost use Rattle.deno_graph_json.specs.ObjectReader.{readable, value_of};
 ghost use Rattle.deno_graph_json.specs.Read.Partial.{member_at, member_or, reads_array};
 ghost use Rattle.deno_graph_json.specs.Read.Result.{IsReadResult};
+ghost use Rattle.serde_json.specs.Data.{string};
+ghost use Rattle.modinfo_document.specs.Kind.{named, reads_named};
+ghost use Rattle.modinfo_estree.specs.Document.{outermost_types, program_types};
 ghost use Rattle.modinfo_estree.specs.Document.{reads_body, reads_file, reads_program};
 ghost use Rattle.modinfo_estree.specs.Node.{reads_node};
 ghost use Rattle.modinfo_estree.specs.Source.{source_of};
 
-use crate::member::has_text;
 use crate::node::read_nodes;
 use crate::required::{in_member, required};
-use crate::source::{Members, Source};
-use deno_graph_json::{Element, ReadError};
+use crate::role::Role;
+use crate::source::{Estree, Members, Source};
+use deno_graph_json::read::read_str;
+use deno_graph_json::{Element, Expected, FromJson, ReadError};
 use deno_graph_source::tree::Node;
 use deno_graph_source::values::Items;
 use std::alloc::Global;
+
+/// What the outermost node is.
+#[derive(Clone, Copy, Debug, PartialEq, Eq)]
+pub enum Outermost {
+    Program,
+    /// The node around a program, as Babel has it.
+    File,
+}
+
+const OUTERMOST: &[&str] = &["Program", "File"];
+
+/// Reads what the outermost node is by its type.
+impl FromJson<Estree> for Outermost {
+    ghost reads = { reads_named outermost_types };
+
+    #[tactic(auto, using(deno_graph_json::proofs::Reading::reading), unfolding(modinfo_document::specs::Kind::reads_named))]
+    fn from_json(alloc: Global, value: Element<'_>) -> Result<Outermost, ReadError> {
+        let name = read_str(alloc, value)?;
+        outermost_named(alloc, name)
+    }
+}
+
+/// Returns what the outermost node of this type is.
+#[tactic(auto, unfolding(modinfo_document::specs::Kind::named))]
+fn outermost_named(alloc: Global, name: &str) -> Result<Outermost, ReadError>
+    ensures { IsReadResult (string name.now) (named outermost_types name.now) result }
+{
+    match name {
+        "Program" => Ok(Outermost::Program),
+        "File" => Ok(Outermost::File),
+        _ => Err(ReadError::expected(alloc, Expected::Names(OUTERMOST))),
+    }
+}
+
+/// What is inside of a file.
+#[derive(Clone, Copy, Debug, PartialEq, Eq)]
+pub enum ProgramType {
+    Program,
+}
+
+const PROGRAM: &[&str] = &["Program"];
+
+/// Reads the type of a program.
+impl FromJson<Estree> for ProgramType {
+    ghost reads = { reads_named program_types };
+
+    #[tactic(auto, using(deno_graph_json::proofs::Reading::reading), unfolding(modinfo_document::specs::Kind::reads_named))]
+    fn from_json(alloc: Global, value: Element<'_>) -> Result<ProgramType, ReadError> {
+        let name = read_str(alloc, value)?;
+        program_named(alloc, name)
+    }
+}
+
+/// Returns the type of this name, if that is the type of programs.
+#[tactic(auto, unfolding(modinfo_document::specs::Kind::named))]
+fn program_named(alloc: Global, name: &str) -> Result<ProgramType, ReadError>
+    ensures { IsReadResult (string name.now) (named program_types name.now) result }
+{
+    match name {
+        "Program" => Ok(ProgramType::Program),
+        _ => Err(ReadError::expected(alloc, Expected::Names(PROGRAM))),
+    }
+}
 
 /// Reads the statements of the program that is the member `program` of a document.
 pub fn read_file_at(
@@ -43,10 +110,9 @@ fn read_file(
         (reads_file (source_of source.now) (data_of value.entry)) result }
 {
     let members = Members::new(alloc, value)?;
-    if has_text(&members, "type", "File") {
-        read_program_at(alloc, source, &members)
-    } else {
-        read_body(alloc, source, &members)
+    match members.read("type")? {
+        Outermost::Program => read_body(alloc, source, &members),
+        Outermost::File => read_program_at(alloc, source, &members),
     }
 }
 
@@ -79,6 +145,7 @@ fn read_program(
         (reads_program (source_of source.now) (data_of value.entry)) result }
 {
     let members = Members::new(alloc, value)?;
+    let _type: ProgramType = members.read("type")?;
     read_body(alloc, source, &members)
 }
 
@@ -105,8 +172,8 @@ fn read_directives(
     source: &Source<'_>,
     members: &Members<'_>,
 ) -> Result<Items<Node>, ReadError>
-    ensures { IsReadResult (value_of members.now) (member_or (reads_array (reads_node (source_of source.now)))
-        (codes "directives") [] (readable members.now)) result }
+    ensures { IsReadResult (value_of members.now)
+        (member_or (reads_array (reads_node (source_of source.now) Role.Other)) (codes "directives") [] (readable members.now)) result }
 {
     match members.get("directives") {
         Some(_) => read_nodes_at(alloc, source, members, "directives"),
@@ -122,7 +189,8 @@ fn read_nodes_at(
     name: &'static str,
 ) -> Result<Items<Node>, ReadError>
     ensures { IsReadResult (value_of members.now)
-        (member_at (reads_array (reads_node (source_of source.now))) name.now (readable members.now)) result }
+        (member_at (reads_array (reads_node (source_of source.now) Role.Other)) name.now
+        (readable members.now)) result }
 {
     let value = required(alloc, members, name)?;
     in_member(alloc, members, name, read_nodes(alloc, source, value))

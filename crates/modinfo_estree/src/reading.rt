@@ -5,17 +5,19 @@ ghost use Rattle.modinfo_estree.specs.Child.{node_of};
 ghost use Rattle.modinfo_estree.specs.Kind.{made};
 
 use crate::child::{Child, nodes_of};
+use crate::role::Role;
 use crate::source::{Members, Source};
 use deno_graph_source::text::SourceRange;
 use deno_graph_source::tree::{Kind, Node};
 use deno_graph_source::values::Items;
 use std::alloc::{AllocError, Global};
 
-/// A node that is being read: its members and its range. The nodes below it are read already.
+/// A node that is being read: its role, its members and its range. The nodes below it are read already.
 #[derive(Drop)]
 pub struct Reading<'a, 't, 'v> {
     pub alloc: Global,
     pub source: &'a Source<'t>,
+    pub role: Role,
     pub members: Members<'v>,
     pub range: SourceRange,
 }

@@ -1,5 +1,5 @@
 ghost use Rattle.std.specs.Prelude.{◌≡◌};
-ghost use Rattle.modinfo_estree.specs.Child.{is_in, role_of};
+ghost use Rattle.modinfo_estree.specs.Child.{is_in, is_read, role_of};
 
 /// What a node is to the node above, by the member that has it. Members that nothing asks for are
 /// `Other`.
@@ -23,11 +23,15 @@ pub enum Role {
 }
 
 impl Role {
-    /// Returns the role of the nodes in the member of this name.
+    /// Returns the role of the nodes in the member of this name. The value of an attribute of JSX isn't
+    /// written as a string of JavaScript, and no rule reads it.
     #[tactic(auto, unfolding(crate::specs::Child::role_of, modinfo_document::specs::Kind::named))]
-    pub fn of_member(name: &str) -> Role
-        ensures { result ≡ role_of name.now }
+    pub fn of_member(is_jsx_attribute: bool, name: &str) -> Role
+        ensures { result ≡ role_of is_jsx_attribute name.now }
     {
+        if is_jsx_attribute {
+            return Role::Other;
+        }
         match name {
             "arguments" => Role::Arguments,
             "attributes" | "assertions" => Role::Attributes,
@@ -43,6 +47,18 @@ impl Role {
             "source" => Role::Source,
             "value" => Role::Value,
             _ => Role::Other,
+        }
+    }
+
+    /// Returns whether a rule may read a string literal of this role.
+    pub fn is_read(self) -> bool
+        ensures { result ≡ is_read self }
+    {
+        match self {
+            Role::Arguments | Role::Expressions | Role::Id | Role::Key | Role::Left => true,
+            Role::Options | Role::Right | Role::Source | Role::Value => true,
+            Role::Attributes | Role::Callee | Role::Decorators => false,
+            Role::Properties | Role::Other => false,
         }
     }
 

@@ -7,3 +7,4 @@ mod Chains
 mod Values
 mod PlainTexts
 mod Compared
+pub mod Decided

@@ -5,7 +5,6 @@ use Rattle.std.proofs.Common.{
   ◌<◌,
   Option,
   Some,
-  None,
   List,
   [],
   ◌∷◌,
@@ -33,7 +32,7 @@ use Rattle.modinfo_literals.specs.Literal.IsTemplateElement.{
 use Rattle.modinfo_literals.specs.declared.element.Form.{Form}
 use Rattle.modinfo_literals.specs.declared.element.Form.TheVariants.{StringWith, Template}
 use Rattle.modinfo_literals.specs.internal.Step.{Step}
-use Rattle.modinfo_literals.specs.internal.Read.{AreUnits, IsElementOf, first_step}
+use Rattle.modinfo_literals.specs.internal.Read.{IsElementOf, first_step}
 use Rattle.modinfo_literals.proofs.Sound.{Found, string-sound, template-sound}
 
 -- an element isn't empty

@@ -1,3 +1,4 @@
 pub mod Escape
 pub mod Literal
+pub mod Value
 pub mod internal

@@ -10,6 +10,10 @@ use std::alloc::Global;
 /// The message of the error of a text that nests too deep.
 const TOO_DEEP: &str = "the text nests too deep";
 
+/// The largest number of tries inside one another. A try that fails is read again, so each may double what
+/// the text inside it costs.
+const MAX_TRIES: usize = 8;
+
 /// The result of a function of the grammar.
 pub(crate) type Parsed<T> = Result<T, ReadError>;
 
@@ -131,6 +135,11 @@ pub(crate) struct Parser<'a> {
     pub(crate) nodes: Vec<FlatNode>,
     /// A number that no loop over the text's tokens reaches.
     pub(crate) turns: usize,
+    /// Whether the `:` of the conditional around the current token and what follows the `:` were read with
+    /// the expression between `?` and `:`.
+    pub(crate) has_read_conditional: bool,
+    /// The number of tries around the current token.
+    tries: usize,
     /// Offsets at which a try to read an arrow function or type arguments has failed, ascending.
     failed: Vec<usize>,
 }
@@ -144,6 +153,8 @@ impl<'a> Parser<'a> {
             context: Context::of_text(language),
             nodes: Vec::new(alloc),
             turns: text.len().saturating_add(2),
+            has_read_conditional: false,
+            tries: 0,
             failed: Vec::new(alloc),
         })
     }
@@ -290,6 +301,16 @@ impl<'a> Parser<'a> {
         self.lexer.reset(state.lexer);
         self.nodes.truncate(state.nodes);
         self.context = state.context;
+        self.has_read_conditional = false;
+    }
+
+    /// Returns an error in a script of JavaScript, which has no imports, no exports and no `import.meta`.
+    pub(crate) fn expect_module(&self) -> Parsed<()> {
+        if self.language.is_script && !self.language.is_typescript {
+            Err(self.error("expected a module around imports and exports"))
+        } else {
+            Ok(())
+        }
     }
 
     /// Returns whether a try at the current token has failed before.
@@ -297,10 +318,20 @@ impl<'a> Parser<'a> {
         self.failed.binary_search(&self.start()).is_ok()
     }
 
+    /// Begins a try at the current token. Returns the state to which the try goes back if it fails.
+    pub(crate) fn begin_try(&mut self) -> Parsed<State> {
+        if self.tries >= MAX_TRIES {
+            return Err(self.too_deep());
+        }
+        self.tries = self.tries.saturating_add(1);
+        Ok(self.state())
+    }
+
     /// Ends a try that began in a state. If it returned false or a syntax error, goes back to that
     /// state and keeps that the try fails there. Returns whether it succeeded. A text that nests too deep
     /// isn't tried another way.
     pub(crate) fn end_try(&mut self, state: State, tried: Parsed<bool>) -> Parsed<bool> {
+        self.tries = self.tries.saturating_sub(1);
         match tried {
             Ok(true) => Ok(true),
             Err(ReadError::OutOfMemory) => Err(ReadError::OutOfMemory),

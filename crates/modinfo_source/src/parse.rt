@@ -4,6 +4,7 @@ ghost use Rattle.std.specs.Prelude.{◌≡◌, Err, IfOk};
 ghost use Rattle.std.specs.Rc.{rc_str_bytes};
 ghost use Rattle.std.specs.Str.{IsCharBoundary};
 ghost use Rattle.deno_graph_base.specs.Position.{HasPosition};
+ghost use Rattle.deno_graph_source.specs.Source.{IsValid};
 ghost use Rattle.deno_graph_source.specs.declared.tree.parse_error.ParseDiagnostic.{ParseDiagnostic};
 ghost use Rattle.deno_graph_source.specs.declared.tree.parse_error.ParseError.TheVariants.{Diagnostic};
 ghost use Rattle.modinfo_source.specs.Spelled.{IsSpelled};
@@ -35,6 +36,7 @@ pub fn parse_module(
     ensures specifier { IfOk result (λ parsed. parsed.specifier ≡ specifier) }
     ensures text { IfOk result (λ parsed. parsed.text ≡ rc_str_bytes source) }
     ensures media_type { IfOk result (λ parsed. parsed.media_type ≡ media_type) }
+    ensures valid { IfOk result (λ parsed. IsValid parsed.text parsed.program parsed.comments) }
     // Each string literal has the value that its slice of the text spells, by ECMA-262, and so has each part
     // of a template.
     ensures spelled { IfOk result (λ parsed. IsSpelled (rc_str_bytes source) parsed.program) }

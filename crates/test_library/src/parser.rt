@@ -8,4 +8,5 @@ mod copies;
 mod failing;
 mod out_of_memory;
 mod recording;
+mod source_parser;
 mod sources;

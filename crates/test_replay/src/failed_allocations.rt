@@ -1,5 +1,5 @@
-//! Tests of the state after a call that is out of memory. `tools/fail_allocations` runs each call with each
-//! of its allocations failing in turn.
+//! Tests of the state after a call that is out of memory. `fail_allocations` in the crate's folder runs
+//! each call with each of its allocations failing in turn.
 
 mod analysis;
 mod commands;

@@ -1,33 +1,54 @@
 ghost use Rattle.std.specs.Prelude.{◌≡◌};
+ghost use Rattle.deno_graph_source.specs.FaultName.{fault_name};
 
 use std::alloc::{AllocError, AllocFailed};
-use thiserror::Error;
+use std::error::Error;
+use std::fmt;
 
 /// A fault of a source, which is a text with the tree and the comments that a parser made of it.
-#[derive(Debug, PartialEq, Eq, Drop, Error)]
+/// Displayed by its name.
+#[derive(Debug, PartialEq, Eq, Drop)]
 pub enum SourceFault {
     /// A range starts after its end.
-    #[error("RangeReversed")]
     RangeReversed,
     /// A range starts or ends after the end of the text.
-    #[error("RangeOutside")]
     RangeOutside,
     /// A range starts or ends inside a character.
-    #[error("RangeOffBoundary")]
     RangeOffBoundary,
     /// The text does not have the comment at the comment's range.
-    #[error("CommentText")]
     CommentText,
     /// Two unequal comments share a byte of the text.
-    #[error("CommentsOverlap")]
     CommentsOverlap,
     /// A node does not have the children that its kind needs.
-    #[error("Shape")]
     Shape,
     /// Memory ran out while the source was checked.
-    #[error("OutOfMemory")]
     OutOfMemory,
 }
+
+impl SourceFault {
+    /// Returns the printed name of the fault.
+    pub fn name(&self) -> &'static str
+        ensures { result.now ≡ fault_name self.now }
+    {
+        match self {
+            SourceFault::RangeReversed => "RangeReversed",
+            SourceFault::RangeOutside => "RangeOutside",
+            SourceFault::RangeOffBoundary => "RangeOffBoundary",
+            SourceFault::CommentText => "CommentText",
+            SourceFault::CommentsOverlap => "CommentsOverlap",
+            SourceFault::Shape => "Shape",
+            SourceFault::OutOfMemory => "OutOfMemory",
+        }
+    }
+}
+
+impl fmt::Display for SourceFault {
+    fn fmt<W: fmt::Write>(&self, f: &mut fmt::Formatter<W>) -> fmt::Result {
+        f.write_str(self.name())
+    }
+}
+
+impl Error for SourceFault {}
 
 impl From<AllocError> for SourceFault {
     ghost use Rattle.deno_graph_source.specs.declared.tree.fault.SourceFault.TheVariants.{OutOfMemory};

@@ -4,6 +4,7 @@ use Rattle.std.specs.String.{string_bytes}
 use Rattle.modinfo_document.specs.Document.{IsDocumentIn, reads_document}
 use Rattle.modinfo_estree.specs.Document.{reads_estree}
 use Rattle.modinfo.specs.Answer.{IsConvertedText}
+use Rattle.modinfo.specs.Source.{IsTextIn}
 use Rattle.modinfo.specs.internal.Reach.{IsQuestionOf}
 use Rattle.modinfo.specs.declared.request.Request.{Request}
 use Rattle.modinfo.specs.declared.request.Request.TheVariants as request
@@ -14,6 +15,7 @@ use Rattle.modinfo.specs.declared.format.Format.TheVariants as format
 abbrev pub format_of : Request → Format
 format_of (request.Module document) = format.Module
 format_of (request.Estree document) = format.Estree
+format_of (request.Source text) = format.Source
 format_of (request.Stored text) = format.Stored
 format_of (request.Modules question) = format.Modules
 
@@ -21,5 +23,6 @@ format_of (request.Modules question) = format.Modules
 abbrev pub IsReadFrom : List ℕ → Request → Type 0
 IsReadFrom bytes (request.Module document) = IsDocumentIn reads_document bytes document
 IsReadFrom bytes (request.Estree document) = IsDocumentIn reads_estree bytes document
+IsReadFrom bytes (request.Source text) = IsTextIn bytes text
 IsReadFrom bytes (request.Stored text) = IsConvertedText bytes (string_bytes text)
 IsReadFrom bytes (request.Modules question) = IsQuestionOf bytes question

@@ -1,10 +1,10 @@
 //! Reports on stored information that can't be converted.
 
-ghost use Rattle.std.specs.Prelude.{◌≡◌, ◌↔◌, IfOk, IsSome, false, option_map};
+ghost use Rattle.std.specs.Prelude.{◌≡◌, ◌↔◌, IfOk, IfSome, IsSome, codes, false, option_map};
 ghost use Rattle.serde_json.specs.Written.{has_float};
 ghost use Rattle.deno_graph_json.specs.Data.{data_of, elements_data};
 ghost use Rattle.deno_graph_info.specs.Conversion.{AnyOverflows, Overflows};
-ghost use Rattle.modinfo_document.specs.Report.{Reports};
+ghost use Rattle.modinfo_document.specs.Report.{IsNamed, Reports};
 ghost use Rattle.modinfo.specs.internal.Check.{ReportsOnValue, array_in};
 
 use deno_graph_info::analysis::{ConvertFault, laws};
@@ -15,9 +15,10 @@ use std::alloc::{AllocError, Global};
 
 /// The report on the first float. The only error is a failed allocation.
 pub fn float_report(alloc: Global, mismatch: &Mismatch) -> Result<FaultReport, AllocError>
-    ensures { IfOk result (Reports mismatch.now) }
+    ensures name { IfOk result (IsNamed (codes "Float")) }
+    ensures mismatch { IfOk result (Reports mismatch.now) }
 {
-    let name = format!(in alloc; "{}", ConvertFault::Float)?;
+    let name = String::from_str(alloc, ConvertFault::Float.name())?;
     FaultReport::of_mismatch(alloc, name, mismatch)
 }
 
@@ -34,7 +35,8 @@ pub fn report_columns(alloc: Global, value: Element<'_>) -> Result<Report, Alloc
 
 /// The report on the first dependency whose types would end after the largest column, if there is one.
 fn column_report(alloc: Global, value: Element<'_>) -> Result<Option<FaultReport>, AllocError>
-    ensures { IfOk result (λ report. IsSome report ↔ Overflows (data_of value.entry)) }
+    ensures fault { IfOk result (λ report. IsSome report ↔ Overflows (data_of value.entry)) }
+    ensures name { IfOk result (λ report. IfSome report (IsNamed (codes "ColumnOverflow"))) }
 {
     match array_at(value, "dependencies") {
         Some(dependencies) => first_overflow(alloc, dependencies),
@@ -48,7 +50,8 @@ fn first_overflow(
     alloc: Global,
     dependencies: Elements<'_>,
 ) -> Result<Option<FaultReport>, AllocError>
-    ensures { IfOk result (λ report. IsSome report ↔ AnyOverflows (elements_data dependencies.entry)) }
+    ensures fault { IfOk result (λ report. IsSome report ↔ AnyOverflows (elements_data dependencies.entry)) }
+    ensures name { IfOk result (λ report. IfSome report (IsNamed (codes "ColumnOverflow"))) }
 {
     let mut number = 0usize;
     for dependency in dependencies {
@@ -66,8 +69,10 @@ fn overflow_report(
     alloc: Global,
     dependency: Element<'_>,
     number: usize,
-) -> Result<FaultReport, AllocError> {
-    let name = format!(in alloc; "{}", ConvertFault::ColumnOverflow)?;
+) -> Result<FaultReport, AllocError>
+    ensures { IfOk result (IsNamed (codes "ColumnOverflow")) }
+{
+    let name = String::from_str(alloc, ConvertFault::ColumnOverflow.name())?;
     let count = array_at(dependency, "leadingComments").map_or(0, |comments| comments.len());
     let last = count.saturating_sub(1);
     let pointer = format!(in alloc; "/dependencies/{number}/leadingComments/{last}/range/0/1")?;

@@ -1,15 +1,17 @@
 //! Checking documents of `reach`.
 
-ghost use Rattle.std.specs.Prelude.{◌≡◌, IfOk, Some};
-ghost use Rattle.serde_json.specs.Data.{Data};
-ghost use Rattle.serde_json.specs.Read.{read as read_text};
+ghost use Rattle.std.specs.Prelude.{◌≢◌, IfOk};
 ghost use Rattle.deno_graph_json.specs.Data.{data_of};
-ghost use Rattle.modinfo_document.specs.Report.{HasPointerInto, MatchReport};
-ghost use Rattle.modinfo.specs.Check.{AsksNone, AsksSome, ReportsOnQuestion};
+ghost use Rattle.deno_graph_info.specs.FaultName.{info_fault_name};
+ghost use Rattle.deno_graph_info.specs.declared.analysis.fault.InfoFault.TheVariants.{OutOfMemory};
+ghost use Rattle.modinfo_document.specs.Report.{IsNamed, PointsInto};
+ghost use Rattle.modinfo.specs.Check.{AsksSome, OfReport, ReportsOnQuestion, ReportsQuestion};
+ghost use Rattle.modinfo.specs.Reach.{IsNoQuestion};
 
-use crate::reach::read_modules;
+use crate::fault::Fault;
+use crate::reach::{read_modules, read_question};
 use deno_graph_info::analysis::InfoFault;
-use deno_graph_json::{Element, Expected, Mismatch, ReadError, Tape, TapeError};
+use deno_graph_json::{Element, ReadError, Tape, TapeError};
 use json::Scratch;
 use modinfo_document::report::{FaultReport, Report, Warnings, json_report_at};
 use std::alloc::{AllocError, Global};
@@ -17,8 +19,7 @@ use std::alloc::{AllocError, Global};
 /// Checks a text as a document of `reach`: a root, and the information on modules. The only error is a
 /// failed allocation.
 pub fn check_modules(alloc: Global, text: &str) -> Result<Report, AllocError>
-    ensures verdict { IfOk result (ReportsOnQuestion text.now) }
-    ensures place { (value : Data) → read_text text.now ≡ Some value → IfOk result (HasPointerInto value) }
+    ensures { IfOk result (ReportsOnQuestion text.now) }
 {
     let mut scratch = Scratch::new(alloc);
     match Tape::read(alloc, text, &mut scratch) {
@@ -32,23 +33,41 @@ pub fn check_modules(alloc: Global, text: &str) -> Result<Report, AllocError>
 
 /// Checks the JSON of a document of `reach`.
 fn report_question(alloc: Global, value: Element<'_>) -> Result<Report, AllocError>
-    ensures verdict { IfOk result (MatchReport (AsksSome (data_of value.entry)) (AsksNone (data_of value.entry))) }
-    ensures place { IfOk result (HasPointerInto (data_of value.entry)) }
+    ensures { IfOk result (OfReport (AsksSome (data_of value.entry)) (ReportsQuestion (data_of value.entry))) }
 {
-    match read_modules(alloc, value) {
-        Ok(_) => Ok(Report::Valid(Warnings::new(alloc))),
-        Err(ReadError::Mismatch(mismatch)) => {
-            let fault = format!(in alloc; "{}", fault_of(&mismatch))?;
-            Ok(Report::Invalid(FaultReport::of_mismatch(alloc, fault, &mismatch)?))
+    match read_question(alloc, value) {
+        Ok(question) => {
+            drop(question);
+            Ok(Report::Valid(Warnings::new(alloc)))
         }
-        Err(ReadError::OutOfMemory) => Err(AllocError),
+        Err(fault) => report_fault(alloc, value, fault),
     }
 }
 
-/// The fault of `reach` for a mismatch.
-fn fault_of(mismatch: &Mismatch) -> InfoFault {
-    match mismatch.expected {
-        Expected::Integer => InfoFault::Float,
-        _ => InfoFault::Shape,
+/// The report on a document with this fault. The only error is a failed allocation.
+fn report_fault(alloc: Global, value: Element<'_>, fault: Fault) -> Result<Report, AllocError>
+    ensures { IsNoQuestion (data_of value.entry) fault
+        → IfOk result (OfReport (AsksSome (data_of value.entry)) (ReportsQuestion (data_of value.entry))) }
+{
+    let Fault::Info(fault) = fault else {
+        return Err(AllocError);
+    };
+    Ok(Report::Invalid(fault_report(alloc, value, &fault)?))
+}
+
+/// The report on a document with this fault: the place is that of the first value that isn't as expected.
+/// The error is a failed allocation, or that the document can be read.
+fn fault_report(
+    alloc: Global,
+    value: Element<'_>,
+    fault: &InfoFault,
+) -> Result<FaultReport, AllocError>
+    ensures name { IfOk result (IsNamed (info_fault_name fault.now)) }
+    ensures place { IfOk result (PointsInto (data_of value.entry)) }
+{
+    let name = String::from_str(alloc, fault.name())?;
+    match read_modules(alloc, value) {
+        Err(ReadError::Mismatch(mismatch)) => FaultReport::of_mismatch(alloc, name, &mismatch),
+        _ => Err(AllocError),
     }
 }

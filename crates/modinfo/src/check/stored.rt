@@ -1,11 +1,7 @@
 //! Checking documents of `convert`.
 
-ghost use Rattle.std.specs.Prelude.{◌≡◌, IfOk, Some, true};
-ghost use Rattle.serde_json.specs.Data.{Data};
-ghost use Rattle.serde_json.specs.Read.{read as read_text};
-ghost use Rattle.serde_json.specs.Written.{has_float};
+ghost use Rattle.std.specs.Prelude.{IfOk};
 ghost use Rattle.deno_graph_json.specs.Data.{data_of};
-ghost use Rattle.modinfo_document.specs.Report.{HasPointerInto};
 ghost use Rattle.modinfo.specs.Check.{ReportsOnStored};
 ghost use Rattle.modinfo.specs.internal.Check.{ReportsOnValue};
 
@@ -18,9 +14,7 @@ use std::alloc::{AllocError, Global};
 /// Checks a text as a document of `convert`: the stored information of one module. The only error is a
 /// failed allocation.
 pub fn check_stored(alloc: Global, text: &str) -> Result<Report, AllocError>
-    ensures verdict { IfOk result (ReportsOnStored text.now) }
-    ensures place { (value : Data) → read_text text.now ≡ Some value → has_float value ≡ true
-        → IfOk result (HasPointerInto value) }
+    ensures { IfOk result (ReportsOnStored text.now) }
 {
     let mut scratch = Scratch::new(alloc);
     match Tape::read(alloc, text, &mut scratch) {
@@ -34,9 +28,7 @@ pub fn check_stored(alloc: Global, text: &str) -> Result<Report, AllocError>
 
 /// Checks the JSON of stored information.
 fn report_stored(alloc: Global, value: Element<'_>) -> Result<Report, AllocError>
-    ensures verdict { IfOk result (ReportsOnValue (data_of value.entry)) }
-    ensures place { has_float (data_of value.entry) ≡ true
-        → IfOk result (HasPointerInto (data_of value.entry)) }
+    ensures { IfOk result (ReportsOnValue (data_of value.entry)) }
 {
     match find_float(alloc, value) {
         Ok(()) => report_columns(alloc, value),

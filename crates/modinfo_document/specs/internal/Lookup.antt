@@ -1,9 +1,8 @@
 -- Datas inside a document.
-use Rattle.std.specs.Prelude.{ℕ, List, [], ◌∷◌, codes, Option, Some, None, ◌==◌, if◌then◌else◌}
+use Rattle.std.specs.Prelude.{ℕ, List, codes, Option, None, ◌==◌, if◌then◌else◌}
 use Rattle.serde_json.specs.Data.{Data, Items}
-use Rattle.serde_json.specs.Find.{as_array, as_object, get_item, get_member}
+use Rattle.serde_json.specs.Find.{as_array, as_object, get_member}
 use Rattle.deno_graph_json.specs.Read.Partial.{◌>>=◌, as_usize, member_at}
-use Rattle.deno_graph_source.specs.NodePath.{NodePath}
 
 -- The member of this name.
 unfoldable pub member_of : List ℕ → Data → Option Data
@@ -16,21 +15,6 @@ unfoldable pub items_of : List ℕ → Data → Option Items
 items_of name value = do
   found ← member_of name value
   as_array found
-
--- The item of this number, in the array that is the member of this name.
-unfoldable pub member_item : List ℕ → ℕ → Data → Option Data
-member_item name number value = do
-  members ← as_object value
-  found ← get_member name members
-  values ← as_array found
-  get_item number values
-
--- The value of the node at a path below a node, from the value of that node.
-abbrev pub below : NodePath → Data → Option Data
-below [] value = Some value
-below (index ∷ path) value = do
-  child ← member_item (codes "children") index value
-  below path child
 
 -- The comments of an entry, `None` where the entry has another position.
 unfoldable pub entry_items : ℕ → Data → Option Items

@@ -1,3 +1,5 @@
+ghost use Rattle.modinfo_document.specs.Report.{IsPlaceIn};
+
 use deno_graph_source::text::Position;
 
 /// A boundary of the text of a document: its position, and the number of bytes before it.
@@ -10,7 +12,9 @@ pub struct TextPlace {
 impl TextPlace {
     /// Returns the place at an offset, in bytes; the end of the text if the offset is after the end or
     /// inside a character.
-    pub fn new(text: &str, offset: usize) -> TextPlace {
+    pub fn new(text: &str, offset: usize) -> TextPlace
+        ensures { IsPlaceIn text.now result }
+    {
         let before = text.get(..offset).unwrap_or(text);
         let mut line = 0usize;
         let mut character = 0usize;

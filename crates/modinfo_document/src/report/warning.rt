@@ -1,4 +1,4 @@
-ghost use Rattle.std.specs.Prelude.{◌↔◌, IsTrue};
+ghost use Rattle.std.specs.Prelude.{◌↔◌, IsTrue, OnOk};
 ghost use Rattle.modinfo_document.specs.Report.{HasNone};
 
 use crate::report::pointer::pointer_to;
@@ -57,5 +57,16 @@ impl Warnings {
         let pointer = pointer_to(alloc, path)?;
         self.kept.push(Warning { pointer, says })?;
         Ok(())
+    }
+
+    /// Adds a warning. The only error is a failed allocation.
+    pub fn push(&mut self, warning: Warning) -> Result<(), AllocError>
+        ensures { OnOk result (HasNone self.new → ⊥) }
+    {
+        if self.kept.len() >= MAX_KEPT {
+            self.more = self.more.saturating_add(1);
+            return Ok(());
+        }
+        Ok(self.kept.push(warning)?)
     }
 }

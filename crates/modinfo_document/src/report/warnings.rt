@@ -1,11 +1,14 @@
 //! Finding values of a valid document that its author may not have meant.
 
+ghost use Rattle.std.specs.Prelude.{IfOk};
+ghost use Rattle.modinfo_document.specs.Report.{HasNone};
+ghost use Rattle.modinfo_document.specs.Spelling.{AreSpelled};
+
 use crate::lookup::{elements, member};
-use crate::report::element::literal_of;
+use crate::report::spelling::warn_of_literals;
 use crate::report::warning::Warnings;
 use crate::{Document, Role, member_names};
 use deno_graph_json::{Element, ReferenceToken};
-use deno_graph_source::tree::MediaType;
 use std::alloc::{AllocError, Global};
 
 const UNREAD: &str = "nothing reads a member of this name here";
@@ -13,8 +16,6 @@ const UNREAD: &str = "nothing reads a member of this name here";
 const BEYOND: &str = "no comment is looked for here: the position is beyond the source";
 
 const INSIDE: &str = "no comment is looked for here: the position is inside a character";
-
-const UNQUOTED: &str = "the source has no string in quotes at this literal's range";
 
 const OUTSIDE: &str = "the range isn't inside that of the node above";
 
@@ -25,7 +26,6 @@ const EARLIER: &str = "the range starts before that of the child in front of it"
 struct Survey<'a> {
     alloc: Global,
     source: &'a str,
-    is_code: bool,
     /// The steps to the value that is looked at, from the outermost on.
     path: Vec<ReferenceToken<'a>>,
     warnings: Warnings,
@@ -33,7 +33,20 @@ struct Survey<'a> {
 
 /// Finds the warnings about a valid document, which was read from the value `root`. The only error is a
 /// failed allocation.
-pub fn find_warnings<'a>(
+pub fn find_warnings(
+    alloc: Global,
+    root: Element<'_>,
+    document: &Document,
+) -> Result<Warnings, AllocError>
+    ensures { IfOk result (λ warnings. HasNone warnings → AreSpelled document.now) }
+{
+    let mut warnings = survey_values(alloc, root, document)?;
+    warn_of_literals(alloc, document, &mut warnings)?;
+    Ok(warnings)
+}
+
+/// Finds the warnings about the values from which a document was read.
+fn survey_values<'a>(
     alloc: Global,
     root: Element<'a>,
     document: &'a Document,
@@ -41,7 +54,6 @@ pub fn find_warnings<'a>(
     let mut survey = Survey {
         alloc,
         source: document.source.as_str(),
-        is_code: document.media_type != MediaType::Json && document.media_type != MediaType::Other,
         path: Vec::new(alloc),
         warnings: Warnings::new(alloc),
     };
@@ -198,7 +210,7 @@ impl<'a> Survey<'a> {
     fn parts(&mut self, node: Element<'a>) -> Result<(), AllocError> {
         if let Some((name, literal)) = literal_of(node) {
             self.enter(name)?;
-            self.literal(literal)?;
+            self.members(literal, Role::Literal)?;
             self.leave();
         }
         self.each(node, "args", Role::Argument)?;
@@ -209,17 +221,6 @@ impl<'a> Survey<'a> {
         }
         Ok(())
     }
-
-    /// Warns about a literal without quotes in the source.
-    fn literal(&mut self, literal: Element<'a>) -> Result<(), AllocError> {
-        self.members(literal, Role::Literal)?;
-        let (start, end) = offsets_of(literal);
-        let spelling = self.source.get(start as usize..end as usize);
-        if self.is_code && !spelling.is_some_and(|spelling| is_quoted(spelling)) {
-            return self.warn(UNQUOTED);
-        }
-        Ok(())
-    }
 }
 
 /// Whether an object may have a member of this name.
@@ -227,17 +228,28 @@ fn is_read(role: Role<'_>, name: &str) -> bool {
     member_names(role).iter().any(|member| *member == name)
 }
 
-/// Whether the text starts and ends with the same quote.
-fn is_quoted(text: &str) -> bool {
-    match text.as_bytes() {
-        [first, .., last] => first == last && (*first == b'"' || *first == b'\''),
-        _ => false,
-    }
-}
-
 /// The offsets of the last member `range`, in bytes; `(0, 0)` if there is none.
 fn offsets_of(value: Element<'_>) -> (u64, u64) {
     member(value, "range")
         .and_then(|range| range.as_pair())
         .unwrap_or((0, 0))
+}
+
+/// The string literal of a node, and the name of its member. `None` if the node's kind has none, or the
+/// literal is missing or null.
+fn literal_of<'a>(node: Element<'a>) -> Option<(&'a str, Element<'a>)> {
+    let name = literal_name(member(node, "kind")?.as_str()?)?;
+    let literal = member(node, name)?;
+    (!literal.is_null()).then_some((name, literal))
+}
+
+/// The name of the member with the string literal of a node of this kind.
+fn literal_name<'a>(kind: &str) -> Option<&'a str> {
+    match kind {
+        "ImportDecl" | "NamedExport" | "ExportAll" => Some("src"),
+        "ImportEquals" => Some("external"),
+        "ImportType" => Some("arg"),
+        "ModuleDecl" => Some("name"),
+        _ => None,
+    }
 }

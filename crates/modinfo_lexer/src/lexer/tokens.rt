@@ -65,8 +65,9 @@ fn word_at(text: &str, at: usize) -> Token {
             return name;
         }
     }
+    // Names of one letter are every second token of minified texts.
     let kind = match bytes.get(at..end) {
-        Some(word) if word.len() <= 10 => kind_of_word(word),
+        Some(word) if matches!(word.len(), 2..=10) => kind_of_word(word),
         _ => TokenKind::Identifier,
     };
     token(kind, at, end)

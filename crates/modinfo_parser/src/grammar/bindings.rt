@@ -68,6 +68,21 @@ impl<'a> Parser<'a> {
         Ok(())
     }
 
+    /// Goes on after a `let` before a line end, where a statement but no declaration may stand: there
+    /// `let` is a name in JavaScript, also before a name or a `{`. Returns whether it is there.
+    pub(crate) fn eat_lone_let(&mut self) -> Parsed<bool> {
+        if !self.at(TokenKind::Let) || self.language.is_typescript {
+            return Ok(false);
+        }
+        let following = self.peek()?;
+        let is_alone = following.is_after_line_end
+            && (following.kind.is_identifier() || following.kind == TokenKind::BraceOpen);
+        if is_alone {
+            self.next()?;
+        }
+        Ok(is_alone)
+    }
+
     /// Returns whether variables follow the current `let`.
     pub(crate) fn is_let_declaration(&mut self) -> Parsed<bool> {
         let following = self.peek()?;

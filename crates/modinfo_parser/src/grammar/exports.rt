@@ -23,6 +23,7 @@ impl<'a> Parser<'a> {
         if depth == 0 {
             return Err(self.too_deep());
         }
+        self.expect_module()?;
         self.next()?;
         match self.kind() {
             TokenKind::Star => self.export_all(start, false)?,

@@ -64,6 +64,10 @@ impl<'a> Parser<'a> {
                 }
                 self.next()?;
                 self.middle_of_conditional(depth - 1)?;
+                if self.has_read_conditional {
+                    self.has_read_conditional = false;
+                    break;
+                }
                 self.expect(
                     TokenKind::Colon,
                     "expected `:` in the conditional expression",

@@ -21,6 +21,7 @@ impl<'a> Parser<'a> {
                 TokenKind::Source => ImportPhase::Source,
                 TokenKind::Defer => ImportPhase::Defer,
                 TokenKind::Meta => {
+                    self.expect_module()?;
                     self.next()?;
                     self.push(Shape::ImportMeta, first, start)?;
                     return Ok(Form::Other);

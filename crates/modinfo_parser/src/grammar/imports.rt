@@ -39,6 +39,7 @@ impl<'a> Parser<'a> {
             phase: ImportPhase::Evaluation,
             has_specifiers: false,
         };
+        self.expect_module()?;
         self.next()?;
         if self.at(TokenKind::String) {
             return self.import_source(head);

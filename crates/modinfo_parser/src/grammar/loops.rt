@@ -13,8 +13,7 @@ impl<'a> Parser<'a> {
         }
         self.next()?;
         self.condition(depth - 1)?;
-        self.statement(depth - 1)?;
-        Ok(())
+        self.body(depth - 1)
     }
 
     /// `do`, with its statement and its condition. A `;` after it may be left out.
@@ -24,7 +23,7 @@ impl<'a> Parser<'a> {
             return Err(self.too_deep());
         }
         self.next()?;
-        self.statement(depth - 1)?;
+        self.body(depth - 1)?;
         self.expect(
             TokenKind::While,
             "expected `while` after the statement of `do`",
@@ -57,8 +56,7 @@ impl<'a> Parser<'a> {
             TokenKind::ParenClose,
             "expected `)` after the head of the loop",
         )?;
-        self.statement(depth - 1)?;
-        Ok(())
+        self.body(depth - 1)
     }
 
     /// What is between the parentheses of `for`.

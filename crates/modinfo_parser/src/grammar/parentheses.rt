@@ -12,7 +12,7 @@ impl<'a> Parser<'a> {
             return Err(self.too_deep());
         }
         let must_be_arrow = self.parentheses(depth - 1)?;
-        if self.arrow_after_parentheses(depth - 1, false)? {
+        if self.arrow_after_parentheses(depth - 1, false, must_be_arrow)? {
             return Ok(Form::Arrow);
         }
         if must_be_arrow {
@@ -28,7 +28,7 @@ impl<'a> Parser<'a> {
             return Err(self.too_deep());
         }
         self.parentheses(depth - 1)?;
-        if self.arrow_after_parentheses(depth - 1, true)? {
+        if self.arrow_after_parentheses(depth - 1, true, false)? {
             return Ok(Form::Arrow);
         }
         Ok(Form::Other)
@@ -93,37 +93,114 @@ impl<'a> Parser<'a> {
     }
 
     /// What follows the parameters of an arrow function, if the parentheses before the current token are
-    /// that. Returns whether they are.
+    /// that. Returns whether they are. `must_be_arrow` says whether they can be nothing else.
     #[cycle(grammar)]
-    fn arrow_after_parentheses(&mut self, depth: usize, is_async: bool) -> Parsed<bool> {
+    fn arrow_after_parentheses(
+        &mut self,
+        depth: usize,
+        is_async: bool,
+        must_be_arrow: bool,
+    ) -> Parsed<bool> {
         if depth == 0 {
             return Err(self.too_deep());
         }
-        if self.at_on_line(TokenKind::Arrow) {
-            self.arrow_body(depth - 1, is_async)?;
-            return Ok(true);
+        if !self.at_on_line(TokenKind::Arrow) {
+            if !(self.at(TokenKind::Colon) && self.language.is_typescript) {
+                return Ok(false);
+            }
+            if self.context.is_in_conditional {
+                return self.arrow_in_conditional(depth - 1, is_async, must_be_arrow);
+            }
+            if !self.try_return_type(depth - 1)? {
+                return Ok(false);
+            }
         }
-        if !(self.at(TokenKind::Colon) && self.language.is_typescript) || self.has_failed() {
+        self.arrow_body(depth - 1, is_async)?;
+        Ok(true)
+    }
+
+    /// What follows the parameters of an arrow function between the `?` and the `:` of a conditional: a
+    /// return type, `=>` and a body. Returns false if there is no arrow function, or if it takes the `:` of
+    /// the conditional.
+    ///
+    /// In `a ? (b) : c => d` the arrow function is `c => d`, and its body is read as that of `(b): c => d`
+    /// would be. Nothing is read again: `has_read_conditional` says that the conditional is read.
+    #[cycle(grammar)]
+    fn arrow_in_conditional(
+        &mut self,
+        depth: usize,
+        is_async: bool,
+        must_be_arrow: bool,
+    ) -> Parsed<bool> {
+        if depth == 0 {
+            return Err(self.too_deep());
+        }
+        let following = self.peek()?;
+        if matches!(following.kind, TokenKind::ParenOpen | TokenKind::Less) {
+            return self.try_typed_arrow(depth - 1, is_async);
+        }
+        if !self.try_return_type(depth - 1)? {
             return Ok(false);
         }
-        let state = self.state();
-        let result = self.typed_arrow(depth - 1, is_async);
+        let is_name = following.kind.is_identifier() && following.end == self.lexer.previous_end();
+        self.arrow_body(depth - 1, is_async)?;
+        if is_name && !must_be_arrow && !self.at(TokenKind::Colon) {
+            self.has_read_conditional = true;
+        }
+        Ok(true)
+    }
+
+    /// `:` and a return type, if `=>` follows them. Returns whether it does.
+    #[cycle(grammar)]
+    fn try_return_type(&mut self, depth: usize) -> Parsed<bool> {
+        if depth == 0 {
+            return Err(self.too_deep());
+        }
+        if self.has_failed() {
+            return Ok(false);
+        }
+        let state = self.begin_try()?;
+        let result = self.return_type_before_arrow(depth - 1);
         self.end_try(state, result)
     }
 
-    /// A return type, `=>` and the body of an arrow function. Returns false if there is no arrow
-    /// function, or if it takes the `:` of the conditional around it.
+    /// `:` and a return type. Returns whether `=>` follows them.
     #[cycle(grammar)]
-    fn typed_arrow(&mut self, depth: usize, is_async: bool) -> Parsed<bool> {
+    fn return_type_before_arrow(&mut self, depth: usize) -> Parsed<bool> {
         if depth == 0 {
             return Err(self.too_deep());
         }
         self.next()?;
         self.return_type(depth - 1)?;
-        if !self.at_on_line(TokenKind::Arrow) {
+        Ok(self.at_on_line(TokenKind::Arrow))
+    }
+
+    /// A return type that begins as the parameters of an arrow function do, `=>` and a body, if that takes
+    /// no `:` of the conditional around it. Returns whether it is there.
+    #[cycle(grammar)]
+    fn try_typed_arrow(&mut self, depth: usize, is_async: bool) -> Parsed<bool> {
+        if depth == 0 {
+            return Err(self.too_deep());
+        }
+        if self.has_failed() {
+            return Ok(false);
+        }
+        let state = self.begin_try()?;
+        let result = self.typed_arrow(depth - 1, is_async);
+        self.end_try(state, result)
+    }
+
+    /// A return type, `=>` and a body. Returns whether they are there, and take no `:` of the conditional
+    /// around them.
+    #[cycle(grammar)]
+    fn typed_arrow(&mut self, depth: usize, is_async: bool) -> Parsed<bool> {
+        if depth == 0 {
+            return Err(self.too_deep());
+        }
+        if !self.return_type_before_arrow(depth - 1)? {
             return Ok(false);
         }
         self.arrow_body(depth - 1, is_async)?;
-        Ok(!self.context.is_in_conditional || self.at(TokenKind::Colon))
+        Ok(self.has_read_conditional || self.at(TokenKind::Colon))
     }
 }

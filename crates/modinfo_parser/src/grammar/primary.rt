@@ -113,30 +113,19 @@ impl<'a> Parser<'a> {
         self.identifier(depth - 1)
     }
 
-    /// `async` before `<`: an arrow function with type parameters, or else a name.
+    /// `async` before `<`: an arrow function with type parameters, a call with type arguments, or a name.
     #[cycle(grammar)]
     fn async_generic(&mut self, depth: usize) -> Parsed<Form> {
         if depth == 0 {
             return Err(self.too_deep());
         }
-        if !self.has_failed() {
-            let state = self.state();
-            let result = self.async_generic_arrow(depth - 1);
-            if self.end_try(state, result)? {
-                return Ok(Form::Arrow);
-            }
+        if self.eat_names_in_angles()? {
+            return self.async_parentheses(depth - 1);
+        }
+        if self.try_type_parameters(depth - 1)? {
+            return self.generic_arrow(depth - 1, true);
         }
         self.identifier(depth - 1)
-    }
-
-    /// `async`, and an arrow function with type parameters.
-    #[cycle(grammar)]
-    fn async_generic_arrow(&mut self, depth: usize) -> Parsed<bool> {
-        if depth == 0 {
-            return Err(self.too_deep());
-        }
-        self.next()?;
-        self.generic_arrow(depth - 1, true)
     }
 
     /// What begins with `<`: an element of JSX, an arrow function with type parameters, or an expression
@@ -149,16 +138,17 @@ impl<'a> Parser<'a> {
         if !self.language.is_typescript {
             return self.jsx(depth - 1);
         }
-        let may_be_arrow = !self.language.has_jsx || self.is_generic_in_jsx()?;
-        if may_be_arrow && !self.has_failed() {
-            let state = self.state();
-            let result = self.generic_arrow(depth - 1, false);
-            if self.end_try(state, result)? {
-                return Ok(Form::Arrow);
-            }
-        }
         if self.language.has_jsx {
+            if self.is_generic_in_jsx()? && self.try_type_parameters(depth - 1)? {
+                return self.generic_arrow(depth - 1, false);
+            }
             return self.jsx(depth - 1);
+        }
+        if self.eat_names_in_angles()? {
+            return self.parenthesized(depth - 1);
+        }
+        if self.try_type_parameters(depth - 1)? {
+            return self.generic_arrow(depth - 1, false);
         }
         self.type_assertion(depth - 1)
     }

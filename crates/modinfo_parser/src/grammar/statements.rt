@@ -86,6 +86,18 @@ impl<'a> Parser<'a> {
         Ok(())
     }
 
+    /// The statement inside another, where no declaration may stand.
+    #[cycle(grammar)]
+    pub(crate) fn body(&mut self, depth: usize) -> Parsed<()> {
+        if depth == 0 {
+            return Err(self.too_deep());
+        }
+        if !self.eat_lone_let()? {
+            self.statement(depth - 1)?;
+        }
+        Ok(())
+    }
+
     /// `(`, an expression and `)`.
     #[cycle(grammar)]
     pub(crate) fn condition(&mut self, depth: usize) -> Parsed<()> {
@@ -106,12 +118,12 @@ impl<'a> Parser<'a> {
         for _turn in 0..self.turns {
             self.next()?;
             self.condition(depth - 1)?;
-            self.statement(depth - 1)?;
+            self.body(depth - 1)?;
             if !self.eat(TokenKind::Else)? {
                 break;
             }
             if !self.at(TokenKind::If) {
-                self.statement(depth - 1)?;
+                self.body(depth - 1)?;
                 break;
             }
         }
@@ -160,8 +172,7 @@ impl<'a> Parser<'a> {
         }
         self.next()?;
         self.condition(depth - 1)?;
-        self.statement(depth - 1)?;
-        Ok(())
+        self.body(depth - 1)
     }
 
     /// `try`, with `catch` and `finally`.
@@ -234,8 +245,7 @@ impl<'a> Parser<'a> {
         }
         let form = self.expression(depth - 1)?;
         if matches!(form, Form::Identifier | Form::Require) && self.eat(TokenKind::Colon)? {
-            self.statement(depth - 1)?;
-            return Ok(());
+            return self.body(depth - 1);
         }
         self.semicolon()
     }

@@ -84,7 +84,7 @@ impl<'a> Parser<'a> {
         if self.has_failed() {
             return Ok(false);
         }
-        let state = self.state();
+        let state = self.begin_try()?;
         let result = self.type_arguments_of_expression(depth - 1);
         self.end_try(state, result)
     }

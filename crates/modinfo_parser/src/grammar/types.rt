@@ -262,7 +262,7 @@ impl<'a> Parser<'a> {
         if !self.at(TokenKind::Extends) || self.has_failed() {
             return Ok(());
         }
-        let state = self.state();
+        let state = self.begin_try()?;
         let result = self.constraint_of_infer(depth - 1);
         self.end_try(state, result)?;
         Ok(())

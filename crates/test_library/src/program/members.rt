@@ -1,9 +1,8 @@
 //! `member_names` has the names of exactly the members that are read.
 
 use deno_graph_json::{Element, Tape};
-use deno_graph_source::tree::CommentSide;
 use json::Scratch;
-use modinfo::document::{KINDS, Role, comment_at, member_names, node_at, parse_document};
+use modinfo::document::{KINDS, Role, member_names, parse_document};
 use std::process::Abort;
 
 /// A document whose objects have all members that are read, each with a value other than the default.
@@ -81,28 +80,24 @@ fn read_of(rt: &(impl AllocGlobal + Abort), text: &str) -> Option<String> {
 fn each_member_is_known(rt: HostRuntime) {
     let mut scratch = Scratch::new(rt.alloc());
     let tape = Tape::read(rt.alloc(), DOCUMENT, &mut scratch).expect(&rt, "it is JSON");
-    let root = tape.root();
-    let kinds = KINDS.len();
-    assert_members(&rt, Role::Document, Some(root));
-    assert_members(&rt, Role::Program, node_at(root, &[]));
+    let root = Some(tape.root());
+    assert_members(&rt, Role::Document, root);
     for name in ["leading", "trailing"] {
-        let entry = member(Some(root), name).and_then(first);
+        let entry = member(root, name).and_then(first);
         assert_members(&rt, Role::CommentEntry, entry);
+        let comment = member(entry, "comments").and_then(first);
+        assert_members(&rt, Role::Comment, comment);
     }
-    assert_members(
-        &rt,
-        Role::Comment,
-        comment_at(root, CommentSide::Leading, 0, 0),
-    );
-    assert_members(
-        &rt,
-        Role::Comment,
-        comment_at(root, CommentSide::Trailing, 1, 0),
-    );
-    for number in 0..=kinds {
-        assert_node(&rt, node_at(root, &[number]));
+    let program = member(root, "program");
+    assert_members(&rt, Role::Program, program);
+    let body = member(program, "body").and_then(|body| body.elements());
+    let Some(nodes) = body else {
+        panic!(rt; "there is no body");
+    };
+    assert!(rt; nodes.len() == KINDS.len() + 1);
+    for node in nodes {
+        assert_node(&rt, Some(node));
     }
-    assert!(rt; node_at(root, &[kinds + 1]).is_none());
 }
 
 /// A node of the body, and its members except `children`.

@@ -1,7 +1,7 @@
 use Rattle.std.proofs.Common.{◌≡◌, sym, ap, ◌∙◌}
 use Rattle.modinfo.specs.declared.command.Command.{Command}
 use Rattle.modinfo.specs.declared.command_line.CommandLine.{CommandLine}
-use Rattle.modinfo.specs.declared.command_line.CommandLine.TheVariants.{Help, Version, Document, Lines}
+use Rattle.modinfo.specs.declared.command_line.CommandLine.TheVariants.{Help, Version, Document, Lines, Files}
 use Rattle.modinfo.proofs.program.run_command_line.Goals as goal
 
 -- The command for the only document, or `other`.
@@ -10,6 +10,7 @@ document_command other (Document command) = command
 document_command other Help = other
 document_command other Version = other
 document_command other (Lines _) = other
+document_command other (Files _) = other
 
 pub returns-in-Document-clause-document : goal.returns-in-Document-clause-document
 returns-in-Document-clause-document g c command is =
@@ -23,6 +24,7 @@ lines_command other (Lines command) = command
 lines_command other (Document _) = other
 lines_command other Help = other
 lines_command other Version = other
+lines_command other (Files _) = other
 
 pub returns-in-Lines-clause-lines : goal.returns-in-Lines-clause-lines
 returns-in-Lines-clause-lines g c command is =

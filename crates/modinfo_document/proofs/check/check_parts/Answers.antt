@@ -1,10 +1,18 @@
-use Rattle.std.proofs.Common.{inr, rules}
+use Rattle.deno_graph_json.specs.Data.{data_of}
+use Rattle.modinfo_document.specs.Check.{points_in_module}
+use Rattle.modinfo_document.specs.Document.{reads_document}
+use Rattle.modinfo_document.proofs.Reported.{specifier_reported}
 use Rattle.modinfo_document.proofs.check.check_parts.Goals as goal
 
 -- The specifier is a URL.
-pub returns-in-Ok : goal.returns-in-Ok
-returns-in-Ok c = λ text is. c.check_source.ensures text is c.in-Ok.field-0 c.in-Ok.ensures
+pub returns-in-Ok-clause-report : goal.returns-in-Ok-clause-report
+returns-in-Ok-clause-report c = λ text is has.
+    c.check_source.ensures.report text is has c.in-Ok.field-0 c.in-Ok.ensures
 
 -- The specifier is no URL.
-pub returns : goal.returns
-returns c = λ text is. (c.in-Err.fault, search rules, inr (c.args.document.now, is, c.in-Err.ensures))
+pub returns-in-Err-Specifier-clause-report : goal.returns-in-Err-Specifier-clause-report
+returns-in-Err-Specifier-clause-report c = λ text is has.
+    let report = c.in_ok-specifier_report-in-Err-Specifier in
+    let error = rw c.in-Err-Specifier.field-0-is at c.in-Err-Specifier.ensures in
+    specifier_reported reads_document points_in_module text c.args.document.now report.field-0
+    (data_of c.args.root, is, has) error report.ensures.name report.ensures.path

@@ -58,6 +58,4 @@ returns c =
     c.in_ok-ranges.ensures in
     let tokens = c.in_ok-tokens.ensures ∙ ap (layout counted.text) c.as_slice.ensures in
     let same = in_source source counted ranges ms refl c.in_ok-offsets.ensures tokens comments in
-    subst (λ o. IsReadResultBy HasTree value o c.read_tree_in.result) same
-    (subst (λ rs. IsReadResultBy HasTree value (reads_tree_in source rs ms) c.read_tree_in.result)
-    c.as_slice-2.ensures c.read_tree_in.ensures)
+    subst (λ o. IsReadResultBy HasTree value o c.read_tree_in.result) same c.read_tree_in.ensures

@@ -2,7 +2,7 @@ use Rattle.std.proofs.Common.{arith, refl, ap, subst, ◌∙◌}
 use Rattle.deno_graph_json.proofs.Reading.{goes_on}
 use Rattle.modinfo_document.specs.Comments.{AreThoseOf}
 use Rattle.modinfo_document.proofs.Results.{reading_by, some_and}
-use Rattle.modinfo_estree.specs.Comments.{sides_of}
+use Rattle.modinfo_estree.specs.Comments.{comment_ranges, sides_of}
 use Rattle.modinfo_estree.specs.Document.{is_empty, tree_of}
 use Rattle.modinfo_estree.specs.internal.Document.{reads_tree_in}
 use Rattle.modinfo_estree.proofs.document.read_tree_in.Goals as goal
@@ -17,9 +17,12 @@ returns c =
     let source = c.args.source.now in
     let text = source.text.now in
     let body = c.in_ok-body.body in
-    let ranges = c.args.ranges.now in
+    let ranges = c.args.ranges in
     let empty = c.is_empty-is_empty.ensures ∙ ap (is_empty text) c.as_slice.ensures in
-    let comments = subst (λ e. AreThoseOf (sides_of text source.tokens e ranges) c.in_ok-comments.comments)
-    empty c.in_ok-comments.ensures in
+    let kept = c.as_slice-2.ensures.value ∙ c.in_ok-kept.ensures in
+    let comments = subst (λ e. AreThoseOf (sides_of text source.tokens e (comment_ranges text ranges))
+    c.in_ok-comments.comments)
+    empty (subst (λ rs. AreThoseOf (sides_of text source.tokens c.is_empty-is_empty.result rs)
+    c.in_ok-comments.comments) kept c.in_ok-comments.ensures) in
     some_and _ _ (tree_of text source.tokens ranges body) (goes_on _ _ body _ c.in_ok-body.ensures refl)
     (comments, λ i. record { range = c.new.ensures i; body = body; has_shebang = c.has_shebang.ensures i })

@@ -1,24 +1,26 @@
-use Rattle.std.proofs.Common.{◌≡◌, ◌≤◌, [], ◌∷◌, length, map, Some, None}
-use Rattle.std.proofs.Common.{arith, codes, sym, ap, refl, subst, unwrap_or, ◌∙◌}
+use Rattle.std.proofs.Common.{◌≡◌, ◌≤◌, ◌∷◌, length, map, Some, None}
+use Rattle.std.proofs.Common.{arith, codes, sym, ap, refl, subst, ◌∙◌}
 use Rattle.serde_json.specs.Data.{array, object}
-use Rattle.serde_json.specs.Find.{get_item}
+use Rattle.serde_json.specs.Find.{as_str, get_item}
 use Rattle.deno_graph_json.specs.Data.{data_of, elements_data, members_data, view_data}
 use Rattle.deno_graph_json.specs.ObjectReader.{readable, value_of}
-use Rattle.deno_graph_json.specs.Read.Result.{IsReadResult}
+use Rattle.deno_graph_json.specs.Read.Partial.{◌>>=◌, member_at}
+use Rattle.deno_graph_json.specs.Read.Result.{IsReadError, IsReadResult}
 use Rattle.deno_graph_json.proofs.ArrayElements.{AreFrom, depth_of_item, elements_next, from_begin}
 use Rattle.deno_graph_json.proofs.ArrayElements.{from_next, from_here}
 use Rattle.deno_graph_json.proofs.ObjectMembers.{Entry, depth_of_member, rest_here, rest_next}
-use Rattle.deno_graph_json.proofs.Reading.{error_around, object_on, reading}
-use Rattle.modinfo_estree.specs.Child.{sorted_by_start}
-use Rattle.modinfo_estree.specs.Member.{text_at}
+use Rattle.deno_graph_json.proofs.Reading.{error_around, exits, object_on, reading, result_on}
+use Rattle.modinfo_estree.specs.Child.{sorted_children}
+use Rattle.modinfo_estree.specs.Member.{is_text, reads_range, text_at}
 use Rattle.modinfo_estree.specs.Node.{
   children_among,
   children_at,
   children_in,
+  is_jsx_attribute,
   item_child,
   node_with,
 }
-use Rattle.modinfo_estree.specs.Source.{source_of}
+use Rattle.modinfo_estree.specs.Source.{byte_of, source_of}
 use Rattle.modinfo_estree.specs.internal.Node.{AreAppended}
 use Rattle.modinfo_estree.proofs.Nodes.{
   all_done,
@@ -35,7 +37,6 @@ use Rattle.modinfo_estree.proofs.Nodes.{
   object_read,
   one_child,
   some_more,
-  text_or,
   type_read,
 }
 use Rattle.std.proofs.lemmas.List.{drop_all}
@@ -150,7 +151,7 @@ read_candidates-push_children-requires t c =
     let source = source_of c.args.source.now in
     let all = members_data c.args.members in
     let item = c.candidate-item.result in
-    let next = next_left source all c.args.found.now c.loop-candidate.candidate-index item _ _
+    let next = next_left source c.args.is_jsx all c.args.found.now c.loop-candidate.candidate-index item _ _
     c.loop-candidate.invariant
     (omega (arith, c.loop-candidate-test.true, c.loop-candidate.auto.candidate-index-end))
     c.candidate-item.is in
@@ -162,12 +163,13 @@ read_candidates-loop-candidate-preserved t c =
     let source = source_of c.args.source.now in
     let all = members_data c.args.members in
     let item = c.candidate-item.result in
-    let next = next_left source all c.args.found.now c.loop-candidate.candidate-index item _ _
+    let next = next_left source c.args.is_jsx all c.args.found.now c.loop-candidate.candidate-index item _ _
     c.loop-candidate.invariant
     (omega (arith, c.loop-candidate-test.true, c.loop-candidate.auto.candidate-index-end))
     c.candidate-item.is in
     let e : Entry = entry_of item in
-    let first = next.same ∙ member_next source c.of_member.result (e ∷ next.after) next.after e refl
+    let first = next.same
+    ∙ member_next source c.args.is_jsx c.of_member.result (e ∷ next.after) next.after e refl
     c.of_member.ensures in record {
       left = next.after;
       rest = rest_next all (e ∷ next.after) next.after e next.here refl;
@@ -180,12 +182,13 @@ read_candidates-returns-in-Err t c =
     let source = source_of c.args.source.now in
     let all = members_data c.args.members in
     let item = c.candidate-item.result in
-    let next = next_left source all c.args.found.now c.loop-candidate.candidate-index item _ _
+    let next = next_left source c.args.is_jsx all c.args.found.now c.loop-candidate.candidate-index item _ _
     c.loop-candidate.invariant
     (omega (arith, c.loop-candidate-test.true, c.loop-candidate.auto.candidate-index-end))
     c.candidate-item.is in
     let e : Entry = entry_of item in
-    let first = next.same ∙ member_next source c.of_member.result (e ∷ next.after) next.after e refl
+    let first = next.same
+    ∙ member_next source c.args.is_jsx c.of_member.result (e ∷ next.after) next.after e refl
     c.of_member.ensures in
     let d = data_of item.value in
     next_error _ _ _ _ _ _ c.loop-candidate.invariant.so_far first (object all) c.in_member.result
@@ -201,39 +204,70 @@ read_candidates-returns t c =
     omega (arith, c.loop-candidate-test.false, c.loop-candidate.auto.candidate-index-end) in
     let none = sym (ap (map entry_of) (drop_all c.loop-candidate.candidate-index c.args.found.now past))
     ∙ kept.kept in
-    all_new _ _ (all_done _ _ _ _ kept.so_far (no_candidate source kept.left none))
+    all_new _ _ (all_done _ _ _ _ kept.so_far (no_candidate source c.args.is_jsx kept.left none))
 
 pub read_node-returns-in_err-members : goal.read_node-returns-in_err-members
 unfolding node_with
 read_node-returns-in_err-members t c =
-    rw (node_read (source_of c.args.source.now) (data_of c.args.value)) (grind (arith, reading))
+    rw (node_read (source_of c.args.source.now) c.args.role (data_of c.args.value)) (grind (arith, reading))
 
 pub read_node-returns-in_err-range : goal.read_node-returns-in_err-range
 unfolding node_with
 read_node-returns-in_err-range t c =
-    rw (node_read (source_of c.args.source.now) (data_of c.args.value)) (grind (arith, reading))
+    rw (node_read (source_of c.args.source.now) c.args.role (data_of c.args.value)) (grind (arith, reading))
 
 pub read_node-returns-in_err-read_children : goal.read_node-returns-in_err-read_children
-unfolding node_with
+unfolding node_with member_at
 read_node-returns-in_err-read_children t c =
-    rw (node_read (source_of c.args.source.now) (data_of c.args.value)) (grind (arith, reading))
-
-pub read_node-returns : goal.read_node-returns
-read_node-returns t c =
     let source = source_of c.args.source.now in
     let d = data_of c.args.value in
     let ms = readable c.of_members-object.result in
+    let is_object = c.in_ok-members.ensures ∙ ap Some (sym c.of_members-object.ensures) in
+    let type = c.in_ok-name.name.now in
+    let typed : text_at (codes "type") ms ≡ Some type = ap (λ o. o >>= as_str) c.in_ok-name.ensures in
+    let is_jsx : c.eq-is_jsx.result ≡ is_jsx_attribute ms =
+    c.eq-is_jsx.ensures ∙ ap (is_text (codes "JSXAttribute")) (sym typed) in
+    let error = c.in_err-read_children.field-0.0 in
+    let answer = c.from_residual-in_err-read_children.result in
+    let below : IsReadError (object ms) (children_in source (is_jsx_attribute ms) ms) error =
+    subst (λ is. IsReadError (object ms) (children_in source is ms) error) is_jsx
+    (subst (λ ns. IsReadError (object ns) (children_in source c.eq-is_jsx.result ns) error)
+    (sym c.of_members-object.ensures) c.in_err-read_children.ensures) in
+    subst (λ wanted. IsReadResult d wanted answer) (sym (node_read source c.args.role d))
+    (object_on d _ ms answer is_object
+    (result_on (object ms) (text_at (codes "type") ms) _ type answer typed
+    (result_on (object ms) (reads_range (byte_of source) ms) _ c.in_ok-range.range answer
+    c.in_ok-range.ensures
+    (exits (object ms) (children_in source (is_jsx_attribute ms) ms) _ error answer
+    c.from_residual-in_err-read_children.ensures.1 below))))
+
+pub read_node-returns-in_err-name : goal.read_node-returns-in_err-name
+unfolding node_with
+read_node-returns-in_err-name t c =
+    rw (node_read (source_of c.args.source.now) c.args.role (data_of c.args.value)) (grind (arith, reading))
+
+pub read_node-returns : goal.read_node-returns
+unfolding member_at
+read_node-returns t c =
+    let source = source_of c.args.source.now in
+    let role = c.args.role in
+    let d = data_of c.args.value in
+    let ms = readable c.of_members-object.result in
     let object = c.in_ok-members.ensures ∙ ap Some (sym c.of_members-object.ensures) in
+    let type = c.in_ok-name.name.now in
+    let typed : text_at (codes "type") ms ≡ Some type = ap (λ o. o >>= as_str) c.in_ok-name.ensures in
+    let is_jsx : c.eq-is_jsx.result ≡ is_jsx_attribute ms =
+    c.eq-is_jsx.ensures ∙ ap (is_text (codes "JSXAttribute")) (sym typed) in
     let children = c.in_ok-read_children.field-0 in
-    let below : children_in source ms ≡ Some children =
-    ap (children_in source) c.of_members-object.ensures ∙ c.in_ok-read_children.ensures in
-    let sorted : c.sort_by_start.new.children.items ≡ sorted_by_start children =
-    c.in_ok-sort_by_start.ensures ∙ ap sorted_by_start c.into_vec-children.ensures in
-    let named : c.unwrap_or-name.result.now ≡ unwrap_or (text_at (codes "type") ms) [] =
-    ap (λ name. name.now) c.unwrap_or-name.ensures ∙ text_or c.text_found.result _ refl
-    ∙ ap (λ found. unwrap_or found []) c.text_found.ensures in
-    subst (λ wanted. IsReadResult d wanted c.node_of_type.result) (sym (node_read source d))
+    let below : children_in source (is_jsx_attribute ms) ms ≡ Some children =
+    ap (λ is. children_in source is ms) (sym is_jsx)
+    ∙ ap (children_in source c.eq-is_jsx.result) c.of_members-object.ensures
+    ∙ c.in_ok-read_children.ensures in
+    let sorted : c.sort_by_start.new.children.items ≡ sorted_children children =
+    c.in_ok-sort_by_start.ensures ∙ ap sorted_children c.into_vec-children.ensures in
+    subst (λ wanted. IsReadResult d wanted c.node_of_type.result) (sym (node_read source role d))
     (object_on d _ ms c.node_of_type.result object
     (subst (λ wanted. IsReadResult (value_of c.of_members-object.result) wanted c.node_of_type.result)
-    (sym (type_read source ms c.in_ok-range.range children c.in_ok-range.ensures below))
-    (rw (← sorted, ← named) c.node_of_type.ensures)))
+    (sym (type_read source role (is_jsx_attribute ms) ms type c.in_ok-range.range children typed
+    c.in_ok-range.ensures below))
+    (rw (← sorted) c.node_of_type.ensures)))

@@ -38,4 +38,4 @@ invariant-push_items-loop-index l =
 abbrev pub invariant-read_candidates-loop-candidate : goal.invariant-read_candidates-loop-candidate
 invariant-read_candidates-loop-candidate l =
     AreLeft (members_data l.members) (map entry_of (drop l.candidate-index l.found)) [] l.children
-    (source_of l.source)
+    (source_of l.source) l.is_jsx

@@ -18,6 +18,7 @@ use Rattle.deno_graph_json.proofs.Reading.{
 use Rattle.modinfo_document.proofs.Results.{array_items}
 use Rattle.modinfo_estree.specs.Node.{reads_node}
 use Rattle.modinfo_estree.specs.Source.{source_of}
+use Rattle.modinfo_estree.specs.declared.role.Role.TheVariants.{Other}
 use Rattle.modinfo_estree.proofs.node.read_nodes.Goals as goal
 
 pub returns-in_err-values : goal.returns-in_err-values
@@ -32,7 +33,7 @@ loop-item-init c = (
 
 pub loop-item-preserved : goal.loop-item-preserved
 loop-item-preserved c =
-    let reads = reads_node (source_of c.args.source.now) in
+    let reads = reads_node (source_of c.args.source.now) Other in
     let kept = c.loop-item.invariant in
     let nodes = c.loop-item.nodes in
     let rest = elements_data c.next.new.self in
@@ -52,7 +53,7 @@ loop-item-preserved c =
 pub returns-in-Err : goal.returns-in-Err
 unfolding reads_array
 returns-in-Err c =
-    let reads = reads_node (source_of c.args.source.now) in
+    let reads = reads_node (source_of c.args.source.now) Other in
     let kept = c.loop-item.invariant in
     let all = elements_data c.into_iter-item-iterator.result in
     let left = elements_data c.loop-item.item-iterator in
@@ -74,7 +75,7 @@ returns-in-Err c =
 
 pub returns : goal.returns
 returns c =
-    let reads = reads_node (source_of c.args.source.now) in
+    let reads = reads_node (source_of c.args.source.now) Other in
     let kept = c.loop-item.invariant in
     let none = elements_next c.loop-item.item-iterator c.next.new.self None c.in-None.ensures.steps in
     let read = c.in_ok-values.ensures

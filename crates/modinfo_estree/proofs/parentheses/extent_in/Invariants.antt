@@ -6,8 +6,8 @@ use Rattle.modinfo_estree.proofs.parentheses.extent_in.Given as goal
 
 abbrev pub invariant-loop-left : goal.invariant-loop-left
 invariant-loop-left l =
-    with_parentheses (source_of l.fn.source) l.left l.fn.limit l.extent
-    ≡ extent_in_call (source_of l.fn.source) l.fn.limit l.fn.range
+    with_parentheses (source_of l.fn.source) l.left l.fn.bounds l.extent
+    ≡ extent_in_call (source_of l.fn.source) l.fn.bounds l.fn.range
 
 abbrev pub decreases-loop-left : goal.decreases-loop-left
 decreases-loop-left l = l.left

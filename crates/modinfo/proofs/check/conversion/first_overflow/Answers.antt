@@ -26,8 +26,8 @@ loop-dependency-preserved c =
           (λ over. true≢false (sym (c.in_ok-column_overflows.ensures.1 over) ∙ c.if-branch.false)),
     )
 
-pub returns-then-branch : goal.returns-then-branch
-returns-then-branch c =
+pub returns-then-branch-clause-fault : goal.returns-then-branch-clause-fault
+returns-then-branch-clause-fault c =
     let left = elements_data c.loop-dependency.dependency-iterator in
     let rest = elements_data c.next.new.self in
     let d = data_of c.in-Some.dependency in
@@ -39,8 +39,8 @@ returns-then-branch c =
     )
 
 -- No dependency is left.
-pub returns : goal.returns
-returns c =
+pub returns-clause-fault : goal.returns-clause-fault
+returns-clause-fault c =
     let left = elements_data c.loop-dependency.dependency-iterator in
     let none : left ≡ no_items = elements_next c.loop-dependency.dependency-iterator c.next.new.self None
     c.in-None.ensures.steps in (

@@ -1,26 +1,73 @@
 use Rattle.std.proofs.Common.{ℕ, List, Option, Result, Ok, Err, IfOk, IsUtf8, inr, ◌⊎◌}
 use Rattle.serde_json.specs.Data.{Data}
 use Rattle.std.specs.declared.alloc.AllocError.{AllocError}
-use Rattle.modinfo_document.specs.Report.{MatchReport}
+use Rattle.modinfo_document.specs.declared.report.FaultReport.{FaultReport}
 use Rattle.modinfo_document.specs.declared.report.Report.{Report}
 use Rattle.modinfo_document.specs.declared.report.Report.TheVariants.{Valid, Invalid}
-use Rattle.modinfo_document.specs.Check.{IsInvalidIn, IsValidIn, ReportsIn}
+use Rattle.modinfo_document.specs.Check.{
+  IsFaultReport,
+  IsReportIn,
+  IsValidIn,
+  Pointers,
+  points_in_module,
+  points_nowhere,
+}
 use Rattle.modinfo_document.specs.Document.{Contents, reads_document}
 use Rattle.modinfo_estree.specs.Document.{reads_estree}
+use Rattle.modinfo.specs.Check.{
+  IsConvertibleText,
+  IsQuestionFaultReport,
+  IsQuestionText,
+  IsSourceFaultReport,
+  IsStoredFaultReport,
+  OfReport,
+  ReportsEncoding,
+}
+use Rattle.modinfo.specs.Source.{IsSourceDocument}
 use Rattle.modinfo.proofs.format.Format.check.Goals as goal
 
--- A text with an error as a document of a form is faulty.
-of_text : (reads : Data → Option Contents) (text : List ℕ) (answer : Result Report AllocError)
-    → IfOk answer (ReportsIn reads text)
-    → IfOk answer (MatchReport (IsValidIn reads text) ((¬ IsUtf8 text) ⊎ IsInvalidIn reads text))
-of_text reads text (Ok (Valid warnings)) h = h
-of_text reads text (Ok (Invalid fault)) h = inr h
-of_text reads text (Err refused) h = tt
+-- The report says that the bytes aren't UTF-8.
+abbrev IsOfEncoding : List ℕ → FaultReport → Type 0
+IsOfEncoding bytes report = (¬ IsUtf8 bytes) × ReportsEncoding bytes report
+
+-- A report on a text is one on its bytes.
+of_document : (reads : Data → Option Contents) (points : Pointers) (text : List ℕ)
+    (answer : Result Report AllocError) → IfOk answer (IsReportIn reads points text)
+    → IfOk answer (OfReport (IsValidIn reads text)
+    (λ report. IsOfEncoding text report ⊎ IsFaultReport reads points text report))
+of_document reads points text (Ok (Valid warnings)) h = h
+of_document reads points text (Ok (Invalid report)) h = inr h
+of_document reads points text (Err failed) h = tt
+
+of_text : (WhenValid : Type 0) (WhenFaulty : FaultReport → Type 0) (text : List ℕ)
+    (answer : Result Report AllocError) → IfOk answer (OfReport WhenValid WhenFaulty)
+    → IfOk answer (OfReport WhenValid (λ report. IsOfEncoding text report ⊎ WhenFaulty report))
+of_text WhenValid WhenFaulty text (Ok (Valid warnings)) h = h
+of_text WhenValid WhenFaulty text (Ok (Invalid report)) h = inr h
+of_text WhenValid WhenFaulty text (Err failed) h = tt
 
 pub returns-in-Module : goal.returns-in-Module
-returns-in-Module c = rw c.in-Module.is (of_text reads_document c.args.document.now c.check_document.result
-    (rw c.in-Ok.ensures.cases.0 at c.check_document.ensures.verdict))
+returns-in-Module c = rw c.in-Module.is (of_document reads_document points_in_module c.args.document.now
+    c.check_document.result (rw c.in-Ok.ensures.cases.0 at c.check_document.ensures.report))
 
 pub returns-in-Estree : goal.returns-in-Estree
-returns-in-Estree c = rw c.in-Estree.is (of_text reads_estree c.args.document.now
-    c.check_estree.result (rw c.in-Ok.ensures.cases.0 at c.check_estree.ensures.verdict))
+returns-in-Estree c = rw c.in-Estree.is (of_document reads_estree points_nowhere c.args.document.now
+    c.check_estree.result (rw c.in-Ok.ensures.cases.0 at c.check_estree.ensures.report))
+
+pub returns-in-Source : goal.returns-in-Source
+returns-in-Source c =
+    let text = c.args.document.now in
+    rw c.in-Source.is (of_text (IsSourceDocument text) (IsSourceFaultReport text) text c.check_source.result
+    (rw c.in-Ok.ensures.cases.0 at c.check_source.ensures))
+
+pub returns-in-Stored : goal.returns-in-Stored
+returns-in-Stored c =
+    let text = c.args.document.now in
+    rw c.in-Stored.is (of_text (IsConvertibleText text) (IsStoredFaultReport text) text c.check_stored.result
+    (rw c.in-Ok.ensures.cases.0 at c.check_stored.ensures))
+
+pub returns-in-Modules : goal.returns-in-Modules
+returns-in-Modules c =
+    let text = c.args.document.now in
+    rw c.in-Modules.is (of_text (IsQuestionText text) (IsQuestionFaultReport text) text c.check_modules.result
+    (rw c.in-Ok.ensures.cases.0 at c.check_modules.ensures))

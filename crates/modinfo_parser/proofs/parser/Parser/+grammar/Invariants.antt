@@ -29,6 +29,12 @@ decreases-arrow_body l = l.depth
 abbrev pub decreases-body_of_arrow : goal.decreases-body_of_arrow
 decreases-body_of_arrow l = l.depth
 
+abbrev pub decreases-try_type_parameters : goal.decreases-try_type_parameters
+decreases-try_type_parameters l = l.depth
+
+abbrev pub decreases-type_parameters_before_parenthesis : goal.decreases-type_parameters_before_parenthesis
+decreases-type_parameters_before_parenthesis l = l.depth
+
 abbrev pub decreases-generic_arrow : goal.decreases-generic_arrow
 decreases-generic_arrow l = l.depth
 
@@ -275,6 +281,18 @@ decreases-parenthesized_element l = l.depth
 abbrev pub decreases-arrow_after_parentheses : goal.decreases-arrow_after_parentheses
 decreases-arrow_after_parentheses l = l.depth
 
+abbrev pub decreases-arrow_in_conditional : goal.decreases-arrow_in_conditional
+decreases-arrow_in_conditional l = l.depth
+
+abbrev pub decreases-try_return_type : goal.decreases-try_return_type
+decreases-try_return_type l = l.depth
+
+abbrev pub decreases-return_type_before_arrow : goal.decreases-return_type_before_arrow
+decreases-return_type_before_arrow l = l.depth
+
+abbrev pub decreases-try_typed_arrow : goal.decreases-try_typed_arrow
+decreases-try_typed_arrow l = l.depth
+
 abbrev pub decreases-typed_arrow : goal.decreases-typed_arrow
 decreases-typed_arrow l = l.depth
 
@@ -292,9 +310,6 @@ decreases-async_name l = l.depth
 
 abbrev pub decreases-async_generic : goal.decreases-async_generic
 decreases-async_generic l = l.depth
-
-abbrev pub decreases-async_generic_arrow : goal.decreases-async_generic_arrow
-decreases-async_generic_arrow l = l.depth
 
 abbrev pub decreases-angle : goal.decreases-angle
 decreases-angle l = l.depth
@@ -325,6 +340,9 @@ decreases-statements_to_brace l = l.depth
 
 abbrev pub invariant-statements_to_brace-loop-turn : goal.invariant-statements_to_brace-loop-turn
 invariant-statements_to_brace-loop-turn l = l.depth ≡ l.fn.depth
+
+abbrev pub decreases-body : goal.decreases-body
+decreases-body l = l.depth
 
 abbrev pub decreases-condition : goal.decreases-condition
 decreases-condition l = l.depth

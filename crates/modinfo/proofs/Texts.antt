@@ -1,0 +1,138 @@
+-- Source texts: the faults of each step.
+use Rattle.std.proofs.Common.{◌≡◌, ◌≢◌, ◌⊎◌, ◌∙◌, ap, inl, inr, refl, subst, sym}
+use Rattle.std.proofs.Common.{ℕ, List, Option, Some, None, Result, Ok, Err, IfOk, MatchResult}
+use Rattle.std.proofs.Common.{String, Global, string_bytes}
+use Rattle.url.specs.Parts.{Parts}
+use Rattle.deno_graph_source.specs.ParsedSource.{ParsedModule}
+use Rattle.deno_graph_source.specs.Source.{IsValid}
+use Rattle.deno_graph_source.specs.declared.tree.parse_error.ParseError.{ParseError as SyntaxError}
+use Rattle.modinfo_source.specs.Spelled.{IsSpelled}
+use Rattle.serde_json.specs.Data.{Data}
+use Rattle.serde_json.specs.Read.{read as read_text}
+use Rattle.url.specs.Parser.{IsOutOfRoom, parse_url}
+use Rattle.url.specs.declared.error.ParseError.{ParseError}
+use Rattle.url.specs.declared.error.ParseError.TheVariants as url
+use Rattle.deno_graph_json.specs.Read.Result.{IsReadError}
+use Rattle.deno_graph_json.specs.declared.error.ReadError.{ReadError}
+use Rattle.deno_graph_json.specs.declared.error.ReadError.TheVariants as read
+use Rattle.deno_graph_json.specs.declared.flat.error.TapeError.{TapeError}
+use Rattle.deno_graph_json.specs.declared.flat.error.TapeError.TheVariants as tape
+use Rattle.modinfo_document.specs.Error.{of_read, of_tape, of_url}
+use Rattle.modinfo.specs.Fault.{fault_of_document}
+use Rattle.modinfo.specs.Source.{
+  IsInfoOfText,
+  IsNoInfoOfText,
+  IsNoText,
+  IsNoTextInfo,
+  IsParsed,
+  IsTextIn,
+  IsTextInfo,
+  media_type_in,
+  reads_text,
+}
+use Rattle.modinfo.specs.declared.fault.Fault.{Fault}
+use Rattle.modinfo.specs.declared.source.SourceText.{SourceText}
+
+-- A text of which no flat list can be made.
+pub no_tape : (document : List ℕ) (inner : TapeError)
+    → ((offset : ℕ) → inner ≡ tape.Json offset → read_text document ≡ None)
+    → IsNoText document (fault_of_document (of_tape inner))
+no_tape document (tape.Json offset) none = none offset refl
+no_tape document tape.OutOfMemory none = tt
+
+-- The error in the value of a document is one of the document.
+pub no_value : (document : List ℕ) (value : Data) (error : ReadError) → read_text document ≡ Some value
+    → IsReadError value (reads_text value) error → IsNoText document (fault_of_document (of_read error))
+no_value document value (read.Mismatch found) is h = (value, is, h.0)
+no_value document value read.OutOfMemory is h = tt
+
+-- Any error but a failed allocation shows that the specifier is no URL.
+no_url : (specifier : List ℕ) (error : ParseError) → error ≢ url.Overflow → error ≢ url.OutOfMemory
+    → ((parse_url None specifier ≡ Err error) ⊎ IsOutOfRoom error)
+    → parse_url None specifier ≡ Err error
+no_url specifier error overflow memory (inl is) = is
+no_url specifier error overflow memory (inr (inl is)) = absurd (memory is)
+no_url specifier error overflow memory (inr (inr is)) = absurd (overflow is)
+
+-- The specifier is no URL, or an allocation failed.
+pub no_info : (text : SourceText) (error : ParseError)
+    → ((parse_url None text.specifier ≡ Err error) ⊎ IsOutOfRoom error)
+    → IsNoInfoOfText text (fault_of_document (of_url error))
+no_info text url.Overflow h = tt
+no_info text url.OutOfMemory h = tt
+no_info text url.EmptyHost h = (
+  url.EmptyHost,
+  no_url text.specifier url.EmptyHost (λ same. cc (same))
+      (λ same. cc (same)) h,
+)
+no_info text url.IdnaError h = (
+  url.IdnaError,
+  no_url text.specifier url.IdnaError (λ same. cc (same))
+      (λ same. cc (same)) h,
+)
+no_info text url.InvalidPort h = (
+  url.InvalidPort,
+  no_url text.specifier url.InvalidPort (λ same. cc (same))
+      (λ same. cc (same)) h,
+)
+no_info text url.InvalidIpv4Address h = (
+  url.InvalidIpv4Address,
+  no_url text.specifier url.InvalidIpv4Address (λ same. cc (same))
+      (λ same. cc (same)) h,
+)
+no_info text url.InvalidIpv6Address h = (
+  url.InvalidIpv6Address,
+  no_url text.specifier url.InvalidIpv6Address (λ same. cc (same))
+      (λ same. cc (same)) h,
+)
+no_info text url.InvalidDomainCharacter h = (
+  url.InvalidDomainCharacter,
+  no_url text.specifier url.InvalidDomainCharacter (λ same. cc (same))
+      (λ same. cc (same)) h,
+)
+no_info text url.RelativeUrlWithoutBase h = (
+  url.RelativeUrlWithoutBase,
+  no_url text.specifier url.RelativeUrlWithoutBase (λ same. cc (same))
+      (λ same. cc (same)) h,
+)
+no_info text url.RelativeUrlWithCannotBeABaseBase h = (
+  url.RelativeUrlWithCannotBeABaseBase,
+  no_url text.specifier url.RelativeUrlWithCannotBeABaseBase (λ same. cc (same))
+      (λ same. cc (same)) h,
+)
+no_info text url.SetHostOnCannotBeABaseUrl h = (
+  url.SetHostOnCannotBeABaseUrl,
+  no_url text.specifier url.SetHostOnCannotBeABaseUrl (λ same. cc (same))
+      (λ same. cc (same)) h,
+)
+no_info text url.CannotSet h = (
+  url.CannotSet,
+  no_url text.specifier url.CannotSet (λ same. cc (same))
+      (λ same. cc (same)) h,
+)
+
+-- The answer to a text is that to its document.
+pub text_answer : (document : List ℕ) (text : SourceText) (answer : Result (String Global) Fault)
+    → IsTextIn document text
+    → MatchResult answer (λ printed. IsInfoOfText text (string_bytes printed)) (IsNoInfoOfText text)
+    → MatchResult answer (λ printed. IsTextInfo document (string_bytes printed)) (IsNoTextInfo document)
+text_answer document text (Ok printed) is h = (text, is, h)
+text_answer document text (Err fault) is h = inr (text, is, h)
+
+-- What the parser makes of a text is a source of that text.
+pub is_parsed : (text : SourceText) (url : Parts) (answer : Result ParsedModule SyntaxError)
+    → parse_url None text.specifier ≡ Ok url
+    → IfOk answer (λ source. source.specifier ≡ url)
+    → IfOk answer (λ source. source.text ≡ text.source)
+    → IfOk answer (λ source. source.media_type ≡ media_type_in url text.media_type)
+    → IfOk answer (λ source. IsValid source.text source.program source.comments)
+    → IfOk answer (λ source. IsSpelled text.source source.program)
+    → IfOk answer (IsParsed text)
+is_parsed text url (Ok source) parses specifier same media_type valid spelled = record {
+  specifier = parses ∙ ap Ok (sym specifier);
+  source = same;
+  media_type = media_type ∙ ap (λ u. media_type_in u text.media_type) (sym specifier);
+  valid = valid;
+  spelled = subst (λ t. IsSpelled t source.program) (sym same) spelled;
+}
+is_parsed text url (Err error) parses specifier same media_type valid spelled = tt

@@ -1,0 +1,89 @@
+//! Checking documents of `analyze --source`.
+
+ghost use Rattle.std.specs.Prelude.{IfOk};
+ghost use Rattle.deno_graph_json.specs.Data.{data_of};
+ghost use Rattle.modinfo_document.specs.Report.{IsNamed};
+ghost use Rattle.modinfo.specs.Check.{HasParsedText, IsSourceFaultReport, IsTextFaultReport, OfReport, ReportsOnText};
+ghost use Rattle.modinfo.specs.Fault.{name_of_fault};
+ghost use Rattle.modinfo.specs.Source.{IsSourceDocument};
+
+use crate::fault::Fault;
+use crate::source::{SourceText, read_source_text};
+use deno_graph_json::{Element, ReadError, Tape, TapeError};
+use deno_graph_source::text::SourceTextInfo;
+use deno_graph_source::tree::{ParseDiagnostic, ParseError};
+use json::Scratch;
+use modinfo_document::DocumentError;
+use modinfo_document::report::{
+    FaultReport, Report, TextPlace, Warnings, json_report_at, specifier_report, tree_report,
+};
+use std::alloc::{AllocError, Global};
+use std::rc::RcStr;
+
+/// Checks a text as a document of `analyze --source`. Returns `Valid` if the parser reads the source
+/// text, else `Invalid` with the first fault. The only error is a failed allocation.
+pub fn check_source(alloc: Global, text: &str) -> Result<Report, AllocError>
+    ensures { IfOk result (OfReport (IsSourceDocument text.now) (IsSourceFaultReport text.now)) }
+{
+    let mut scratch = Scratch::new(alloc);
+    match Tape::read(alloc, text, &mut scratch) {
+        Ok(tape) => check_value(alloc, tape.root()),
+        Err(TapeError::Json { offset }) => Ok(Report::Invalid(json_report_at(
+            alloc, text, offset,
+        )?)),
+        Err(TapeError::OutOfMemory) => Err(AllocError),
+    }
+}
+
+/// Checks the JSON of a document.
+fn check_value(alloc: Global, value: Element<'_>) -> Result<Report, AllocError>
+    ensures { IfOk result (OfReport (HasParsedText (data_of value.entry)) (IsTextFaultReport (data_of value.entry))) }
+{
+    match read_source_text(alloc, value) {
+        Ok(text) => check_text(alloc, text),
+        Err(ReadError::Mismatch(mismatch)) => {
+            Ok(Report::Invalid(tree_report(alloc, &mismatch)?))
+        }
+        Err(ReadError::OutOfMemory) => Err(AllocError),
+    }
+}
+
+/// Checks the specifier of a source text, and then the text. The only error is a failed allocation.
+pub fn check_text(alloc: Global, text: SourceText) -> Result<Report, AllocError>
+    ensures { IfOk result (ReportsOnText text) }
+{
+    let specifier = match text.url(alloc) {
+        Ok(specifier) => specifier,
+        Err(DocumentError::OutOfMemory) => return Err(AllocError),
+        Err(_) => return Ok(Report::Invalid(specifier_report(alloc)?)),
+    };
+    let source = RcStr::from_str(alloc, text.source.as_str())?;
+    match text.into_source(alloc, specifier) {
+        Ok(_) => Ok(Report::Valid(Warnings::new(alloc))),
+        Err(ParseError::Diagnostic(diagnostic)) => {
+            Ok(Report::Invalid(syntax_report(alloc, source, &diagnostic)?))
+        }
+        Err(ParseError::OutOfMemory) => Err(AllocError),
+    }
+}
+
+/// The report on a syntax error: the message of the parser is what is expected, and the place is one of
+/// the source text. The only error is a failed allocation.
+fn syntax_report(
+    alloc: Global,
+    source: RcStr,
+    diagnostic: &ParseDiagnostic,
+) -> Result<FaultReport, AllocError>
+    ensures { IfOk result (IsNamed (name_of_fault Fault.Syntax)) }
+{
+    let fault = String::from_str(alloc, Fault::Syntax.name())?;
+    let pointer = String::from_str(alloc, "/source")?;
+    let expected = String::from_str(alloc, diagnostic.message.as_str())?;
+    let mut report = FaultReport::of_value(fault, pointer, expected);
+    let text = SourceTextInfo::new(alloc, source)?;
+    let position = diagnostic.position;
+    report.at = position
+        .as_source_pos(&text)
+        .map(|offset| TextPlace { position, offset });
+    Ok(report)
+}

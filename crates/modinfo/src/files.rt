@@ -1,0 +1,349 @@
+//! The command `files`: the information on each of many files, one per line.
+
+use crate::command_line::{CommandLine, Names};
+use crate::fault::Fault;
+use crate::file_url::file_url;
+use crate::help::USAGE;
+use crate::input::read_to_end;
+use crate::lines::buffered;
+use crate::output::{print_fault, print_line, write_front};
+use deno_graph_info::analysis::ModuleInfo;
+use deno_graph_json::text_of;
+use deno_graph_module_info::module_info;
+use deno_graph_source::text::Position;
+use deno_graph_source::tree::{MediaType, ParseError};
+use deno_graph_source::values::Text;
+use memchr::memchr;
+use modinfo_source::parse_module;
+use simdutf8::basic;
+use std::alloc::{AllocError, AllocFailed, Global};
+use std::fs::OpenFile;
+use std::io::{BufRead, ErrorKind, Read, Write};
+use std::rc::RcStr;
+use std::rt::{Env, Files};
+use std::{env, fs, io};
+use url::Url;
+
+const CHUNK: usize = 65536;
+
+/// The most bytes of a file.
+const LIMIT: u64 = 64 << 20;
+
+/// Runs `files`, and returns the exit status. `words` are the arguments after the program's name. Prints
+/// a line for each file, in the order of the names: its information, or a fault.
+///
+/// - Status 0: each file has information.
+/// - Status 1: a file has a fault, or there was a fault of the run, of which `errors` gets a line.
+/// - Status 2: the words are no `files`. `errors` gets a line on the usage, and `output` nothing.
+pub fn serve_files<R: Files + Env + AllocGlobal, I: Read, W: Write, E: Write>(
+    rt: &R,
+    words: &[&str],
+    input: &mut I,
+    output: &mut W,
+    errors: &mut E,
+) -> u8
+where
+    I: Drop,
+{
+    let (Some(CommandLine::Files(names)), [_, words @ ..]) = (CommandLine::from_words(words), words)
+    else {
+        print_line(errors, USAGE);
+        return 2;
+    };
+    match run_files(rt, names, words, input, output) {
+        Ok(true) => 0,
+        Ok(false) => 1,
+        Err(fault) => {
+            print_fault(errors, &fault);
+            1
+        }
+    }
+}
+
+/// Prints a line for each file. Returns whether each has information.
+fn run_files<R: Files + Env + AllocGlobal, I: Read, W: Write>(
+    rt: &R,
+    names: Names,
+    words: &[&str],
+    input: &mut I,
+    output: &mut W,
+) -> Result<bool, Fault>
+where
+    I: Drop,
+{
+    let folder = current_folder(rt)?;
+    let folder = folder.as_str();
+    match names {
+        Names::Arguments => print_named(rt, folder, words, output),
+        Names::Lines => print_listed(rt, folder, b'\n', input, output),
+        Names::Zeros => print_listed(rt, folder, 0, input, output),
+    }
+}
+
+/// The path of the current folder, without a slash at its end. Empty if the system doesn't say it.
+fn current_folder<R: Env + AllocGlobal>(rt: &R) -> Result<String, Fault> {
+    let alloc = rt.alloc();
+    match env::current_dir(rt) {
+        Ok(folder) => Ok(String::from_str(alloc, folder.as_str().trim_end_matches('/'))?),
+        Err(error) if error.kind() == ErrorKind::OutOfMemory => Err(Fault::OutOfMemory),
+        Err(_) => Ok(String::new(alloc)),
+    }
+}
+
+/// Prints a line for each of the named files. Returns whether each has information.
+fn print_named<R: Files + AllocGlobal, W: Write>(
+    rt: &R,
+    folder: &str,
+    names: &[&str],
+    output: &mut W,
+) -> Result<bool, Fault> {
+    let mut waiting = Vec::new(rt.alloc());
+    let mut is_whole = true;
+    for name in names {
+        is_whole &= put_file(rt, folder, name.as_bytes(), &mut waiting)?;
+        write_waiting(output, &mut waiting, CHUNK)?;
+    }
+    write_waiting(output, &mut waiting, 0)?;
+    Ok(is_whole)
+}
+
+/// Prints a line for each of the files whose names are in the input, each ended by a byte. Returns
+/// whether each has information. Writes before each read that may wait for input.
+fn print_listed<R: Files + AllocGlobal, I: Read, W: Write>(
+    rt: &R,
+    folder: &str,
+    end: u8,
+    input: &mut I,
+    output: &mut W,
+) -> Result<bool, Fault>
+where
+    I: Drop,
+{
+    let mut input = buffered(rt.alloc(), input)?;
+    let mut waiting = Vec::new(rt.alloc());
+    let mut is_whole = true;
+    for _ in 0..u64::MAX {
+        let is_due = memchr(end, input.buffer()).is_none();
+        write_waiting(output, &mut waiting, if is_due { 0 } else { CHUNK })?;
+        let mut name = Vec::new(rt.alloc());
+        match input.read_until(end, &mut name) {
+            Ok(0) => break,
+            Ok(_) => {}
+            Err(error) if error.kind() == ErrorKind::OutOfMemory => return Err(Fault::OutOfMemory),
+            Err(_) => return Err(Fault::Input),
+        }
+        if name.last() == Some(&end) {
+            name.pop();
+        }
+        is_whole &= put_file(rt, folder, name.as_slice(), &mut waiting)?;
+    }
+    write_waiting(output, &mut waiting, 0)?;
+    Ok(is_whole)
+}
+
+/// Writes the waiting bytes if there are more than `most`.
+fn write_waiting<W: Write>(
+    output: &mut W,
+    waiting: &mut Vec<u8>,
+    most: usize,
+) -> Result<(), Fault> {
+    if waiting.len() <= most {
+        return Ok(());
+    }
+    if !write_front(output, waiting.as_slice()) || output.flush().is_err() {
+        return Err(Fault::Output);
+    }
+    waiting.clear();
+    Ok(())
+}
+
+/// Appends the line of a file. Returns whether the file has information.
+fn put_file<R: Files + AllocGlobal>(
+    rt: &R,
+    folder: &str,
+    name: &[u8],
+    waiting: &mut Vec<u8>,
+) -> Result<bool, Fault> {
+    let alloc = rt.alloc();
+    let lossy = String::from_utf8_lossy(alloc, name)?;
+    let specifier = file_url(alloc, folder, lossy.as_str())?;
+    let is_text = basic::from_utf8(name).is_ok();
+    let found = if is_text {
+        info_of_file(rt, lossy.as_str(), &specifier)
+    } else {
+        Err(FileFault::input("the name isn't UTF-8"))
+    };
+    let line = line_of(alloc, specifier.as_str(), &found)?;
+    waiting.extend_from_slice(line.as_bytes())?;
+    Ok(found.is_ok())
+}
+
+/// Why a file has no information.
+#[derive(Drop)]
+struct FileFault {
+    fault: Fault,
+    message: Message,
+    /// Line and character of a syntax error, counted from zero.
+    position: Option<Position>,
+}
+
+/// What is wrong, in words.
+#[derive(Drop)]
+enum Message {
+    Fixed(&'static str),
+    OfParser(Text),
+}
+
+impl Message {
+    fn as_str(&self) -> &str {
+        match self {
+            Message::Fixed(text) => text,
+            Message::OfParser(text) => text.as_str(),
+        }
+    }
+}
+
+impl FileFault {
+    fn input(message: &'static str) -> FileFault {
+        FileFault {
+            fault: Fault::Input,
+            message: Message::Fixed(message),
+            position: None,
+        }
+    }
+
+    fn out_of_memory() -> FileFault {
+        FileFault {
+            fault: Fault::OutOfMemory,
+            message: Message::Fixed("an allocation failed"),
+            position: None,
+        }
+    }
+}
+
+impl From<AllocError> for FileFault {
+    fn from(_error: AllocError) -> FileFault {
+        FileFault::out_of_memory()
+    }
+}
+
+impl<T: Drop> From<AllocFailed<T>> for FileFault {
+    fn from(_error: AllocFailed<T>) -> FileFault {
+        FileFault::out_of_memory()
+    }
+}
+
+impl From<io::Error> for FileFault {
+    fn from(error: io::Error) -> FileFault {
+        match error.kind() {
+            ErrorKind::OutOfMemory => FileFault::out_of_memory(),
+            ErrorKind::NotFound => FileFault::input("no such file"),
+            ErrorKind::PermissionDenied => FileFault::input("permission denied"),
+            _ => FileFault::input("the file can't be read"),
+        }
+    }
+}
+
+impl From<Fault> for FileFault {
+    fn from(fault: Fault) -> FileFault {
+        match fault {
+            Fault::OutOfMemory => FileFault::out_of_memory(),
+            _ => FileFault::input("the file can't be read"),
+        }
+    }
+}
+
+impl From<ParseError> for FileFault {
+    fn from(error: ParseError) -> FileFault {
+        match error {
+            ParseError::Diagnostic(diagnostic) => FileFault {
+                fault: Fault::Syntax,
+                message: Message::OfParser(diagnostic.message),
+                position: Some(diagnostic.position),
+            },
+            ParseError::OutOfMemory => FileFault::out_of_memory(),
+        }
+    }
+}
+
+/// The information on a file.
+fn info_of_file<R: Files + AllocGlobal>(
+    rt: &R,
+    name: &str,
+    specifier: &Url,
+) -> Result<ModuleInfo, FileFault> {
+    let alloc = rt.alloc();
+    let bytes = read_file(rt, name)?;
+    let Ok(text) = basic::from_utf8(bytes.as_slice()) else {
+        return Err(FileFault::input("the file isn't UTF-8"));
+    };
+    let source = RcStr::from_str(alloc, text)?;
+    drop(bytes);
+    let media_type = MediaType::from_specifier(specifier);
+    let parsed = parse_module(alloc, specifier.clone()?, source, media_type)?;
+    Ok(module_info(alloc, &parsed)?)
+}
+
+/// Reads a regular file of at most `LIMIT` bytes. Nothing else is opened.
+fn read_file<R: Files + AllocGlobal>(rt: &R, name: &str) -> Result<Vec<u8>, FileFault> {
+    check_kind(&fs::metadata(rt, name)?)?;
+    let file = fs::open(rt, name)?;
+    check_kind(&file.metadata()?)?;
+    let bytes = read_to_end(rt.alloc(), &mut file.take(LIMIT + 1))?;
+    if bytes.len() as u64 > LIMIT {
+        return Err(FileFault::input("larger than 64 MiB"));
+    }
+    Ok(bytes)
+}
+
+/// Checks that a file is regular, and not too large.
+fn check_kind(found: &fs::Metadata) -> Result<(), FileFault> {
+    if found.is_dir() {
+        return Err(FileFault::input("a folder: name the files in it"));
+    }
+    if !found.is_file() {
+        return Err(FileFault::input("no regular file"));
+    }
+    if found.len() > LIMIT {
+        return Err(FileFault::input("larger than 64 MiB"));
+    }
+    Ok(())
+}
+
+/// The line of a file: JSON and a line feed.
+fn line_of(
+    alloc: Global,
+    specifier: &str,
+    found: &Result<ModuleInfo, FileFault>,
+) -> Result<String, AllocError> {
+    let specifier = json_string(alloc, specifier)?;
+    match found {
+        Ok(info) => {
+            let info = text_of(alloc, info)?;
+            format!(in alloc; "{{\"specifier\":{specifier},\"info\":{info}}}\n")
+        }
+        Err(fault) => {
+            let name = fault.fault.name();
+            let message = json_string(alloc, fault.message.as_str())?;
+            let position = position_member(alloc, fault.position)?;
+            format!(in alloc;
+                "{{\"specifier\":{specifier},\"fault\":{{\"name\":\"{name}\",\"message\":{message}{position}}}}}\n"
+            )
+        }
+    }
+}
+
+/// The member `position` with a comma before it, or nothing.
+fn position_member(alloc: Global, position: Option<Position>) -> Result<String, AllocError> {
+    match position {
+        Some(Position { line, character }) => {
+            format!(in alloc; ",\"position\":[{line},{character}]")
+        }
+        None => Ok(String::new(alloc)),
+    }
+}
+
+/// A text as a JSON string.
+fn json_string(alloc: Global, text: &str) -> Result<String, AllocError> {
+    text_of(alloc, &Text::from_str(alloc, text)?)
+}

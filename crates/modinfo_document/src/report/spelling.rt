@@ -1,0 +1,105 @@
+//! Warnings about string literals that the source doesn't spell.
+
+ghost use Rattle.std.specs.Prelude.{◌≡◌, All, IfOk, IsTrue, OnOk};
+ghost use Rattle.deno_graph_source.specs.Node.{nodes_in};
+ghost use Rattle.modinfo_document.specs.Report.{HasNone};
+ghost use Rattle.modinfo_document.specs.Spelling.{AreSpelled, IsLiteralSpelled, IsSpelledAt, is_code};
+
+use crate::document::Document;
+use crate::report::place::{literal_member, node_pointer};
+use crate::report::warning::{Warning, Warnings};
+use deno_graph_json::{ReferenceToken, push_token};
+use deno_graph_source::tree::{MediaType, Node, StrLit};
+use modinfo_literals::spells;
+use std::alloc::{AllocError, Global};
+
+const UNSPELLED: &str = "the source doesn't spell this value at the literal's range";
+
+/// Adds a warning about each string literal of a document of code whose value isn't what the source spells
+/// at the literal's range. The only error is a failed allocation.
+pub fn warn_of_literals(
+    alloc: Global,
+    document: &Document,
+    warnings: &mut Warnings,
+) -> Result<(), AllocError>
+    ensures { OnOk result (HasNone warnings.new → HasNone warnings.old × AreSpelled document.now) }
+{
+    if !is_code(document.media_type) {
+        return Ok(());
+    }
+    let source = document.source.as_str();
+    let mut path = Vec::new(alloc);
+    for (number, node) in document.program.body.as_slice().iter().enumerate() {
+        path.push(number)?;
+        warn_below(alloc, source, node, &mut path, warnings)?;
+        path.pop();
+    }
+    Ok(())
+}
+
+/// Whether sources of a media type have string literals.
+fn is_code(media_type: MediaType) -> bool
+    ensures { result ≡ is_code media_type }
+{
+    !matches!(media_type, MediaType::Json | MediaType::Other)
+}
+
+/// Like `warn_of_literals`, for the node at a path and all nodes below it.
+fn warn_below(
+    alloc: Global,
+    source: &str,
+    node: &Node,
+    path: &mut Vec<usize>,
+    warnings: &mut Warnings,
+) -> Result<(), AllocError>
+    ensures { OnOk result (HasNone warnings.new
+        → HasNone warnings.old × All (IsLiteralSpelled source.now) (nodes_in node.now)) }
+{
+    warn_of_node(alloc, source, node, path.as_slice(), warnings)?;
+    for (number, child) in node.children.as_slice().iter().enumerate() {
+        path.push(number)?;
+        warn_below(alloc, source, child, path, warnings)?;
+        path.pop();
+    }
+    Ok(())
+}
+
+/// Like `warn_of_literals`, for the node at a path alone.
+#[tactic(auto, unfolding(deno_graph_source::specs::Node::kind_of))]
+fn warn_of_node(
+    alloc: Global,
+    source: &str,
+    node: &Node,
+    path: &[usize],
+    warnings: &mut Warnings,
+) -> Result<(), AllocError>
+    ensures { OnOk result (HasNone warnings.new
+        → HasNone warnings.old × IsLiteralSpelled source.now node.now) }
+{
+    let Some(literal) = node.kind.literal() else {
+        return Ok(());
+    };
+    if is_spelled(alloc, source, literal)? {
+        return Ok(());
+    }
+    let mut pointer = node_pointer(alloc, path)?;
+    push_token(
+        &mut pointer,
+        ReferenceToken::Name(literal_member(&node.kind)),
+    )?;
+    warnings.push(Warning {
+        pointer,
+        says: UNSPELLED,
+    })
+}
+
+/// Whether the source spells the value of a literal at the literal's range. The only error is a failed
+/// allocation.
+fn is_spelled(alloc: Global, source: &str, literal: &StrLit) -> Result<bool, AllocError>
+    ensures { IfOk result (λ is. IsTrue is → IsSpelledAt source.now literal.now) }
+{
+    match source.get(literal.range.start..literal.range.end) {
+        Some(slice) => spells(alloc, slice, &literal.value),
+        None => Ok(false),
+    }
+}

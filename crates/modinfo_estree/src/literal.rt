@@ -1,0 +1,103 @@
+//! String literals, each held against the text.
+
+ghost use Rattle.std.specs.Prelude.{◌≡◌, codes, IfOk, Some};
+ghost use Rattle.deno_graph_json.specs.Data.{data_of};
+ghost use Rattle.deno_graph_json.specs.ObjectReader.{readable, value_of};
+ghost use Rattle.deno_graph_json.specs.Read.Partial.{member_at};
+ghost use Rattle.deno_graph_json.specs.Read.Result.{IsReadResult};
+ghost use Rattle.modinfo_document.specs.Literal.{reads_string};
+ghost use Rattle.modinfo_literals.specs.Value.{is_spelled};
+ghost use Rattle.modinfo_estree.specs.Literal as spec;
+ghost use Rattle.modinfo_estree.specs.Literal.{if_spelled};
+
+use crate::member::read_range;
+use crate::offsets::Offsets;
+use crate::required::{in_member, required};
+use crate::slice::slice_at;
+use crate::source::Members;
+use deno_graph_json::{Element, Expected, ReadError};
+use deno_graph_source::text::{JsString, SourceRange};
+use deno_graph_source::tree::StrLit;
+use modinfo_literals::spells;
+use std::alloc::{AllocError, Global};
+
+const EXPECTED: Expected = Expected::OneOf(
+    "the value that the source spells at the literal's range",
+    &[],
+);
+
+/// Reads a string literal, whose member `value` is its value.
+#[tactic(auto, using(deno_graph_json::proofs::Reading::reading), unfolding(crate::specs::Literal::reads_literal))]
+pub fn read_literal(
+    alloc: Global,
+    offsets: &Offsets<'_>,
+    value: Element<'_>,
+) -> Result<StrLit, ReadError>
+    ensures { IsReadResult (data_of value.entry)
+        (spec.reads_literal offsets.now (data_of value.entry)) result }
+{
+    let members = Members::new(alloc, value)?;
+    let range = read_range(offsets, &members)?;
+    let found = members.read("value")?;
+    let value = if_spelled(alloc, offsets, range, &members, found)?;
+    Ok(StrLit { value, range })
+}
+
+/// Reads the string literal that is a member.
+#[tactic(auto, using(deno_graph_json::proofs::Reading::reading), unfolding(deno_graph_json::specs::Read::Partial::member_at))]
+pub fn read_literal_at(
+    alloc: Global,
+    offsets: &Offsets<'_>,
+    members: &Members<'_>,
+    name: &'static str,
+) -> Result<StrLit, ReadError>
+    ensures { IsReadResult (value_of members.now)
+        (spec.reads_literal_at offsets.now name.now (readable members.now)) result }
+{
+    let value = required(alloc, members, name)?;
+    in_member(alloc, members, name, read_literal(alloc, offsets, value))
+}
+
+/// Returns the value of a string literal that was read from its members, if the text may spell the value at
+/// the literal's range.
+#[tactic(auto, unfolding(crate::specs::Literal::if_spelled))]
+pub fn if_spelled(
+    alloc: Global,
+    offsets: &Offsets<'_>,
+    range: SourceRange,
+    members: &Members<'_>,
+    value: JsString,
+) -> Result<JsString, ReadError>
+    requires { member_at reads_string (codes "value") (readable members.now) ≡ Some value }
+    ensures { IsReadResult (value_of members.now) (if_spelled offsets.now.text range value) result }
+{
+    let is_spelled = may_spell(alloc, offsets.text(), range, &value)?;
+    if is_spelled {
+        Ok(value)
+    } else {
+        Err(members.member_error("value", EXPECTED))
+    }
+}
+
+/// Returns whether a text spells a value at a range, or has no such range.
+#[tactic(auto, unfolding(crate::specs::Literal::may_spell))]
+fn may_spell(
+    alloc: Global,
+    text: &str,
+    range: SourceRange,
+    value: &JsString,
+) -> Result<bool, AllocError>
+    ensures { IfOk result (λ may. may ≡ spec.may_spell text.now range value.now) }
+{
+    match slice_at(text, range) {
+        Some(slice) => is_spelled(alloc, slice, value),
+        None => Ok(true),
+    }
+}
+
+/// Returns whether a text is a string literal of a value.
+fn is_spelled(alloc: Global, slice: &str, value: &JsString) -> Result<bool, AllocError>
+    ensures { IfOk result (λ is. is ≡ is_spelled slice.now value.now) }
+{
+    spells(alloc, slice, value)
+}
