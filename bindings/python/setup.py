@@ -69,7 +69,11 @@ class BuildWithLibrary(build_py):
                 "and install that"
             )
         super().run()
-        self.copy_file(str(library()), str(Path(self.build_lib) / "modinfo" / LIBRARY))
+        made = library()
+        # The stamp says whether the library is proved, and has a hash of its sources.
+        for file in made, made.with_name(f"{LIBRARY}.origin"):
+            if file.is_file():
+                self.copy_file(str(file), str(Path(self.build_lib) / "modinfo" / file.name))
 
 
 class PlatformDistribution(Distribution):

@@ -19,18 +19,15 @@ fn main() {
     for folder in &folders {
         println!("cargo:rerun-if-changed={}", folder.join(ARCHIVE).display());
     }
-    match folders
+    let found = folders
         .iter()
-        .find_map(|folder| kind(folder).map(|kind| (folder, kind)))
-    {
-        Some((folder, kind)) => {
-            println!("cargo:rustc-link-search=native={}", folder.display());
-            println!("cargo:rustc-link-lib={kind}=modinfo");
-        }
-        None => {
-            println!("cargo:rustc-link-lib=static=modinfo");
-            println!("cargo:warning={}", missing(&folders));
-        }
+        .find_map(|folder| kind(folder).map(|kind| (folder, kind)));
+    if let Some((folder, kind)) = found {
+        println!("cargo:rustc-link-search=native={}", folder.display());
+        println!("cargo:rustc-link-lib={kind}=modinfo");
+    } else {
+        println!("cargo:rustc-link-lib=static=modinfo");
+        println!("cargo:warning={}", missing(&folders));
     }
 }
 
@@ -68,7 +65,10 @@ fn kind(folder: &Path) -> Option<&'static str> {
 }
 
 fn missing(folders: &[PathBuf]) -> String {
-    let folders: Vec<_> = folders.iter().map(|folder| format!("{folder:?}")).collect();
+    let folders: Vec<_> = folders
+        .iter()
+        .map(|folder| folder.display().to_string())
+        .collect();
     format!(
         "{ARCHIVE} isn't in {}: set MODINFO_LIB_DIR to its folder, install the package libmodinfo-dev, or run \
          tools/build_library in the repository of modinfo",

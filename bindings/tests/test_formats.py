@@ -120,7 +120,7 @@ def expect_errors(printed: str, wrong: Values) -> None:
 def in_typescript(name: str, values: list[dict[str, Any]]) -> str:
     module, _, kind = TYPES[name]
     lines = [f"export const value{number}: {kind} = {json.dumps(value)};" for number, value in enumerate(values)]
-    return "\n".join([f'import type {{ {kind} }} from "{ROOT}/bindings/node/src/{module}.mjs";', *lines, ""])
+    return "\n".join([f'import type {{ {kind} }} from "{ROOT}/bindings/node/src/{module}.cjs";', *lines, ""])
 
 
 def test_typescript(values: Values, wrong: Values, tmp_path: Path) -> None:

@@ -1,15 +1,17 @@
-"""Runs the programs that pages show for JavaScript, C, Python, Rust and the shell.
+"""Runs the programs that pages show for JavaScript, C, C++, Python, Rust and the shell.
 
 Each block in one of these languages is a whole program, and the next block is its output. Of README.md only one section
 is read. A program runs in an empty folder, with what `tools/install` and the packages for its language install.
 It has to print that output, and end with status 0. Where what a language needs isn't installed, its programs are
-skipped. Needs the program and the library in build/.
+skipped. Needs the program and the library in build/. The first program of docs/PARSERS.md runs without proofs, in a
+repository as that page has it.
 """
 
 import os
 import re
 import shutil
 import subprocess
+import textwrap
 from collections.abc import Callable
 from pathlib import Path
 
@@ -77,6 +79,13 @@ class Machine:
         self.run("cc", "-std=c11", "-Wall", "-Wextra", "-Werror", source, "-o", "program", *words, folder=source.parent)
         return self.run("./program", folder=source.parent)
 
+    def run_cpp(self, source: Path) -> str:
+        need("c++", "pkg-config")
+        words = self.run("pkg-config", "--cflags", "--libs", "modinfo", folder=source.parent).split()
+        warnings = ["-std=c++17", "-Wall", "-Wextra", "-Werror"]
+        self.run("c++", *warnings, source, "-o", "program", *words, folder=source.parent)
+        return self.run("./program", folder=source.parent)
+
     def run_python(self, source: Path) -> str:
         python = self.room / "venv/bin/python"
         if not python.exists():
@@ -95,6 +104,8 @@ class Machine:
         (source.parent / "src").mkdir()
         source.rename(source.parent / "src/main.rs")
         (source.parent / "Cargo.toml").write_text(MANIFEST)
+        (source.parent / ".cargo").mkdir()
+        shutil.copy(ROOT / "bindings/rust/debian.toml", source.parent / ".cargo/config.toml")
         return run("cargo", "run", "--offline", "--quiet", folder=source.parent, MODINFO_LIB_DIR=f"{self.prefix}/lib")
 
     def run_javascript(self, source: Path) -> str:
@@ -110,6 +121,7 @@ class Machine:
 LANGUAGES: dict[str, tuple[str, Callable[[Machine, Path], str]]] = {
     "sh": ("program.sh", Machine.run_sh),
     "c": ("program.c", Machine.run_c),
+    "cpp": ("program.cc", Machine.run_cpp),
     "python": ("program.py", Machine.run_python),
     "py": ("program.py", Machine.run_python),
     "rust": ("program.rs", Machine.run_rust),
@@ -152,3 +164,22 @@ def test_program(machine: Machine, tmp_path: Path, language: str, source: str, o
     name, method = LANGUAGES[language]
     (tmp_path / name).write_text(source)
     assert method(machine, tmp_path / name) == output
+
+
+def test_a_repository_of_a_reader_s_own(tmp_path: Path) -> None:
+    """The crates that the page's command names, its line for crates.txt, and its program."""
+    page = (ROOT / "docs/PARSERS.md").read_text()
+    [(program, output)] = re.findall(
+        r"(    //! Prints.*?\n    }\n)\n`rt try` in its folder prints `(.*?)`", page, re.DOTALL
+    )
+    [command] = re.findall("`(python3 tools/sources.py below .*?)`", page)
+    [line] = re.findall(r"^    (my_tool: .*)", page, re.MULTILINE)
+    lines = run(*command.split(), folder=ROOT)
+    (tmp_path / "crates.txt").write_text(f"{lines}{line}\n")
+    for name in re.findall(r"^\w+", lines, re.MULTILINE):
+        shutil.copytree(ROOT / "crates" / name, tmp_path / "crates" / name, ignore=shutil.ignore_patterns("out"))
+    source = tmp_path / "crates/my_tool/src/main.rt"
+    source.parent.mkdir(parents=True)
+    source.write_text(textwrap.dedent(program))
+    done = subprocess.run(["rt", "try"], cwd=source.parents[1], capture_output=True, text=True)
+    assert (done.stdout, done.returncode) == (f"{output}\n", 0), done.stderr

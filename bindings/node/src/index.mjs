@@ -1,64 +1,55 @@
 /**
  * Finds the dependencies of modules, by running the program `modinfo` and talking to it over pipes.
  *
- *     const modinfo = new Modinfo();
- *     const info = await modinfo.moduleInfo(text, { specifier: "file:///a.ts" });
- *     await modinfo.close();
+ *     const info = await moduleInfo(text, "file:///a.ts");
  */
 
 import { resolve as absolute } from "node:path";
 
+import { estreeDocument } from "./document/estree_document.cjs";
 import { readGraphOptions, graphOf } from "./graph/graph_service.mjs";
 import { readResolveOptions, resolveInfo } from "./graph/resolve_service.mjs";
-import { checkKnown, readSignal, unlessAborted } from "./runtime/call_options.mjs";
-import { checkedForm, describeReport, withPlace } from "./runtime/check_input.mjs";
-import { faultOf, withoutExcerpt } from "./runtime/faults.mjs";
-import { readOptions } from "./document/media_types.mjs";
-import { modinfoPath } from "./runtime/program.mjs";
-import { parseText } from "./runtime/parse_text.mjs";
+import { checkKnown, readJobs, readSignal, unlessAborted } from "./runtime/call_options.mjs";
+import { checkedForm, describeReport, jsonOf, utf8Of, withPlace } from "./runtime/check_input.mjs";
+import { checkCommand, documentCommand, lineOf } from "./runtime/commands.mjs";
+import { ModinfoFault, ProgramEnd } from "./runtime/errors.cjs";
 import { Pool } from "./runtime/pool.mjs";
-import { ModinfoFault, ProgramEnd, Service } from "./runtime/service.mjs";
-import { isWellFormed } from "./document/source.mjs";
-import { TYPESCRIPT_MEDIA_TYPES } from "./parsers/typescript/parse.mjs";
+import { modinfoPath } from "./runtime/program.mjs";
 
-export { ModinfoFault, ProgramEnd };
+export { ModinfoFault, ProgramEnd, estreeDocument };
 
 /**
- * @typedef {import("./index.mjs").CallOptions} CallOptions
- * @typedef {import("./index.mjs").CheckOptions} CheckOptions
- * @typedef {import("./index.mjs").EstreeDocument} EstreeDocument
- * @typedef {import("./index.mjs").Graph} Graph
- * @typedef {import("./index.mjs").GraphOptions} GraphOptions
- * @typedef {import("./index.mjs").Modinfo} Interface
- * @typedef {import("./index.mjs").ModinfoOptions} Options
- * @typedef {import("./index.mjs").ModuleGraph} ModuleGraph
- * @typedef {import("./index.mjs").ModuleInfo} ModuleInfo
- * @typedef {import("./index.mjs").ModuleInfoOptions} ModuleInfoOptions
- * @typedef {import("./index.mjs").ModuleDocument} ModuleDocument
- * @typedef {import("./index.mjs").Report} Report
- * @typedef {import("./index.mjs").ReportOptions} ReportOptions
- * @typedef {import("./index.mjs").ResolvedModuleInfo} ResolvedModuleInfo
- * @typedef {import("./index.mjs").ResolveOptions} ResolveOptions
- * @typedef {import("./runtime/service.mjs").Command} Command
+ * @typedef {import("./index.cjs").CallOptions} CallOptions
+ * @typedef {import("./index.cjs").Modinfo} Interface
+ * @typedef {import("./index.cjs").ModinfoOptions} Options
+ * @typedef {import("./index.cjs").Report} Report
+ * @typedef {import("./index.cjs").ReportOptions} ReportOptions
+ * @typedef {import("./index.cjs").Signal} Signal
+ * @typedef {import("./runtime/commands.mjs").CommandName} Command
  */
 
-const WORKER = new URL("./runtime/text_worker.mjs", import.meta.url);
+/** @type {Command[]} */
+const COMMANDS = ["analyze", "analyze --estree", "analyze --source", "convert", "reach"];
+
+/** @type {Modinfo | undefined} What `moduleInfo` runs, from its first call on. */
+let shared;
+
+/** @type {typeof import("./index.cjs").moduleInfo} */
+export async function moduleInfo(text, specifier, mediaType, options) {
+  shared ??= new Modinfo();
+  return shared.moduleInfo(text, specifier, mediaType, options);
+}
 
 /**
- * A process of `modinfo` for each command, and for the checks of each, started with its first
- * document. What each method does is in index.d.mts.
+ * Processes of `modinfo` for each command, started as documents come. What each method does is in index.d.cts.
  * @implements {Interface}
  */
 export class Modinfo {
-  #services;
-  #checks;
-  #pool;
   #program;
   #jobs;
-  /**
-   * Calls that are under way and that no service or pool waits for.
-   * @type {Set<Promise<unknown>>}
-   */
+  /** @type {Map<string, Pool>} By their command. */
+  #pools = new Map();
+  /** @type {Set<Promise<unknown>>} Calls that no pool waits for. */
   #underWay = new Set();
   /** @type {Promise<void> | undefined} */
   #closed;
@@ -66,117 +57,65 @@ export class Modinfo {
   /** @param {Options} options */
   constructor(options = {}) {
     checkKnown(options, ["program", "jobs"]);
-    const { jobs = 1 } = options;
-    if (!Number.isInteger(jobs) || jobs < 1) {
-      throw new TypeError(`jobs must be a whole number from 1 on, and is ${String(jobs)}`);
-    }
-    const program = pathOf(options.program);
-    this.#program = program;
-    this.#jobs = jobs;
-    this.#services = {
-      analyze: new Service(program, "analyze"),
-      "analyze --estree": new Service(program, "analyze --estree"),
-      convert: new Service(program, "convert"),
-      reach: new Service(program, "reach"),
-    };
-    this.#checks = {
-      analyze: new Service(program, "check analyze"),
-      "analyze --estree": new Service(program, "check analyze --estree"),
-      convert: new Service(program, "check convert"),
-      reach: new Service(program, "check reach"),
-    };
-    this.#pool = jobs > 1 ? new Pool(WORKER, { jobs }) : undefined;
+    this.#jobs = readJobs(options.jobs);
+    this.#program = pathOf(options.program);
   }
 
-  /**
-   * @param {ModuleDocument | string | Uint8Array} document
-   * @param {ReportOptions} [options]
-   * @returns {Promise<ModuleInfo>}
-   */
+  /** @type {Interface["moduleInfo"]} */
+  async moduleInfo(text, specifier, mediaType, options) {
+    checkKnown(options, ["signal"]);
+    const document = jsonOf({ specifier: urlText(text, specifier), source: utf8Of(text), mediaType });
+    return this.#track(options, (signal) => this.#answerOrReport("analyze --source", document, signal));
+  }
+
+  /** @type {Interface["analyze"]} */
   async analyze(document, options) {
     return this.#ask("analyze", document, options);
   }
 
-  /**
-   * @param {EstreeDocument | string | Uint8Array} document
-   * @param {ReportOptions} [options]
-   * @returns {Promise<ModuleInfo>}
-   */
-  async analyzeEstree(document, options) {
-    return this.#ask("analyze --estree", document, options);
+  /** @type {Interface["analyzeEstree"]} */
+  async analyzeEstree(tree, text, specifier, mediaType, options = {}) {
+    const url = urlText(text, specifier);
+    checkKnown(options, ["comments", "offsets", "report", "signal"]);
+    const { comments, offsets, ...others } = options;
+    const document = estreeDocument(tree, utf8Of(text), url, mediaType, { comments, offsets });
+    return this.#ask("analyze --estree", document, others);
   }
 
-  /**
-   * @param {object | string | Uint8Array} information
-   * @param {ReportOptions} [options]
-   * @returns {Promise<ModuleInfo>}
-   */
+  /** @type {Interface["convert"]} */
   async convert(information, options) {
     return this.#ask("convert", information, options);
   }
 
-  /**
-   * @param {ModuleGraph | string | Uint8Array} graph
-   * @param {ReportOptions} [options]
-   * @returns {Promise<string[]>}
-   */
+  /** @type {Interface["reach"]} */
   async reach(graph, options) {
     return this.#ask("reach", graph, options);
   }
 
-  /**
-   * @param {object | string | Uint8Array} document
-   * @param {CheckOptions} [options]
-   * @returns {Promise<Report>}
-   */
+  /** @type {Interface["check"]} */
   async check(document, options = {}) {
-    this.#checkOpen();
     checkKnown(options, ["command", "signal"]);
     const { command = "analyze" } = options;
-    if (!Object.hasOwn(this.#checks, command)) {
-      const names = Object.keys(this.#checks).join(", ");
-      throw new TypeError(`command must be one of ${names}, and is ${String(command)}`);
+    if (!COMMANDS.includes(command)) {
+      throw new TypeError(`command must be one of ${COMMANDS.join(", ")}, and is ${String(command)}`);
     }
-    const handed = checkedForm(jsonOf(document));
-    return unlessAborted(readSignal(options), () => this.#report(command, handed));
+    const json = checkedForm(jsonOf(document));
+    return this.#track(options, (signal) => this.#report(command, json, signal));
   }
 
-  /**
-   * @param {string} text
-   * @param {ModuleInfoOptions} options
-   * @returns {Promise<ModuleInfo>}
-   */
-  async moduleInfo(text, options) {
-    this.#checkOpen();
-    checkKnown(options, ["specifier", "mediaType", "signal"]);
-    const task = { text, options: readOptions(text, options, TYPESCRIPT_MEDIA_TYPES) };
-    return this.#track(readSignal(options), () => {
-      return this.#parse(task).then((document) => this.#answerOrReport("analyze", document));
-    });
-  }
-
-  /**
-   * @param {ModuleInfo} information
-   * @param {ResolveOptions} options
-   * @returns {Promise<ResolvedModuleInfo>}
-   */
+  /** @type {Interface["resolve"]} */
   async resolve(information, options) {
-    this.#checkOpen();
     const task = readResolveOptions(information, options);
-    return this.#track(readSignal(options), () => resolveInfo(task));
+    return this.#track(options, () => resolveInfo(task));
   }
 
-  /**
-   * @param {GraphOptions} options
-   * @returns {Promise<Graph>}
-   */
+  /** @type {Interface["graph"]} */
   async graph(options) {
-    this.#checkOpen();
     const task = readGraphOptions(options, { program: this.#program, jobs: this.#jobs });
-    return this.#track(readSignal(options), (signal) => graphOf(task, signal));
+    return this.#track(options, (signal) => unlessAborted(signal, () => graphOf(task, signal)));
   }
 
-  /** @returns {Promise<void>} */
+  /** @type {Interface["close"]} */
   close() {
     this.#closed ??= this.#end();
     return this.#closed;
@@ -189,31 +128,28 @@ export class Modinfo {
 
   async #end() {
     await Promise.allSettled(this.#underWay);
-    const services = [...Object.values(this.#services), ...Object.values(this.#checks)];
-    const closing = services.map((service) => service.close());
-    await Promise.all([this.#pool?.close(), ...closing]);
+    await Promise.all([...this.#pools.values()].map((pool) => pool.close()));
   }
 
   /**
    * A call that `close` waits for.
    * @template T
-   * @param {AbortSignal | undefined} signal
-   * @param {(signal: AbortSignal | undefined) => Promise<T>} call
+   * @param {CallOptions | undefined} options
+   * @param {(signal: Signal | undefined) => Promise<T>} call
    * @returns {Promise<T>}
    */
-  #track(signal, call) {
-    return unlessAborted(signal, () => {
-      const result = call(signal);
-      const ended = result.then(() => {}, () => {}).finally(() => this.#underWay.delete(ended));
-      this.#underWay.add(ended);
-      return result;
-    });
-  }
-
-  /** @throws {ProgramEnd} */
-  #checkOpen() {
+  async #track(options, call) {
     if (this.#closed) {
       throw new ProgramEnd("modinfo is closed");
+    }
+    const signal = readSignal(options);
+    signal?.throwIfAborted();
+    const result = call(signal);
+    this.#underWay.add(result);
+    try {
+      return await result;
+    } finally {
+      this.#underWay.delete(result);
     }
   }
 
@@ -224,67 +160,87 @@ export class Modinfo {
    * @returns {Promise<any>}
    */
   #ask(command, document, options) {
-    this.#checkOpen();
     checkKnown(options, ["report", "signal"]);
     const json = jsonOf(document);
-    if (options?.report) {
-      const handed = checkedForm(json);
-      return this.#track(readSignal(options), () => this.#answerOrReport(command, handed));
-    }
-    const handed = utf8Of(json);
-    return unlessAborted(readSignal(options), () => this.#answer(command, handed));
-  }
-
-  /**
-   * @param {Command} command
-   * @param {string | Buffer} document JSON
-   * @returns {Promise<any>} rejected with a `ModinfoFault` that has a report, where that can be had
-   */
-  async #answerOrReport(command, document) {
-    try {
-      return await this.#answer(command, document);
-    } catch (error) {
-      const report = error instanceof ModinfoFault
-        ? await this.#report(command, document).catch(() => undefined)
-        : undefined;
-      throw report?.fault ? new ModinfoFault(report.fault, describeReport(report), { report }) : error;
-    }
-  }
-
-  /**
-   * @param {Command} command
-   * @param {string | Buffer} document
-   * @returns {Promise<Report>}
-   */
-  async #report(command, document) {
-    const report = await this.#checks[command].answer(document);
-    return withPlace(JSON.parse(report.toString()), document);
+    return options?.report
+      ? this.#track(options, (signal) => this.#answerOrReport(command, checkedForm(json), signal))
+      : this.#track(options, (signal) => this.#answer(command, utf8Of(json), signal));
   }
 
   /**
    * @param {Command} command
    * @param {string | Uint8Array} document JSON
-   * @returns {Promise<any>}
+   * @param {Signal} [signal]
+   * @returns {Promise<any>} rejected with a `ModinfoFault` that has a report, where that can be had
    */
-  async #answer(command, document) {
-    const answer = await this.#services[command].answer(document);
-    return JSON.parse(answer.toString());
+  async #answerOrReport(command, document, signal) {
+    try {
+      return await this.#answer(command, document, signal);
+    } catch (error) {
+      const report = error instanceof ModinfoFault
+        ? await this.#report(command, document, signal).catch(() => undefined)
+        : undefined;
+      throw report?.fault ? faultWith(report) : error;
+    }
   }
 
   /**
-   * @param {import("./runtime/parse_text.mjs").Task} task
-   * @returns {Promise<string>} the JSON of its document
+   * @param {Command} command
+   * @param {string | Uint8Array} document JSON
+   * @param {Signal} [signal]
+   * @returns {Promise<Report>}
    */
-  async #parse(task) {
-    const parsed = this.#pool
-      ? await this.#pool.run(task).catch((error) => ({ fault: faultOf(error) }))
-      : parseText(task);
-    if (parsed.fault) {
-      const { fault, message, ...place } = withoutExcerpt(parsed.fault);
-      throw new ModinfoFault(fault, message, place);
-    }
-    return parsed.json;
+  async #report(command, document, signal) {
+    const report = await this.#pool(`check ${command}`, () => checkCommand(this.#program, command))
+      .run(lineOf(document), signal);
+    return withPlace(JSON.parse(report), document);
   }
+
+  /**
+   * @param {Command} command
+   * @param {string | Uint8Array} document JSON
+   * @param {Signal} [signal]
+   * @returns {Promise<any>}
+   */
+  async #answer(command, document, signal) {
+    const pool = this.#pool(command, () => documentCommand(this.#program, command));
+    return JSON.parse(await pool.run(lineOf(document), signal));
+  }
+
+  /**
+   * @param {string} name
+   * @param {() => import("./runtime/pool.mjs").Command} commandOf
+   */
+  #pool(name, commandOf) {
+    const pool = this.#pools.get(name) ?? new Pool(commandOf(), this.#jobs);
+    this.#pools.set(name, pool);
+    return pool;
+  }
+}
+
+/** @param {import("./index.cjs").FaultReport} report */
+function faultWith(report) {
+  if (report.fault !== "Syntax" || !report.at) {
+    return new ModinfoFault(report.fault, describeReport(report), { report });
+  }
+  return new ModinfoFault("Syntax", report.expected, { line: report.at.line + 1, column: report.at.column + 1 });
+}
+
+/**
+ * @param {unknown} text
+ * @param {any} specifier
+ * @returns {string}
+ * @throws {TypeError} the text is no string, or the specifier neither a string nor a `URL`
+ */
+function urlText(text, specifier) {
+  if (typeof text !== "string") {
+    throw new TypeError(`the text must be a string, and is ${String(text)}`);
+  }
+  const url = specifier?.href ?? specifier;
+  if (typeof url !== "string") {
+    throw new TypeError(`specifier must be an absolute URL, and is ${String(specifier)}`);
+  }
+  return url;
 }
 
 /**
@@ -296,30 +252,4 @@ function pathOf(program = modinfoPath()) {
     throw new TypeError(`program must be a path, and is ${String(program)}`);
   }
   return absolute(program);
-}
-
-/**
- * @param {unknown} document
- * @returns {string | Uint8Array}
- */
-function jsonOf(document) {
-  if (document instanceof Uint8Array) {
-    return document;
-  }
-  const json = typeof document === "string" ? document : JSON.stringify(document);
-  if (json === undefined) {
-    throw new TypeError(`a document is an object, or its JSON, and is ${String(document)}`);
-  }
-  return json;
-}
-
-/**
- * @param {string | Uint8Array} json
- * @returns {string | Uint8Array}
- */
-function utf8Of(json) {
-  if (typeof json === "string" && !isWellFormed(json)) {
-    throw new ModinfoFault("Input", "Input: a lone surrogate is no UTF-8");
-  }
-  return json;
 }

@@ -5,14 +5,14 @@ import { chmodSync, existsSync, readdirSync, readFileSync } from "node:fs";
 import { join } from "node:path";
 import { test } from "node:test";
 
-import { Modinfo, ModinfoFault, ProgramEnd } from "../src/index.mjs";
+import { Modinfo, ModinfoFault } from "../src/index.mjs";
 import { settled } from "./promises.mjs";
-import { MODINFO, STAND_IN, folderOf } from "./run_commands.mjs";
+import { MODINFO, folderOf } from "./run_commands.mjs";
 import { fault, readSchema } from "./schema.mjs";
 import { unchecked } from "./unchecked.mjs";
 
 /**
- * @typedef {"analyze" | "convert" | "reach"} Command
+ * @typedef {"analyze" | "analyze --source" | "convert" | "reach"} Command
  * @typedef {import("../src/index.mjs").FaultReport} FaultReport
  */
 
@@ -85,6 +85,10 @@ const FAULTS = [
     { fault: "CommentsOverlap", pointer: "/leading/0/comments/1", other: "/leading/0/comments/0", range: [0, 2] },
   ],
   ["analyze", withItem({ hasWith: true }), { fault: "Shape", pointer: "/program/body/0", range: [0, 16] }],
+  [
+    "analyze --source", { specifier: "file:///a.ts", source: "let a;\nlet é = ;" },
+    { fault: "Syntax", pointer: "/source", at: { line: 1, column: 8, offset: 16 } },
+  ],
   ["convert", { "a/b": [0, 0.5] }, { fault: "Float", pointer: "/a~1b/1" }],
   ["convert", OVERFLOWING, { fault: "ColumnOverflow", pointer: "/dependencies/0/leadingComments/0/range/0/1" }],
   ["reach", {}, { fault: "Shape", pointer: "" }],
@@ -100,7 +104,9 @@ test("a document with a fault", { skip }, async () => {
     assert.deepEqual(others, wanted);
     assert.ok(expected.length > 0);
     assert.equal(fault(report, readSchema("report")), undefined);
-    await assert.rejects(modinfo[command](document), { name: "ModinfoFault", fault: wanted.fault });
+    const call = command === "analyze --source"
+      ? modinfo.moduleInfo(document.source, document.specifier) : modinfo[command](document);
+    await assert.rejects(call, { name: "ModinfoFault", fault: wanted.fault });
   }
   const { enum: names } = readSchema("report").$defs.documentFault;
   assert.deepEqual([...new Set(reports.map((report) => report.fault))].sort(), [...names].sort());
@@ -258,29 +264,19 @@ test("the checks of each command have a process of their own", async () => {
 });
 
 test("what is no document or no command", async () => {
-  const modinfo = new Modinfo({ program: STAND_IN });
+  const modinfo = new Modinfo({ program: MODINFO });
   for (const command of ["", "check", "Analyze", "toString", null, 1]) {
-    const message = `command must be one of analyze, analyze --estree, convert, reach, and is ${command}`;
+    const message = `command must be one of analyze, analyze --estree, analyze --source, convert, reach, and is ${command}`;
     await assert.rejects(modinfo.check("{}", unchecked({ command })), { name: "TypeError", message });
   }
   await assert.rejects(modinfo.check(unchecked(undefined)), { name: "TypeError", message: /^a document is an object, or its JSON, and is / });
   await modinfo.close();
 });
 
-test("a program that knows no checks", async () => {
-  const modinfo = new Modinfo({ program: STAND_IN });
-  await assert.rejects(modinfo.check("{}"), (error) => {
-    assert.ok(error instanceof ProgramEnd);
-    assert.match(error.message, / ended with status 2: modinfo: usage: /);
-    return true;
-  });
-  await modinfo.close();
-});
-
 test("out of memory", async () => {
   const folder = folderOf({ modinfo: `#!/bin/sh\nread line\necho '{"fault":"OutOfMemory"}'\nread line\necho '{"valid":true}'` });
   chmodSync(join(folder, "modinfo"), 0o755);
-  const modinfo = new Modinfo({ program: join(folder, "modinfo") });
+  const modinfo = new Modinfo({ program: join(folder, "modinfo"), jobs: 1 });
   const [refused, valid] = await settled([modinfo.check("1"), modinfo.check("2")]);
   assert.ok(refused.reason instanceof ModinfoFault);
   assert.equal(refused.reason.fault, "OutOfMemory");

@@ -3,10 +3,9 @@
 import assert from "node:assert/strict";
 import { test } from "node:test";
 
-import { SourceFault, estreeDocument, toDocument } from "../src/parsers/estree/index.mjs";
-import { loadParser } from "../src/parsers/installed_parsers.mjs";
-import { answerTo, directDocumentOf, documentOf } from "./documents.mjs";
-import { unchecked } from "./unchecked.mjs";
+import { estreeDocument } from "../src/index.mjs";
+import { treeAnswer } from "./documents.mjs";
+import { loadParser } from "./equipment/installed_parsers.mjs";
 
 const acorn = loadParser("acorn");
 
@@ -30,15 +29,13 @@ function maker(source) {
 }
 
 /**
- * The answer to a tree whose body is these nodes, which is the same by the direct reading.
+ * The answer to a tree whose body is these nodes.
  * @param {string} source
  * @param {Node[]} body
  */
 function answerToTree(source, body, mediaType = "TypeScript") {
   const tree = { type: "Program", range: [0, source.length], body, comments: [] };
-  const answer = answerTo(documentOf(toDocument, source, mediaType, { tree }));
-  assert.deepEqual(answerTo(directDocumentOf(source, mediaType, { tree })), answer);
-  return answer;
+  return treeAnswer(source, mediaType, { tree });
 }
 
 /**
@@ -48,16 +45,6 @@ function answerToTree(source, body, mediaType = "TypeScript") {
 function dependencies(source, body) {
   return answerToTree(source, body).dependencies.map(({ type, specifierRange, argumentRange, ...others }) => others);
 }
-
-test("acorn's own tree, without nodes for parentheses", () => {
-  const source = `#!/a\n/* b */ import((("c")) + d); require(( // e \n"f")); (require)("g"); require("h", ({}));`;
-  /** @type {unknown[]} */
-  const comments = [];
-  const tree = acorn.parse(source, { ecmaVersion: "latest", sourceType: "module", onComment: comments, allowHashBang: true });
-  const document = documentOf(toDocument, source, "JavaScript", { tree, comments });
-  assert.deepEqual(answerTo(document), answerTo(documentOf(toDocument, source, "JavaScript")));
-  assert.deepEqual(document.leading.length, 1);
-});
 
 test("typescript-estree's imports and exports", () => {
   const source = `import type a from "a"; import b = require("b"); export import c = require("c"); export type * from "d"; export = e;`;
@@ -180,96 +167,63 @@ test("Babel's keys that are numbers are no strings", () => {
   ]);
 });
 
-test("links to parents, tokens and comments are no children", () => {
-  const source = `import("a") // b`;
-  /** @type {unknown[]} */
-  const comments = [];
-  /** @type {unknown[]} */
-  const tokens = [];
-  const tree = acorn.parse(source, { ecmaVersion: "latest", onComment: comments, onToken: tokens });
-  tree.body[0].parent = tree;
-  tree.body[0].expression.parent = tree.body[0];
-  const plain = documentOf(toDocument, source, "JavaScript");
-  assert.deepEqual(documentOf(toDocument, source, "JavaScript", { tree: Object.assign(tree, { comments, tokens }) }), plain);
-  assert.throws(() => toDocument(source, { specifier: "file:///a.js", mediaType: "JavaScript", tree: { ...tree, comments: undefined } }), TypeError);
-});
-
-test("a tree or a comment without its place is refused", () => {
-  const tree = { type: "Program", start: 0, end: 0, body: [], comments: [] };
-  /** @param {object} more */
-  const refuse = (more) => assert.throws(
-    () => toDocument("", { specifier: "file:///a.js", tree: { ...tree, ...more } }),
-    { name: "TypeError", message: "a tree and its comments must have start and end, or range" },
-  );
-  toDocument("", { specifier: "file:///a.js", tree });
-  refuse({ end: undefined });
-  refuse({ start: null });
-  refuse({ comments: [{ type: "Line", value: "a" }] });
-});
-
 /**
- * The value of the JSON that `estreeDocument` makes.
+ * The value of the JSON that is sent for a tree.
  * @param {string} text
- * @param {object} options
+ * @param {any} tree
+ * @param {object} [options]
  */
-function estreeValue(text, options) {
-  return JSON.parse(estreeDocument(text, unchecked({ specifier: "file:///a.js", ...options })));
+function sent(text, tree, options) {
+  return JSON.parse(estreeDocument(tree, text, new URL("file:///a.js"), "JavaScript", options));
 }
 
-test("the document with a tree has what JSON can hold and the program reads", () => {
-  const source = `a = [1n, "\\ud800", \`b\`, , /c/] // d`;
-  const options = { ecmaVersion: "latest", locations: true, ranges: true, onComment: [], onToken: [] };
-  const tree = acorn.parse(source, options);
-  const { expression } = tree.body[0];
-  Object.assign(expression, { parent: tree, loc: tree.loc, extra: { parent: tree }, leadingComments: options.onComment });
-  /** @type {(type: string, start: number, end: number, members?: object) => object} */
-  const node = (type, start, end, members) => ({ type, start, end, range: [start, end], ...members });
-  const elements = [
-    node("Literal", 5, 7, { value: null, bigint: "1" }),
-    node("Literal", 9, 17, { value: [0xd800] }),
-    node("TemplateLiteral", 19, 22, {
-      expressions: [], quasis: [node("TemplateElement", 20, 21, { value: { cooked: "b" }, tail: true })],
-    }),
-    null,
-    node("Literal", 26, 29, { value: {} }),
-  ];
-  const [left, right] = [node("Identifier", 0, 1, { name: "a" }), node("ArrayExpression", 4, 30, { elements })];
-  const assignment = node("AssignmentExpression", 0, 30, { operator: "=", left, right });
-  assert.deepEqual(estreeValue(source, { tree, comments: options.onComment }), {
-    specifier: "file:///a.js",
-    mediaType: "JavaScript",
-    source,
-    comments: [{ start: 31, end: 35 }],
-    program: node("Program", 0, 35, {
-      body: [node("ExpressionStatement", 0, 30, { expression: assignment })], sourceType: "script",
-    }),
+test("of a tree as much is sent as the rules read", () => {
+  const text = `f(1n, /a/, () => [await_, require("\\ud800")]); // b`;
+  /** @type {any[]} */
+  const comments = [];
+  const tree = acorn.parse(text, { ecmaVersion: "latest", locations: true, ranges: true, onComment: comments });
+  Object.assign(tree.body[0].expression, { parent: tree });
+  const [start, end] = [text.indexOf("require"), text.indexOf("]")];
+  const literal = { type: "Literal", start: start + 8, end: end - 1, value: [0xd800] };
+  const callee = { type: "Identifier", start, end: start + 7, name: "require" };
+  const call = { type: "CallExpression", start, end, callee, arguments: [literal], optional: false };
+  const statement = { type: "Other", start: 0, end: end + 3, decorators: [], body: [call] };
+  assert.deepEqual(sent(text, tree, { comments }), {
+    specifier: "file:///a.js", mediaType: "JavaScript", source: text,
+    comments: [{ start: text.indexOf("//"), end: text.length }],
+    program: { type: "Program", start: 0, end: text.length, body: [statement] },
   });
 });
 
-test("the document with a tree has the program of a file, and its comments or those that are handed in", () => {
+test("the tree may be a file, its comments are those that are handed in or that it has", () => {
   const program = { type: "Program", start: 0, end: 4, body: [], comments: [{ type: "Line", range: [0, 2] }] };
   const file = { type: "File", program, comments: [{ type: "Block", start: 0, end: 4 }] };
-  /** @param {object} options */
-  const commentsIn = (options) => estreeValue("/**/", options).comments;
-  assert.deepEqual(commentsIn({ tree: file }), [{ start: 0, end: 4 }]);
-  assert.deepEqual(commentsIn({ tree: program }), [{ start: 0, end: 2 }]);
-  assert.deepEqual(commentsIn({ tree: file, comments: [] }), []);
-  assert.deepEqual(estreeValue("/**/", { tree: file }).program, { type: "Program", start: 0, end: 4, body: [] });
+  assert.deepEqual(sent("/**/", file).comments, [{ start: 0, end: 4 }]);
+  assert.deepEqual(sent("/**/", program).comments, [{ start: 0, end: 2 }]);
+  assert.deepEqual(sent("/**/", file, { comments: [] }).comments, []);
+  assert.deepEqual(sent("/**/", file).program, { type: "Program", start: 0, end: 4, body: [] });
+  assert.deepEqual(sent("", program, { offsets: "utf8" }).offsets, "utf8");
+  const without = { ...program, comments: undefined };
+  assert.throws(() => sent("", without), { name: "TypeError", message: /^a tree needs its comments/ });
 });
 
-test("what is no tree, or no text that a document can hold, makes no document", () => {
-  const tree = { type: "Program", start: 0, end: 0, body: [], comments: [] };
-  /** @param {object} options */
-  const refuse = (options, message = /./) => assert.throws(() => estreeValue("", options), { name: "TypeError", message });
-  refuse({}, /^tree must be /);
-  refuse({ tree: { ...tree, comments: undefined } }, /^a tree needs its comments/);
-  refuse({ tree: { ...tree, start: undefined } }, /must have start and end/);
-  refuse({ tree, comments: [{ type: "Line" }] }, /must have start and end/);
-  refuse({ tree, specifier: "./a.js" }, /^specifier must be /);
-  refuse({ tree, mediaType: "js" }, /^mediaType must be /);
-  /** @type {Record<string, unknown>} */
-  const circle = { ...tree };
-  circle.above = circle;
-  refuse({ tree: circle }, /circular/);
-  assert.throws(() => estreeDocument("\ud800", { specifier: "file:///a.js", tree }), SourceFault);
+test("an await of a function isn't sent, one outside of it is", () => {
+  /** @param {string} text */
+  const isScript = (text) => {
+    const tree = acorn.parse(text, { ecmaVersion: "latest", sourceType: "module" });
+    return treeAnswer(text, "JavaScript", { tree, comments: [] }).script ?? false;
+  };
+  for (const text of ["async () => await a;", "class A { async [b]() { for await (c of await d); } }", "async function a(b = async () => await c) {}"]) {
+    assert.equal(isScript(text), true, text);
+  }
+  for (const text of ["await a;", "for await (a of b) { (() => {})(); }", "class A { async [await b]() {} }", "f(() => 1, (await b)());"]) {
+    assert.equal(isScript(text), false, text);
+  }
+});
+
+test("what a rule reads isn't lost in a tree that is deeper than JSON may be", () => {
+  const text = `${"f(() => { ".repeat(200)}import("a");${" });".repeat(200)}`;
+  const tree = acorn.parse(text, { ecmaVersion: "latest" });
+  const { dependencies: [found] } = treeAnswer(text, "JavaScript", { tree, comments: [] });
+  assert.deepEqual(found.argument, "a");
 });

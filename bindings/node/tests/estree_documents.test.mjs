@@ -9,11 +9,11 @@ import { join } from "node:path";
 import { test } from "node:test";
 import { fileURLToPath } from "node:url";
 
-import { mediaTypeOf } from "../src/document/media_types.mjs";
-import { Modinfo } from "../src/index.mjs";
-import { estreeDocument } from "../src/parsers/estree/index.mjs";
-import { Service } from "../src/runtime/service.mjs";
-import { directDocumentOf } from "./documents.mjs";
+import { Modinfo, estreeDocument } from "../src/index.mjs";
+import { documentCommand, lineOf } from "../src/runtime/commands.mjs";
+import { Pool } from "../src/runtime/pool.mjs";
+import { mediaTypeOf } from "./equipment/document/media_types.mjs";
+import { readEstree } from "./estree_reading.mjs";
 import { PARSERS, parsed } from "./estree_parsers.mjs";
 import { DIFFERENCES, TEXTS } from "./estree_texts.mjs";
 import { settled } from "./promises.mjs";
@@ -23,11 +23,11 @@ import { unchecked } from "./unchecked.mjs";
 /**
  * @typedef {[mediaType: string, texts: string[]]} Texts
  * @typedef {import("../src/index.mjs").Report} Report
- * @typedef {import("../src/runtime/service.mjs").Words} Words
+ * @typedef {import("../src/runtime/commands.mjs").CommandName} CommandName
  */
 
 const notBuilt = !existsSync(MODINFO) && "build/modinfo isn't made";
-const ADAPTER = fileURLToPath(new URL("../src/parsers/estree", import.meta.url));
+const ADAPTER = fileURLToPath(new URL("equipment/estree", import.meta.url));
 
 /** Texts of the tests of the adapter, which differs from the direct reading at some of them, and its own sources. */
 const ALL_TEXTS = [
@@ -39,15 +39,36 @@ const ALL_TEXTS = [
 
 /**
  * What the program answers to some documents: JSON, or the name of a fault.
- * @param {Words} words
+ * @param {CommandName} command
  * @param {string[]} documents
  * @returns {Promise<string[]>}
  */
-async function answers(words, documents) {
-  const service = new Service(MODINFO, words);
-  const found = await settled(documents.map((each) => service.answer(each)));
-  await service.close();
+async function answers(command, documents) {
+  const pool = new Pool(documentCommand(MODINFO, command), 2);
+  const found = await settled(documents.map((each) => pool.run(lineOf(each))));
+  await pool.close();
   return found.map(({ value, reason }) => (reason ? reason.fault ?? String(reason) : String(value)));
+}
+
+/**
+ * A tree with all that JSON can hold of it.
+ * @param {string} text
+ * @param {string} mediaType
+ * @param {import("./estree_parsers.mjs").Parsed} parsed
+ * @param {(value: string) => unknown} stringOf what is written for a string
+ * @returns {string} JSON
+ */
+function wholeDocument(text, mediaType, { tree, comments }, stringOf) {
+  const document = { specifier: "file:///module", mediaType, source: text, program: tree, comments };
+  return JSON.stringify(document, (_, value) => {
+    const written = typeof value === "string" ? stringOf(value) : value;
+    return typeof value === "bigint" ? null : written;
+  });
+}
+
+/** @param {string} value */
+function unitsOf(value) {
+  return /\p{Surrogate}/u.test(value) ? Array.from({ length: value.length }, (_, at) => value.charCodeAt(at)) : value;
 }
 
 for (const parser of PARSERS) {
@@ -56,13 +77,17 @@ for (const parser of PARSERS) {
       const input = parsed(parser, text, mediaType);
       return input ? [{ text, mediaType, input }] : [];
     }));
-    const documents = read.map(({ text, mediaType, input }) =>
-      estreeDocument(text, { specifier: "file:///module", mediaType: unchecked(mediaType), ...input }));
-    const direct = read.map(({ text, mediaType, input }) => JSON.stringify(directDocumentOf(text, mediaType, input)));
-    const found = await answers("analyze --estree", documents);
+    const sent = read.map(({ text, mediaType, input: { tree, comments } }) =>
+      estreeDocument(tree, text, "file:///module", unchecked(mediaType), { comments }));
+    const whole = read.map(({ text, mediaType, input }) => wholeDocument(text, mediaType, input, unitsOf));
+    const direct = read.map(({ text, mediaType, input }) =>
+      JSON.stringify(readEstree(JSON.parse(wholeDocument(text, mediaType, input, (value) => value)))));
+    const found = await answers("analyze --estree", sent);
+    const wholly = await answers("analyze --estree", whole);
     const expected = await answers("analyze", direct);
     assert.ok(found.length > 0);
-    const differing = read.map(({ text }, at) => [text, found[at], expected[at]]).filter(([, one, other]) => one !== other);
+    const differing = read.map(({ text }, at) => [text, found[at], wholly[at], expected[at]])
+      .filter(([, ...all]) => new Set(all).size > 1);
     assert.deepEqual(differing, []);
   });
 }
@@ -124,7 +149,7 @@ const FAULTS = [
   ["no program", withMembers({ program: undefined }), { fault: "Tree", pointer: "" }],
   ["a program without a body", withMembers({ program: { type: "Program" } }), { fault: "Tree", pointer: "/program" }],
   ["a file without a program", withMembers({ program: { type: "File" } }), { fault: "Tree", pointer: "/program" }],
-  ["a statement that is no object", withMembers({ program: { body: [null] } }), { fault: "Tree", pointer: "/program/body/0" }],
+  ["a statement that is no object", withMembers({ program: { type: "Program", body: [null] } }), { fault: "Tree", pointer: "/program/body/0" }],
   ["another unit", withMembers({ offsets: "bytes" }), { fault: "Tree", pointer: "/offsets" }],
   ["the wrong unit", withMembers({ offsets: "utf8" }), { fault: "RangeOffBoundary", range: [0, 4] }],
   ["a path", withMembers({ specifier: "./a.js" }), { fault: "Specifier", pointer: "/specifier" }],
@@ -134,10 +159,12 @@ const FAULTS = [
   ["a comment after the end", withComments([7, 12]), { fault: "RangeOutside" }],
   ["a comment far after the end", withComments([2 ** 40, 2 ** 41]), { fault: "RangeOutside" }],
   ["a comment backwards", withComments([11, 7]), { fault: "RangeReversed" }],
-  ["comments that overlap", withMembers({ source: "//a/**/", comments: [{ range: [0, 7] }, { range: [3, 7] }], program: { body: [] } }),
+  ["comments that overlap", withMembers({ source: "//a/**/", comments: [{ range: [0, 7] }, { range: [3, 7] }], program: { type: "Program", body: [] } }),
     { fault: "CommentsOverlap" }],
-  ["a comment that doesn't end", withMembers({ source: "/* a", comments: [{ range: [0, 4] }], program: { body: [] } }),
+  ["a comment that doesn't end", withMembers({ source: "/* a", comments: [{ range: [0, 4] }], program: { type: "Program", body: [] } }),
     { fault: "CommentText" }],
+  ["a comment that the text doesn't have", withComments([5, 6]), { fault: "CommentText", range: [7, 8] }],
+  ["a number as the type of a statement", withStatement({ type: 1 }), { fault: "Tree", pointer: "/program/body/0/type" }],
   ["a node without a start", withStatement({ start: undefined }), { fault: "Tree", pointer: "/program/body/0" }],
   ["a negative start", withStatement({ start: -1 }), { fault: "Tree", pointer: "/program/body/0/start" }],
   ["half a unit", withStatement({ start: 0.5 }), { fault: "Tree", pointer: "/program/body/0/start" }],
@@ -164,8 +191,6 @@ const ACCEPTED = [
   ["comments that are null", withMembers({ comments: null })],
   ["no comments", withMembers({ comments: undefined })],
   ["a comment twice", withComments([7, 11], [7, 11])],
-  ["a comment that the text doesn't have", withComments([5, 6])],
-  ["a number as the type of a statement", withStatement({ type: 1 })],
   ["a number as the type of an expression", withStatement({ expression: { type: 1 } })],
 ];
 
@@ -174,15 +199,18 @@ test("documents with a fault", { skip: notBuilt }, async () => {
   for (const [name, document, expected] of FAULTS) {
     const report = await modinfo.check(document, { command: "analyze --estree" });
     assert.deepEqual({ ...report, ...expected }, report, name);
-    await assert.rejects(modinfo.analyzeEstree(document), { name: "ModinfoFault", fault: expected.fault }, name);
   }
   await modinfo.close();
+  const faults = await answers("analyze --estree", FAULTS.map(([, document]) => document));
+  assert.deepEqual(faults, FAULTS.map(([, , { fault }]) => fault));
 });
 
 test("a fault of the source has its bytes in the message", { skip: notBuilt }, async () => {
   const modinfo = new Modinfo({ program: MODINFO });
   const message = "RangeReversed at bytes 7 to 6 of the source: expected a start of at most the end";
-  await assert.rejects(modinfo.analyzeEstree(withStatement({ start: 5, end: 4 }), { report: true }), { message });
+  const { source, program, comments } = JSON.parse(withStatement({ start: 5, end: 4 }));
+  const call = modinfo.analyzeEstree(program, source, "file:///a.js", "JavaScript", { comments, report: true });
+  await assert.rejects(call, { message });
   await modinfo.close();
 });
 
@@ -190,7 +218,8 @@ test("documents without a fault", { skip: notBuilt }, async () => {
   const modinfo = new Modinfo({ program: MODINFO });
   for (const [name, document] of ACCEPTED) {
     assert.deepEqual(await modinfo.check(document, { command: "analyze --estree" }), { valid: true }, name);
-    assert.deepEqual(await modinfo.analyzeEstree(document), { script: true }, name);
   }
   await modinfo.close();
+  const found = await answers("analyze --estree", ACCEPTED.map(([, document]) => document));
+  assert.deepEqual(found, Array(ACCEPTED.length).fill('{"script":true}'));
 });

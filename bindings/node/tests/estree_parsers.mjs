@@ -1,8 +1,8 @@
 /** The parsers whose trees the tests of ESTree read. */
 
-import { Source, SourceFault } from "../src/document/source.mjs";
-import { parseWithAcorn } from "../src/parsers/estree/acorn.mjs";
-import { loadParser } from "../src/parsers/installed_parsers.mjs";
+import { Source, SourceFault } from "./equipment/document/source.mjs";
+import { parseWithAcorn } from "./equipment/estree/acorn.mjs";
+import { loadParser } from "./equipment/installed_parsers.mjs";
 
 /**
  * @typedef {{ tree: any, comments: any[] }} Parsed

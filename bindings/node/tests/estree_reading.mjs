@@ -1,6 +1,6 @@
 /**
  * Makes the module document of a parser's tree, as plainly as can be: a second adapter, for tests alone, that shares
- * nothing with the one in src/parsers/estree.
+ * nothing with the one in tests/equipment/estree.
  *
  * Every node becomes one node of the document, except a method of Babel, which becomes two, and an expression in
  * parentheses, which is inside an `Other`. Nothing is left out, so that the document may be too deep for the program.
@@ -383,17 +383,17 @@ class Reading {
   // Calls
 
   /**
-   * A call of `require`, or of Babel's `Import`; any other is an `Other`.
+   * A call, with its callee, its arguments, and then all other nodes; an optional call is an `Other`.
    * @param {Value} node
    */
   call(node) {
     const { callee, optional, arguments: given } = node;
-    const isRequire = callee.type === "Identifier" && callee.name === "require" && start(callee) === start(node);
-    if (optional || given.length === 0 || !(isRequire || callee.type === "Import")) {
+    if (optional) {
       return this.other(node);
     }
-    return this.made("Call", node, { callee: isRequire ? "expr" : "import", args: this.args(node, given) }, [
-      ...(isRequire ? [this.node(callee)] : []),
+    const isImport = callee.type === "Import";
+    return this.made("Call", node, { callee: isImport ? "import" : "expr", args: this.args(node, given) }, [
+      ...(isImport ? [] : this.argumentNodes(node, [callee])),
       ...this.argumentNodes(node, given),
       ...this.children(node, [callee, ...given]),
     ]);

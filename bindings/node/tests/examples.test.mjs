@@ -1,18 +1,15 @@
-/** The examples: their sources have the answers that are beside them, through each adapter. */
+/** The examples: the answers that are beside them. */
 
 import assert from "node:assert/strict";
 import { spawnSync } from "node:child_process";
 import { existsSync, readdirSync, readFileSync } from "node:fs";
 import { test } from "node:test";
 
-import { ADAPTERS, answerTo, documentOf } from "./documents.mjs";
 import { MODINFO } from "./run_commands.mjs";
 import { fault, readSchema } from "./schema.mjs";
 
 const FOLDER = new URL("../../../examples/", import.meta.url);
 /** @typedef {import("./any_kind.mjs").AnyDocument} AnyDocument */
-
-const JAVASCRIPT = ["JavaScript", "Jsx", "Mjs", "Cjs"];
 
 const names = readdirSync(FOLDER)
   .filter((name) => name.endsWith(".out.json"))
@@ -24,11 +21,12 @@ function read(name) {
 }
 
 /**
- * The answer of the program itself, where it is built.
+ * What the program prints.
+ * @param {string[]} words
  * @param {object} document
  */
-function modinfo(document) {
-  const { stdout, stderr, status } = spawnSync(MODINFO, ["analyze"], { input: JSON.stringify(document) });
+function modinfo(words, document) {
+  const { stdout, stderr, status } = spawnSync(MODINFO, words, { input: JSON.stringify(document) });
   assert.equal(status, 0, String(stderr));
   return JSON.parse(String(stdout));
 }
@@ -42,19 +40,11 @@ for (const name of names) {
     assert.equal(fault(expected, readSchema("module-info")), undefined);
   });
 
-  for (const [adapter, toDocument] of ADAPTERS) {
-    if (adapter === "estree" && !JAVASCRIPT.includes(document.mediaType)) {
-      continue;
-    }
+  test(`${name}: the program finds it in the document, and in the text`, { skip: !existsSync(MODINFO) && "build/modinfo isn't made" }, () => {
     const { source, specifier, mediaType } = document;
-    test(`${name} by ${adapter}`, () => {
-      const { jsdocImports, ...others } = expected;
-      assert.deepEqual(answerTo(documentOf(toDocument, source, mediaType, { specifier })), others);
-    });
-    test(`${name} by ${adapter}, through modinfo`, { skip: !existsSync(MODINFO) && "build/modinfo isn't made" }, () => {
-      assert.deepEqual(modinfo(toDocument(source, { specifier, mediaType })), expected);
-    });
-  }
+    assert.deepEqual(modinfo(["analyze"], document), expected);
+    assert.deepEqual(modinfo(["analyze", "--source"], { source, specifier, mediaType }), expected);
+  });
 }
 
 test("the schemas refuse what has neither format", () => {

@@ -15,7 +15,7 @@ const documents = [...section.matchAll(/^- `(\w+)`, `(\w+)`\n\n {6}(.*)\n {6}(.*
 const named = [...section.matchAll(/^\| `(\w+)` \| [^|]* \|$/gm)].map(([, fault]) => fault);
 
 test("each fault that a document can have has one", () => {
-  const others = ["Input", "Output"];
+  const others = ["Input", "Output", "Syntax"];
   assert.deepEqual(
     new Set(documents.map(([, , fault]) => fault)), new Set(named.filter((fault) => !others.includes(fault))),
   );

@@ -1,17 +1,16 @@
 /** From files and folders to answers, as a user would. */
 
 import assert from "node:assert/strict";
-import { spawn, spawnSync } from "node:child_process";
+import { spawn } from "node:child_process";
 import { once } from "node:events";
-import { chmodSync, existsSync, truncateSync, writeFileSync } from "node:fs";
+import { chmodSync, truncateSync, writeFileSync } from "node:fs";
 import { join } from "node:path";
 import { createInterface } from "node:readline";
 import { test } from "node:test";
 import { pathToFileURL } from "node:url";
 
 import { readJobs } from "../src/cli/common/command_line.mjs";
-import { decode } from "../src/files/document_of_file.mjs";
-import { MODINFO, STAND_IN, folderOf, linesOf, programOf, run, shell, urlOf } from "./run_commands.mjs";
+import { MODINFO, folderOf, linesOf, programOf, run, shell, urlOf } from "./run_commands.mjs";
 import { fault, readSchema } from "./schema.mjs";
 
 const NAME = "modinfo-files";
@@ -60,7 +59,7 @@ function answers(words, cwd, { stderr = "", status = 0, ...options } = {}) {
 }
 
 /** @param {string} path */
-const wrongLine = (path) => `${NAME}: ${path}:2:9: Expression expected.\n  | let b = ;\n  |         ^\n`;
+const wrongLine = (path) => `${NAME}: ${path}:2:9: expected an expression\n  | let b = ;\n  |         ^\n`;
 
 test("each file's answer, in the order of the files, a fault among them", () => {
   const folder = project();
@@ -72,7 +71,7 @@ test("each file's answer, in the order of the files, a fault among them", () => 
   );
   assert.deepEqual(found[5], {
     specifier: urlOf(folder, "src/wrong.ts"),
-    fault: "Syntax", message: "Expression expected.", line: 2, column: 9,
+    fault: "Syntax", message: "expected an expression", line: 2, column: 9,
   });
   assert.deepEqual(dependenciesOf(found[3])?.map((each) => each.specifier ?? each.argument), [
     "./b.ts", "./c.js", undefined,
@@ -81,7 +80,7 @@ test("each file's answer, in the order of the files, a fault among them", () => 
   assert.deepEqual(found.slice(0, 5).map(({ info }) => fault(info, schema)), Array(5).fill(undefined));
 });
 
-test("the output is the same for any number of threads", () => {
+test("the output is the same for any number of processes", () => {
   const files = Array.from({ length: 300 }, (_, at) => [
     `${String(at).padStart(3, "0")}.js`, `import "./${at}.js";\n${"a;\n".repeat((at * 37) % 500)}`,
   ]);
@@ -103,25 +102,23 @@ test("where there is nothing to read, that is reported", () => {
   assert.deepEqual([none.fault, none.message], ["Input", "no such file or folder"]);
 });
 
-test("there are at most as many threads as processors", () => {
+test("there are at most as many processes as processors", () => {
   assert.equal(readJobs("9999"), readJobs(undefined));
   assert.equal(readJobs("1"), 1);
 });
 
 test("what has no answer is a fault, and the others go on", () => {
   const folder = folderOf({
-    "bytes.js": Buffer.of(0xff), "text.txt": "", "good.js": "", "deep.js": "(".repeat(100_000),
-    "large.js": "",
+    "bytes.js": Buffer.of(0xff), "text.txt": "", "good.js": "", "large.js": "",
   });
   truncateSync(join(folder, "large.js"), 2 ** 31);
-  const files = ["none.js", "bytes.js", "text.txt", "deep.js", "large.js", "good.js"];
+  const files = ["none.js", "bytes.js", "text.txt", "large.js", "good.js"];
   /** @type {Record<string, [fault: string, message: string]>} */
   const messages = {
     "none.js": ["Input", "no such file or folder"],
-    "bytes.js": ["Input", "the file is not UTF-8"],
+    "bytes.js": ["Input", "the file isn't UTF-8"],
     "text.txt": ["MediaType", "files with this ending are not read"],
-    "deep.js": ["Depth", "the text nests too deep for the parser"],
-    "large.js": ["Input", "the file has more than 67108864 bytes (--max-bytes allows more)"],
+    "large.js": ["Input", "larger than 64 MiB"],
   };
   const reported = Object.entries(messages).map(([file, [, text]]) => `${NAME}: ${file}: ${text}\n`);
   const found = answers(files, folder, { stderr: reported.join(""), status: 1 });
@@ -134,20 +131,6 @@ test("what has no answer is a fault, and the others go on", () => {
     return { specifier, fault: name, message };
   });
   assert.deepEqual(found, expected);
-});
-
-test("bytes that are too many for a text aren't reported as no UTF-8", () => {
-  /** @param {string} message */
-  const refused = (message) => ({ name: "FileFault", fault: "Input", message });
-  assert.throws(() => decode(Buffer.of(0xff)), refused("the file is not UTF-8"));
-  assert.throws(() => decode(new Uint8Array(2 ** 29)), refused("the file is longer than a text can be"));
-});
-
-test("warnings are reported, and the file has its answer", () => {
-  const folder = folderOf({ "a.js": `require("a" +${" b +".repeat(60)} require("c"));\n` });
-  const warning = "warning: a sum of more than 59 operands is left as unknown";
-  const [{ info }] = answers(["a.js"], folder, { stderr: `${NAME}: a.js:1:9: ${warning}\n` });
-  assert.deepEqual(dependenciesOf({ info })?.map(({ argument }) => argument), ["c", undefined]);
 });
 
 test("paths come from the standard input", () => {
@@ -167,7 +150,7 @@ test("paths come from the standard input", () => {
 
 test("a partner that waits for each answer gets it", async (t) => {
   const folder = folderOf({ "a.js": "", "b.js": "" });
-  const env = { ...process.env, MODINFO: STAND_IN };
+  const env = { ...process.env, MODINFO };
   const child = spawn(process.execPath, [programOf("files.mjs"), "-"], { cwd: folder, env });
   t.after(() => child.kill());
   const lines = createInterface({ input: child.stdout })[Symbol.asyncIterator]();
@@ -235,7 +218,7 @@ test("--help and --version", () => {
   assert.deepEqual(run("files.mjs", ["-h"]), help);
   const { stdout, status } = run("files.mjs", ["--version"]);
   assert.equal(status, 0);
-  assert.match(stdout, /^modinfo-files \d+\.\d+\.\d+, typescript \d+\.\d+\.\d+\n$/);
+  assert.match(stdout, /^modinfo-files \d+\.\d+\.\d+\n$/);
 });
 
 test("a full disk is an error, a reader that ends isn't", () => {
@@ -249,29 +232,29 @@ test("a full disk is an error, a reader that ends isn't", () => {
   }
 });
 
-test("a program that doesn't answer lines is named", () => {
+test("a program that doesn't read files is named", () => {
   const folder = folderOf({ "a.js": "", old: "#!/bin/sh\necho usage >&2\nexit 2\n" });
   const old = join(folder, "old");
   chmodSync(old, 0o755);
   const hint = "(./modinfo --prove makes it in the repository, MODINFO names another)";
   for (const [modinfo, message] of [
-    [old, `usage\n${NAME}: ${old} doesn't run with analyze --lines: status 2 ${hint}\n`],
-    ["/none", `${NAME}: /none doesn't run with analyze --lines: spawn /none ENOENT ${hint}\n`],
+    [old, `usage\n${NAME}: ${old} doesn't run with files --null: status 2 ${hint}\n`],
+    ["/none", `${NAME}: /none doesn't run with files --null: spawn /none ENOENT ${hint}\n`],
     // This error of node's is thrown, those above come later.
-    [`${old}/x`, `${NAME}: ${old}/x doesn't run with analyze --lines: spawn ENOTDIR ${hint}\n`],
+    [`${old}/x`, `${NAME}: ${old}/x doesn't run with files --null: spawn ENOTDIR ${hint}\n`],
   ]) {
     const result = run("files.mjs", ["a.js"], { cwd: folder, modinfo });
     assert.deepEqual(result, { stdout: "", stderr: message, status: 1 });
   }
 });
 
-test("where modinfo ends over a document, that file alone has no answer", () => {
-  const folder = folderOf({ "a.js": "", "b.js": "kill", "c.js": "" });
+test("where modinfo ends over a file, that file alone has no answer", () => {
+  const folder = folderOf({ "a.js": "", "b.js": "", "c.js": "" });
   const modinfo = join(folder, "modinfo");
-  writeFileSync(modinfo, `#!/bin/sh
-while read -r line; do
-  case $line in *'"kill"'*) exit 3 ;; esac
-  echo '{"answer":{}}'
+  writeFileSync(modinfo, `#!/bin/bash
+while IFS= read -r -d '' path; do
+  case $path in *b.js) exit 3 ;; esac
+  echo '{"specifier":"file:///a","info":{}}'
 done
 `);
   chmodSync(modinfo, 0o755);
@@ -280,40 +263,3 @@ done
   });
   assert.deepEqual(found.map(({ info, fault: name }) => info ?? name), [{}, "Program", {}]);
 });
-
-/** Whether the program is built, and has `--lines`. */
-function hasLines() {
-  return existsSync(MODINFO) && spawnSync(MODINFO, ["analyze", "--lines"]).status === 0;
-}
-
-test("through modinfo itself", { skip: !hasLines() && "build/modinfo isn't made, or has no --lines" }, () => {
-  const folder = folderOf({ ...PROJECT, "src/b.ts": `import "../lib/d.js";\n` });
-  /**
-   * @param {string} modinfo
-   * @param {string[]} words
-   */
-  const answersBy = (modinfo, words) => run("files.mjs", words, { cwd: folder, modinfo });
-  const own = answersBy(MODINFO, ["."]);
-  const withoutJsdoc = linesOf(own.stdout).map(({ info, ...others }) => {
-    const { jsdocImports, ...rest } = info ?? {};
-    return { ...others, ...(info && { info: rest }) };
-  });
-  assert.deepEqual(withoutJsdoc, linesOf(answersBy(STAND_IN, ["."]).stdout));
-  const [{ info }] = linesOf(answersBy(MODINFO, ["src/c.js"]).stdout);
-  assert.deepEqual(info.jsdocImports.map((/** @type {JsDocImportInfo} */ each) => each.text), ["./only_types.ts"]);
-  for (const words of [["--resolve", "lib"], ["--entry", "src/main.ts", "."]]) {
-    const { stdout, status } = answersBy(STAND_IN, words);
-    assert.deepEqual(
-      [answersBy(MODINFO, words).status, normal(answersBy(MODINFO, words).stdout)],
-      [status, normal(stdout)],
-    );
-  }
-});
-
-/**
- * Lines of JSON whatever the order of their members, other lines as they are.
- * @param {string} text
- */
-function normal(text) {
-  return text.startsWith("{") ? linesOf(text) : text;
-}

@@ -10,15 +10,13 @@ import { findFiles, readPaths } from "../src/files/find_files.mjs";
 import { all } from "./promises.mjs";
 import { folderOf } from "./run_commands.mjs";
 
-const MEDIA_TYPES = ["JavaScript", "TypeScript", "Dts"];
-
 /**
  * The files of a folder, by their paths in it.
  * @param {string} folder
  * @param {{ all?: boolean }} [options]
  */
 async function filesOf(folder, options = {}) {
-  const found = await all(findFiles([folder], { mediaTypes: MEDIA_TYPES, ...options }));
+  const found = await all(findFiles([folder], options));
   return found.map(({ path }) => relative(folder, path));
 }
 
@@ -28,7 +26,7 @@ test("a folder's files are those that are read, sorted by name", async () => {
     "c.json": "", "d.mjs": "", e: "", "f.js/g.js": "", "h/i.txt": "",
   });
   assert.deepEqual(await filesOf(folder), [
-    "B.js", "a-b.ts", "a.d.ts", "b/a/c.ts", "b/z.js", "b.js", "f.js/g.js", "é.js",
+    "B.js", "a-b.ts", "a.d.ts", "b/a/c.ts", "b/z.js", "b.js", "d.mjs", "f.js/g.js", "é.js",
   ]);
 });
 
@@ -57,7 +55,7 @@ test("links to files are followed, those to folders aren't", async () => {
 test("other paths are taken as they are, in their order", async () => {
   const folder = folderOf({ "a.js": "" });
   const paths = [join(folder, "none.txt"), folder, join(folder, "a.js")];
-  const [none, ...found] = await all(findFiles(paths, { mediaTypes: MEDIA_TYPES }));
+  const [none, ...found] = await all(findFiles(paths, {}));
   const file = join(folder, "a.js");
   assert.deepEqual([none.path, none.error?.message], [paths[0], "no such file or folder"]);
   assert.deepEqual(found, [{ path: file }, { path: file }]);
@@ -67,7 +65,7 @@ test("a folder that can't be read is reported, and the others are read", async (
   const folder = folderOf({ "a/c.js": "", "b.js": "" });
   chmodSync(folder, 0o755);
   chmodSync(join(folder, "a"), 0);
-  const found = await asNobody(() => all(findFiles([folder], { mediaTypes: MEDIA_TYPES })));
+  const found = await asNobody(() => all(findFiles([folder], {})));
   assert.deepEqual(found.map(({ path }) => relative(folder, path)), ["a", "b.js"]);
   assert.match(String(found[0].error), /EACCES/);
 });

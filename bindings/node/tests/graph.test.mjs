@@ -103,7 +103,7 @@ test("an entry that can't be read or parsed is an error, and nothing is listed",
   const folder = folderOf({ ...PROJECT, "wrong.js": "let = ;", "text.txt": "" });
   const errors = {
     "none.js": "none.js: no such file or folder",
-    "wrong.js": "wrong.js:1:7: Expression expected.\n  | let = ;\n  |       ^",
+    "wrong.js": "wrong.js:1:7: expected an expression\n  | let = ;\n  |       ^",
     "text.txt": "text.txt: files with this ending are not read",
   };
   for (const [entry, message] of Object.entries(errors)) {
@@ -161,6 +161,20 @@ test("--missing prints what leads to no file, and what isn't installed", () => {
     module: urlOf(folder, "a.ts"), kind: "static", specifier: "./none.js", sideEffect: true, range: [[0, 7], [0, 18]],
     resolved: { class: "missing" },
   });
+});
+
+test("--missing says how many names in JavaScript bundlers' rules or configurations alone find", () => {
+  const folder = folderOf({
+    "package.json": `{"type":"module"}`, "a.js": `import "./b";\nimport "./b.js";\nimport "@/b";\n`, "b.js": "", "c.ts": `import "./b";`,
+    "jsconfig.json": `{"compilerOptions":{"paths":{"@/*":["./*"]}}}`,
+  });
+  const stderr = `${NAME}: node itself finds 2 of the names in JavaScript nowhere (--json has foundByOthers)\n`;
+  assert.deepEqual(lines(["--missing", "."], folder, { stderr }), []);
+  const { missing, foundByOthers } = JSON.parse(lines(["--missing", "--json", "."], folder, { stderr })[0]);
+  assert.deepEqual(missing, []);
+  assert.deepEqual(foundByOthers.map((/** @type {any} */ { specifier, resolved: { by } }) => [specifier, by]), [
+    ["./b", "bundler"], ["@/b", "tsconfig"],
+  ]);
 });
 
 test("--why prints a shortest way, --dependents who leads to a file", () => {

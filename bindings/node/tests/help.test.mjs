@@ -7,7 +7,7 @@ import { folderOf, run } from "./run_commands.mjs";
 
 const MOST_LINES = 45;
 
-for (const name of ["estree", "files", "report", "typescript"]) {
+for (const name of ["files", "report"]) {
   const { stdout: help } = run(`${name}.mjs`, ["--help"]);
 
   test(`the help of modinfo-${name} fits one screen`, () => {

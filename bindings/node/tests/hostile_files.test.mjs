@@ -2,12 +2,12 @@
 
 import assert from "node:assert/strict";
 import { execFileSync, spawnSync } from "node:child_process";
-import { chmodSync, readFileSync, readdirSync, symlinkSync, writeFileSync } from "node:fs";
+import { chmodSync, readFileSync, readdirSync, symlinkSync } from "node:fs";
 import { join } from "node:path";
 import { test } from "node:test";
 
 import { readRegularFile } from "../src/files/regular_file.mjs";
-import { STAND_IN, folderOf, linesOf, programOf, threadsFor } from "./run_commands.mjs";
+import { MODINFO, folderOf, linesOf, programOf } from "./run_commands.mjs";
 
 /** More time than any of the commands needs, so that one that never ends is a failure. */
 const TIME = 60_000;
@@ -18,8 +18,8 @@ const TIME = 60_000;
  * @param {string} cwd
  * @param {{ modinfo?: string, input?: string }} options
  */
-function run(name, words, cwd, { modinfo = STAND_IN, input = "" } = {}) {
-  const command = [programOf(name), ...threadsFor(name, words), ...words];
+function run(name, words, cwd, { modinfo = MODINFO, input = "" } = {}) {
+  const command = [programOf(name), ...words];
   const { stdout, stderr, status, signal } = spawnSync(process.execPath, command, {
     cwd, input, env: { ...process.env, MODINFO: modinfo }, timeout: TIME,
   });
@@ -45,35 +45,24 @@ test("of a folder only regular files are read", () => {
     const { stdout, status } = run("files.mjs", words, folder);
     assert.deepEqual([namesOf(stdout), status], [["good.js"], 0]);
   }
-  for (const name of ["estree", "typescript"]) {
-    const { stdout, stderr, status } = run(`${name}.mjs`, ["--lines", "a"], folder);
-    assert.deepEqual([namesOf(stdout), stderr, status], [["good.js"], "", 0]);
-  }
   assert.deepEqual(run("report.mjs", ["--dot", "out.dot", "a"], folder).signal, undefined);
   assert.match(readFileSync(join(folder, "out.dot"), "utf8"), /good\.js/);
 });
 
 test("a named file that isn't regular is an error", () => {
   const folder = endless();
-  const kinds = { "a/fifo.js": "a FIFO", "a/to_fifo.js": "a FIFO", "a/zero.js": "a device" };
-  const errors = Object.entries(kinds).map(([file, kind]) => `${file}: ${kind}, not a regular file\n`);
-  const files = Object.keys(kinds);
+  const files = ["a/fifo.js", "a/to_fifo.js", "a/zero.js"];
+  const errors = files.map((file) => `${file}: no regular file\n`);
   const { stdout, stderr, status } = run("files.mjs", [...files, "b.js"], folder);
   assert.deepEqual([stderr, status], [errors.map((each) => `modinfo-files: ${each}`).join(""), 1]);
   assert.deepEqual(linesOf(stdout).map(({ fault }) => fault), ["Input", "Input", "Input", undefined]);
-  for (const name of ["estree", "typescript"]) {
-    for (const [at, file] of files.entries()) {
-      const expected = { stdout: "", stderr: `modinfo-${name}: ${errors[at]}`, status: 1 };
-      assert.deepEqual(run(`${name}.mjs`, [file], folder), expected);
-    }
-  }
 });
 
 test("a file without an end is not waited for, though the system calls it regular", () => {
   const folder = folderOf();
   symlinkSync("/proc/kmsg", join(folder, "log.js"));
-  const { stderr, status } = run("typescript.mjs", ["log.js"], folder);
-  assert.deepEqual([stderr.split("log.js: ")[0], status], ["modinfo-typescript: ", 1]);
+  const { stderr, status } = run("files.mjs", ["log.js"], folder);
+  assert.deepEqual([stderr, status], ["modinfo-files: log.js: a file of the system\n", 1]);
 });
 
 test("what configures the resolution is read only where it is a regular file", () => {
@@ -99,28 +88,26 @@ test("what configures the resolution is read only where it is a regular file", (
 
 test("a link out of the given paths is followed only with --follow", () => {
   const folder = folderOf({
-    "a/b/in.js": `"in";`, "c/out.js": `"out";`, "c/named.js": `"named";`, "secret": "root:x:0:0\n",
+    "a/b/in.js": `import "in";`, "c/out.js": `import "out";`, "c/named.js": `import "named";`, "secret": "root:x:0:0\n",
   });
   symlinkSync("b/in.js", join(folder, "a/to_in.js"));
   symlinkSync("../c/out.js", join(folder, "a/to_out.js"));
   symlinkSync("../secret", join(folder, "a/to_secret.js"));
   symlinkSync("a", join(folder, "link"));
   /** @param {string} stdout */
-  const sources = (stdout) => linesOf(stdout).map(({ source }) => source);
+  const kindsOf = (stdout) => linesOf(stdout).map(({ info, fault }) => info?.dependencies[0].specifier ?? fault);
   /** @param {string} file */
-  const left = (file) => `modinfo-estree: ${file}: ${LEFT}\n`;
-  const without = run("estree.mjs", ["--lines", "a"], folder);
-  assert.deepEqual(without, {
-    stdout: without.stdout, stderr: left("a/to_out.js") + left("a/to_secret.js"), status: 0,
-  });
-  assert.deepEqual(sources(without.stdout), [`"in";`, `"in";`]);
+  const left = (file) => `modinfo-files: ${file}: ${LEFT}\n`;
+  const without = run("files.mjs", ["a"], folder);
+  assert.deepEqual(without, { stdout: without.stdout, stderr: left("a/to_out.js") + left("a/to_secret.js"), status: 0 });
+  assert.deepEqual(kindsOf(without.stdout), ["in", "in"]);
   // What is given decides, and not what the paths are called.
-  assert.equal(run("estree.mjs", ["--lines", "link"], folder).stderr, left("link/to_out.js") + left("link/to_secret.js"));
-  assert.equal(run("estree.mjs", ["--lines", "a", "c"], folder).stderr, left("a/to_secret.js"));
-  assert.deepEqual(sources(run("estree.mjs", ["--lines", "a/to_out.js"], folder).stdout), [`"out";`]);
-  const follow = run("estree.mjs", ["--lines", "--follow", "a"], folder);
-  assert.deepEqual(sources(follow.stdout), [`"in";`, `"in";`, `"out";`]);
-  assert.match(follow.stderr, /^modinfo-estree: a\/to_secret\.js:1:\d+: .*\n {2}\| root:x:0:0\n/);
+  assert.equal(run("files.mjs", ["link"], folder).stderr, left("link/to_out.js") + left("link/to_secret.js"));
+  assert.equal(run("files.mjs", ["a", "c"], folder).stderr, left("a/to_secret.js"));
+  assert.deepEqual(kindsOf(run("files.mjs", ["a/to_out.js"], folder).stdout), ["out"]);
+  const follow = run("files.mjs", ["--follow", "a"], folder);
+  assert.deepEqual(kindsOf(follow.stdout), ["in", "in", "out", "Syntax"]);
+  assert.match(follow.stderr, /^modinfo-files: a\/to_secret\.js:1:\d+: .*\n {2}\| root:x:0:0\n/);
 });
 
 test("what a link out of the folder leads to is not in the report", () => {
@@ -138,22 +125,6 @@ test("a file that a link out of the paths leads to is read where it is named its
   assert.match(readFileSync(join(folder, "out.dot"), "utf8"), /"c\.js"/);
 });
 
-test("a file has at most --max-bytes", () => {
-  const folder = folderOf({ "ten.js": "a;a;a;a;a;", "eleven.js": "a;a;a;a;a;\n" });
-  const message = "the file has more than 10 bytes (--max-bytes allows more)";
-  const words = ["--max-bytes", "10"];
-  const files = run("files.mjs", [...words, "ten.js", "eleven.js"], folder);
-  assert.deepEqual([files.stderr, files.status], [`modinfo-files: eleven.js: ${message}\n`, 1]);
-  for (const [name, input] of [["ten.js", ""], ["eleven.js", ""], ["-", "a;a;a;a;a;"], ["-", "a;a;a;a;a;\n"]]) {
-    const isLong = name === "eleven.js" || input.length > 10;
-    const { stderr, status } = run("typescript.mjs", [...words, name], folder, { input });
-    assert.deepEqual([stderr, status], isLong ? [`modinfo-typescript: ${name}: ${message}\n`, 1] : ["", 0]);
-  }
-  for (const word of ["0", "x", "1e3", "1073741825"]) {
-    assert.equal(run("typescript.mjs", ["--max-bytes", word, "ten.js"], folder).status, 2, word);
-  }
-});
-
 test("the content of a file without a size is read to its end", () => {
   assert.equal(String(readRegularFile("/proc/version")), readFileSync("/proc/version", "utf8"));
   const { length } = readFileSync("/proc/version");
@@ -161,28 +132,6 @@ test("the content of a file without a size is read to its end", () => {
   const folder = folderOf({ "long.js": "a;".repeat(200_000), "empty.js": "" });
   assert.equal(String(readRegularFile(join(folder, "long.js"))), "a;".repeat(200_000));
   assert.equal(readRegularFile(join(folder, "empty.js")).length, 0);
-});
-
-test("a file over which more than --timeout seconds pass has a fault, and the others go on", () => {
-  const folder = folderOf({ "a.js": "", "b.js": "hang", "c.js": "", "d.js": "hang" });
-  const modinfo = join(folder, "modinfo");
-  // It ends with its input, as it does once nobody waits for it.
-  writeFileSync(modinfo, `#!/bin/sh
-while read -r line; do
-  case $line in *'"hang"'*) cat > /dev/null; exit ;; esac
-  echo '{"answer":{}}'
-done
-`);
-  chmodSync(modinfo, 0o755);
-  const { stdout, stderr, status } = run("files.mjs", ["--timeout", "2", "."], folder, { modinfo });
-  const message = "there was no result within 2 s (--timeout)";
-  const lines = ["b.js", "d.js"].map((file) => `modinfo-files: ${file}: ${message}\n`);
-  assert.deepEqual([stderr, status], [lines.join(""), 1]);
-  const expected = [{}, "Timeout", {}, "Timeout"];
-  assert.deepEqual(linesOf(stdout).map(({ info, fault }) => info ?? fault), expected);
-  for (const words of [["--timeout", "0"], ["--timeout", "x"], ["--timeout", "86401"]]) {
-    assert.equal(run("files.mjs", [...words, "."], folder).status, 2, words.join(" "));
-  }
 });
 
 test("names are shown with their control characters escaped", () => {
@@ -194,7 +143,6 @@ test("names are shown with their control characters escaped", () => {
   /** @type {[name: string, words: string[], label?: string][]} */
   const runs = [
     ["files.mjs", ["."]], ["files.mjs", [evil]], ["files.mjs", [`none${evil}`], `none${shown}`],
-    ["typescript.mjs", [evil]], ["estree.mjs", ["--lines", evil]], ["estree.mjs", [`none${evil}`], `none${shown}`],
     ["report.mjs", ["."]], ["report.mjs", ["-o", `none/${evil}`, "."], `none/${shown}`],
   ];
   for (const [name, words, label = shown] of runs) {
@@ -205,7 +153,7 @@ test("names are shown with their control characters escaped", () => {
   for (const words of [[`--${evil}`], ["--reach", "./", evil]]) {
     isClean(run("files.mjs", words, folder).stderr);
   }
-  const { stderr } = run("files.mjs", ["--resolve", "b.js"], folder);
+  const { stderr } = run("files.mjs", ["--resolve", "--types", "b.js"], folder);
   isClean(stderr);
   assert.match(stderr, /^modinfo-files: warning: .*tsconfig\.json: .*\\x1b\[32m/);
 });
@@ -266,7 +214,7 @@ test("what is written is there as a whole or not at all", () => {
   // A file is full after 1 KiB, before the page ends.
   const line = `ulimit -f 1; exec "${process.execPath}" "${programOf("report.mjs")}" --jobs 1 -o kept.html d`;
   const { stderr, status } = spawnSync("bash", ["-c", line], {
-    cwd: folder, env: { ...process.env, MODINFO: STAND_IN }, timeout: TIME,
+    cwd: folder, env: { ...process.env, MODINFO }, timeout: TIME,
   });
   assert.match(String(stderr), /kept\.html: EFBIG/);
   assert.equal(status, 1);

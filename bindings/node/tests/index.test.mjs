@@ -1,14 +1,14 @@
-/** The service of the package, over both programs. */
+/** The service of the package. */
 
 import assert from "node:assert/strict";
 import { spawnSync } from "node:child_process";
 import { chmodSync, existsSync, readdirSync, readFileSync, writeFileSync } from "node:fs";
 import { join } from "node:path";
 import { test } from "node:test";
+import { fileURLToPath } from "node:url";
 
-import { Modinfo, ModinfoFault, ProgramEnd } from "../src/index.mjs";
-import { settled } from "./promises.mjs";
-import { MODINFO, STAND_IN, folderOf } from "./run_commands.mjs";
+import { Modinfo, ModinfoFault, ProgramEnd, moduleInfo } from "../src/index.mjs";
+import { MODINFO, folderOf } from "./run_commands.mjs";
 import { unchecked } from "./unchecked.mjs";
 
 /**
@@ -19,16 +19,6 @@ import { unchecked } from "./unchecked.mjs";
 const EXAMPLES = new URL("../../../examples/", import.meta.url);
 
 const isMissing = !existsSync(MODINFO) && "build/modinfo isn't made";
-const PROGRAMS = [
-  { name: "the second modinfo", program: STAND_IN, skip: false },
-  { name: "modinfo", program: MODINFO, skip: isMissing },
-];
-
-/**
- * What the second modinfo doesn't find.
- * @type {(info: object, program: string) => object}
- */
-const found = (info, program) => (program === STAND_IN ? { ...info, jsdocImports: undefined } : info);
 
 /** @param {string} name */
 function readExample(name) {
@@ -61,7 +51,7 @@ function numbered(number) {
   };
 }
 
-const NUMBERS = Array.from({ length: 2000 }, (_, number) => number);
+const NUMBERS = Array.from({ length: 1000 }, (_, number) => number);
 
 /**
  * A program that is another, and notes its process and command for each start.
@@ -87,107 +77,138 @@ function isRunning(id) {
   }
 }
 
-for (const { name, program, skip } of PROGRAMS) {
-  test(`the examples by ${name}`, { skip }, async () => {
-    const modinfo = new Modinfo({ program });
-    for (const file of readdirSync(EXAMPLES).filter((each) => each.endsWith(".out.json"))) {
-      const expected = found(readExample(file), program);
-      const document = readExample(file.replace(".out.json", ".json"));
-      const json = JSON.stringify(document, undefined, 1);
-      for (const form of [document, json, new TextEncoder().encode(json)]) {
-        assert.deepEqual(found(await modinfo.analyze(form), program), expected, file);
-      }
-      const { source, specifier, mediaType } = document;
-      const info = await modinfo.moduleInfo(source, { specifier, mediaType });
-      assert.deepEqual(found(info, program), expected, file);
+test("the examples", { skip: isMissing }, async () => {
+  const modinfo = new Modinfo({ program: MODINFO });
+  for (const file of readdirSync(EXAMPLES).filter((each) => each.endsWith(".out.json"))) {
+    const expected = readExample(file);
+    const document = readExample(file.replace(".out.json", ".json"));
+    const json = JSON.stringify(document, undefined, 1);
+    for (const form of [document, json, new TextEncoder().encode(json)]) {
+      assert.deepEqual(await modinfo.analyze(form), expected, file);
     }
-    assert.deepEqual(await modinfo.reach(readExample("site.reach.json")), readExample("site.reached.json"));
-    await modinfo.close();
-  });
-
-  test(`100,000 documents by ${name}`, { skip }, async () => {
-    const modinfo = new Modinfo({ program });
-    /** @param {number} number */
-    const check = async (number) => {
-      const { document, info } = numbered(number);
-      assert.deepEqual(await modinfo.analyze(document), info);
-    };
-    await Promise.all(Array.from({ length: 100_000 }, (_, number) => check(number)));
-    await modinfo.close();
-  });
-
-  test(`a process of ${name} that is killed`, { skip }, async () => {
-    const { path, starts } = noted(program);
-    const modinfo = new Modinfo({ program: path });
-    // More than the pipes and the program hold, so that some have no answer yet.
-    const numbers = Array.from({ length: 20_000 }, (_, number) => number);
-    const answers = numbers.map((number) => modinfo.analyze(numbered(number).document));
-    const all = settled(answers);
-    await answers[500];
-    process.kill(starts()[0].process, "SIGKILL");
-    // What is handed over now may go to the process before its end is noticed.
-    const found = await all;
-    const lost = found.filter(({ reason }) => reason);
-    assert.ok(lost.length > 0 && lost.length <= numbers.length - 501, `${lost.length} are lost`);
-    lost.forEach(({ reason }) => assert.match(String(reason), /^ProgramEnd: .* ended by SIGKILL$/));
-    found.forEach(({ value }, number) => value && assert.deepEqual(value, numbered(number).info));
-    assert.deepEqual(await modinfo.analyze(numbered(7).document), numbered(7).info);
-    assert.equal(starts().length, 2);
-    await modinfo.close();
-  });
-
-  for (const jobs of [1, 3]) {
-    test(`closing ${name} while it is at work, ${jobs} threads`, { skip }, async () => {
-      const { path, starts } = noted(program);
-      const modinfo = new Modinfo({ program: path, jobs });
-      const answers = NUMBERS.map((number) => modinfo.analyze(numbered(number).document));
-      const texts = NUMBERS.slice(0, 100).map((number) => {
-        return modinfo.moduleInfo(numbered(number).document.source, { specifier: "file:///a.js" });
-      });
-      const closed = modinfo.close();
-      await assert.rejects(modinfo.analyze(numbered(0).document), { name: "ProgramEnd", message: "modinfo is closed" });
-      await assert.rejects(modinfo.moduleInfo("", { specifier: "file:///a.js" }), ProgramEnd);
-      await closed;
-      assert.deepEqual(await Promise.all(answers), NUMBERS.map((number) => numbered(number).info));
-      assert.deepEqual(await Promise.all(texts), NUMBERS.slice(0, 100).map((number) => numbered(number).info));
-      assert.deepEqual(starts().map(({ process }) => isRunning(process)), [false]);
-      await modinfo.close();
-    });
-
-    test(`texts by ${name}, ${jobs} threads`, { skip }, async () => {
-      const modinfo = new Modinfo({ program, jobs });
-      const texts = NUMBERS.slice(0, 300).map((number) => {
-        const { source } = numbered(number).document;
-        return modinfo.moduleInfo(source, { specifier: "file:///a", mediaType: "TypeScript" });
-      });
-      assert.deepEqual(await Promise.all(texts), NUMBERS.slice(0, 300).map((number) => numbered(number).info));
-      /**
-       * @param {string} text
-       * @param {object} fault
-       */
-      const refused = (text, fault) => {
-        const options = { specifier: "file:///a.ts" };
-        return assert.rejects(modinfo.moduleInfo(text, options), { name: "ModinfoFault", ...fault });
-      };
-      await refused("let a;\nlet é = ;", { fault: "Syntax", message: "Expression expected.", line: 2, column: 9 });
-      await refused("a('\ud800')", { fault: "Syntax", message: "a lone surrogate is no UTF-8", line: 1, column: 4 });
-      await refused("(".repeat(100_000), { fault: "Depth", message: "the text nests too deep for the parser" });
-      await modinfo.close();
-    });
+    const { source, specifier, mediaType } = document;
+    assert.deepEqual(await modinfo.moduleInfo(source, specifier, mediaType), expected, file);
   }
+  assert.deepEqual(await modinfo.reach(readExample("site.reach.json")), readExample("site.reached.json"));
+  await modinfo.close();
+});
 
-  test(`node ends while ${name} has nothing to do`, { skip }, () => {
-    const script = `
-      import { Modinfo } from ${JSON.stringify(new URL("../src/index.mjs", import.meta.url).href)};
-      const modinfo = new Modinfo({ jobs: 2 });
-      const info = await modinfo.moduleInfo("import './a.js'", { specifier: "file:///b.js" });
-      console.log(info.dependencies[0].specifier);`;
-    const { stdout, stderr, status } = spawnSync(process.execPath, ["--input-type=module"], {
-      input: script, env: { ...process.env, MODINFO: program },
-    });
-    assert.deepEqual([String(stdout), String(stderr), status], ["./a.js\n", "", 0]);
+test("5,000 documents and texts", { skip: isMissing }, async () => {
+  const modinfo = new Modinfo({ program: MODINFO });
+  /** @param {number} number */
+  const check = async (number) => {
+    const { document, info } = numbered(number);
+    assert.deepEqual(await modinfo.analyze(document), info);
+    assert.deepEqual(await modinfo.moduleInfo(document.source, new URL(document.specifier)), info);
+  };
+  await Promise.all(Array.from({ length: 5000 }, (_, number) => check(number)));
+  await modinfo.close();
+});
+
+test("what a process held that is killed goes to another one", { skip: isMissing }, async () => {
+  const { path, starts } = noted(MODINFO);
+  const modinfo = new Modinfo({ program: path, jobs: 1 });
+  const answers = NUMBERS.map((number) => modinfo.analyze(numbered(number).document));
+  await answers[500];
+  process.kill(starts()[0].process, "SIGKILL");
+  assert.deepEqual(await Promise.all(answers), NUMBERS.map((number) => numbered(number).info));
+  assert.equal(starts().length, 2);
+  await modinfo.close();
+});
+
+for (const jobs of [1, 3]) {
+  test(`closing it while it is at work, ${jobs} processes`, { skip: isMissing }, async () => {
+    const { path, starts } = noted(MODINFO);
+    const modinfo = new Modinfo({ program: path, jobs });
+    const answers = NUMBERS.map((number) => modinfo.analyze(numbered(number).document));
+    const texts = NUMBERS.map((number) => modinfo.moduleInfo(numbered(number).document.source, "file:///a.js"));
+    const wrong = modinfo.moduleInfo("(", "file:///a.js").catch(({ line, column }) => [line, column]);
+    const closed = modinfo.close();
+    await assert.rejects(modinfo.analyze(numbered(0).document), { name: "ProgramEnd", message: "modinfo is closed" });
+    await assert.rejects(modinfo.moduleInfo("", "file:///a.js"), ProgramEnd);
+    await closed;
+    assert.deepEqual(await Promise.all(answers), NUMBERS.map((number) => numbered(number).info));
+    assert.deepEqual(await Promise.all(texts), NUMBERS.map((number) => numbered(number).info));
+    assert.deepEqual(await wrong, [1, 2]);
+    assert.ok(starts().filter(({ command }) => command === "analyze").length <= 2 * jobs);
+    assert.deepEqual(starts().filter(({ process }) => isRunning(process)), []);
+    await modinfo.close();
   });
 }
+
+test("texts with a fault", { skip: isMissing }, async () => {
+  const modinfo = new Modinfo({ program: MODINFO });
+  /**
+   * @param {string} text
+   * @param {object} fault
+   * @param {any[]} words
+   */
+  const refused = (text, fault, words = ["file:///a.ts"]) => {
+    const [specifier, mediaType] = words;
+    return assert.rejects(modinfo.moduleInfo(text, specifier, mediaType), { name: "ModinfoFault", ...fault });
+  };
+  await refused("let a;\nlet é = ;", { fault: "Syntax", line: 2, column: 9 });
+  await refused("let a;\nlet 😀 = ;", { fault: "Syntax", line: 2, column: 5 });
+  await refused("a('\ud800')", { fault: "Input", message: "Input: a lone surrogate is no UTF-8" });
+  await refused("(".repeat(100_000), { fault: "Syntax", line: 1 });
+  await refused("", { fault: "Specifier" }, ["./a.ts"]);
+  await refused("", { fault: "Tree" }, ["file:///a.ts", "TypeScripts"]);
+  assert.deepEqual(await modinfo.moduleInfo("<a>{import('b')}</a>", "file:///a.ts", "Tsx"), {
+    dependencies: [{ argument: "b", argumentRange: [[0, 11], [0, 14]], type: "dynamic" }], script: true,
+  });
+  await modinfo.close();
+});
+
+test("an aborted call ends its process, and the next call has another one", { skip: isMissing }, async () => {
+  const { path, starts } = noted(MODINFO);
+  const modinfo = new Modinfo({ program: path, jobs: 1 });
+  const controller = new AbortController();
+  const large = Array.from({ length: 200_000 }, (_, at) => `import "./${at}.js";\n`).join("");
+  const call = modinfo.moduleInfo(large, "file:///a.js", undefined, { signal: controller.signal });
+  setImmediate(() => controller.abort(new Error("enough")));
+  await assert.rejects(call, { message: "enough" });
+  await assert.rejects(modinfo.moduleInfo("", "file:///a.js", undefined, { signal: controller.signal }), { message: "enough" });
+  assert.deepEqual(await modinfo.moduleInfo("", "file:///a.js"), { script: true });
+  await modinfo.close();
+  assert.deepEqual(starts().filter(({ process }) => isRunning(process)), []);
+});
+
+/** @param {string} script an ES module, in which `INDEX` is the package's */
+function outputOf(script, words = ["--input-type=module"]) {
+  const index = new URL(words.length > 0 ? "../src/index.mjs" : "../src/index.cjs", import.meta.url);
+  const { stdout, stderr, status } = spawnSync(process.execPath, words, {
+    input: script.replace("INDEX", JSON.stringify(words.length > 0 ? index.href : fileURLToPath(index))),
+    env: { ...process.env, MODINFO },
+  });
+  assert.deepEqual([String(stderr), status], ["", 0]);
+  return String(stdout);
+}
+
+test("node ends while there is nothing to do", { skip: isMissing }, () => {
+  assert.equal(outputOf(`
+    import { Modinfo, moduleInfo } from INDEX;
+    const modinfo = new Modinfo({ jobs: 2 });
+    const info = await modinfo.moduleInfo("import './a.js'", "file:///b.js");
+    console.log(info.dependencies[0].specifier, await moduleInfo("", "file:///b.js"));`), "./a.js { script: true }\n");
+});
+
+test("by require it is the same", { skip: isMissing }, () => {
+  assert.equal(outputOf(`
+    const { Modinfo, ModinfoFault, ProgramEnd, moduleInfo } = require(INDEX);
+    const modinfo = new Modinfo();
+    modinfo.moduleInfo("import './a.js'", "file:///b.js").then(async (info) => {
+      console.log(info.dependencies[0].specifier, await moduleInfo("", "file:///b.js"));
+      await moduleInfo("(", "file:///b.js").catch((error) => console.log(error instanceof ModinfoFault, error.fault));
+      await modinfo.close();
+      await modinfo.reach("{}").catch((error) => console.log(error instanceof ProgramEnd));
+      await new Modinfo({ program: 1 }).reach("{}").catch(({ name }) => console.log(name));
+    });`, []), "./a.js { script: true }\ntrue Syntax\ntrue\nTypeError\n");
+});
+
+test("the plain function", { skip: isMissing }, async () => {
+  assert.deepEqual(await moduleInfo(numbered(1).document.source, "file:///a.js"), numbered(1).info);
+  await assert.rejects(moduleInfo("(", "file:///a.js"), { name: "ModinfoFault", fault: "Syntax", line: 1, column: 2 });
+});
 
 test("the faults of modinfo", { skip: isMissing }, async () => {
   const modinfo = new Modinfo({ program: MODINFO });
@@ -217,7 +238,7 @@ test("the faults of modinfo", { skip: isMissing }, async () => {
 
 test("a conversion, each command by a process of its own that its first document starts", { skip: isMissing }, async () => {
   const { path, starts } = noted(MODINFO);
-  const modinfo = new Modinfo({ program: path });
+  const modinfo = new Modinfo({ program: path, jobs: 1 });
   assert.deepEqual(starts(), []);
   assert.deepEqual(
     await modinfo.convert(readExample("stored.convert.json")), readExample("stored.converted.json"),
@@ -235,13 +256,13 @@ test("a program that isn't there", async () => {
     const missing = { name: "ProgramEnd", message: /^\/none\/modinfo can't be started: spawn .* ENOENT \(the option / };
     await assert.rejects(modinfo.analyze("{}"), missing);
     await assert.rejects(modinfo.reach("{}"), missing);
-    await assert.rejects(modinfo.moduleInfo("", { specifier: "file:///a.js" }), missing);
+    await assert.rejects(modinfo.moduleInfo("", "file:///a.js"), missing);
     await modinfo.close();
   }
 });
 
 test("what is no document, no text or no option", async () => {
-  const modinfo = new Modinfo({ program: STAND_IN });
+  const modinfo = new Modinfo({ program: MODINFO });
   /**
    * @param {Promise<unknown>} call
    * @param {string | RegExp} message
@@ -253,9 +274,8 @@ test("what is no document, no text or no option", async () => {
   const circle = {};
   circle.circle = circle;
   await refused(modinfo.convert(circle), /circular/);
-  await refused(modinfo.moduleInfo(unchecked(1), { specifier: "file:///a.js" }), "the text must be a string, and is 1");
-  await refused(modinfo.moduleInfo("", unchecked(undefined)), "specifier must be an absolute URL, and is undefined");
-  await refused(modinfo.moduleInfo("", { specifier: "file:///a.json" }), /^mediaType must be one of /);
+  await refused(modinfo.moduleInfo(unchecked(1), "file:///a.js"), "the text must be a string, and is 1");
+  await refused(modinfo.moduleInfo("", unchecked({})), "specifier must be an absolute URL, and is [object Object]");
   await modinfo.close();
   for (const options of [
     { program: "" }, { program: 1 }, { jobs: 0 }, { jobs: 1.5 }, { jobs: "2" }, { jobs: Infinity },
@@ -265,7 +285,7 @@ test("what is no document, no text or no option", async () => {
 });
 
 test("disposing of it closes it", async () => {
-  const modinfo = new Modinfo({ program: STAND_IN });
+  const modinfo = new Modinfo({ program: MODINFO });
   const answer = modinfo.analyze(numbered(1).document);
   await modinfo[Symbol.asyncDispose]();
   assert.deepEqual(await answer, numbered(1).info);
@@ -307,9 +327,7 @@ test("a fault has its report where the call asks for it", async () => {
     const asked = modinfo.analyze("{}", { report: true });
     await Promise.all([modinfo.close(), assert.rejects(asked, { report })]);
   });
-  await using(STAND_IN, async (modinfo) => {
-    // Its check ends with the usage: then the fault is that of the command alone.
-    await assert.rejects(modinfo.analyze("{", { report: true }), (error) => faultOf(error) === "Json");
+  await using(MODINFO, async (modinfo) => {
     assert.deepEqual(await modinfo.analyze(numbered(1).document, { report: true }), numbered(1).info);
   });
 });

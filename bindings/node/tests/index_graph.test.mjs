@@ -1,15 +1,16 @@
 /** The graph and the resolution of the service, and what the options of all its calls have in common. */
 
 import assert from "node:assert/strict";
-import { chmodSync, writeFileSync } from "node:fs";
+import { spawnSync } from "node:child_process";
+import { chmodSync, existsSync, readFileSync, writeFileSync } from "node:fs";
 import { join } from "node:path";
 import { after, test } from "node:test";
 
 import { Modinfo } from "../src/index.mjs";
-import { STAND_IN, folderOf, urlOf } from "./run_commands.mjs";
+import { MODINFO, folderOf, urlOf } from "./run_commands.mjs";
 import { unchecked } from "./unchecked.mjs";
 
-const modinfo = new Modinfo({ program: STAND_IN });
+const modinfo = new Modinfo({ program: MODINFO });
 after(() => modinfo.close());
 
 const PROJECT = {
@@ -111,7 +112,7 @@ test("a cache keeps what is found, and a graph takes globs, packages and pages",
 test("the specifiers of a ModuleInfo are resolved in a copy", async () => {
   const folder = folderOf(PROJECT);
   const specifier = new URL(urlOf(folder, "src/b.ts"));
-  const info = await modinfo.moduleInfo(PROJECT["src/b.ts"], { specifier });
+  const info = await modinfo.moduleInfo(PROJECT["src/b.ts"], specifier);
   /** @param {object} [options] */
   const classes = async (options) => {
     const { dependencies } = await modinfo.resolve(info, { specifier, ...options });
@@ -151,7 +152,7 @@ test("an aborted signal rejects each call", async () => {
     analyze: (signal) => waiting.analyze("{}", { signal }),
     convert: (signal) => waiting.convert({}, { signal }),
     reach: (signal) => waiting.reach("{}", { signal }),
-    moduleInfo: (signal) => waiting.moduleInfo("", { specifier, signal }),
+    moduleInfo: (signal) => waiting.moduleInfo("", specifier, undefined, { signal }),
   };
   for (const call of Object.values(calls)) {
     await assert.rejects(call(aborted), { message: "too late" });
@@ -171,11 +172,32 @@ test("an aborted signal rejects each call", async () => {
   }
 });
 
+test("an aborted graph ends its processes", async () => {
+  const folder = folderOf({ "a.ts": "", "b.ts": "" });
+  const slow = join(folder, "slow");
+  writeFileSync(slow, `#!/bin/bash\nread -r -d '' path || exit 0\necho $$ >> '${folder}/log'\nexec sleep 60\n`);
+  chmodSync(slow, 0o755);
+  const waiting = new Modinfo({ program: slow, jobs: 1 });
+  const controller = new AbortController();
+  const rejected = assert.rejects(waiting.graph({ paths: [folder], signal: controller.signal }), { message: "enough" });
+  while (!existsSync(join(folder, "log"))) {
+    await new Promise(setImmediate);
+  }
+  controller.abort(new Error("enough"));
+  await rejected;
+  await waiting.close();
+  const processes = readFileSync(join(folder, "log"), "utf8").trim().split("\n").map(Number);
+  assert.equal(processes.length, 1);
+  while (spawnSync("ps", ["-o", "stat=", "-p", String(processes[0])]).stdout.toString().match(/^[^Z]/)) {
+    await new Promise(setImmediate);
+  }
+});
+
 test("options that there aren't, and values that they can't have, are refused", async () => {
   const specifier = "file:///a.ts";
   /** @type {[call: () => Promise<unknown>, message: RegExp][]} */
   const refused = [
-    [() => modinfo.moduleInfo("", unchecked({ specifier, mediatype: "Jsx" })), /^there is no option mediatype: /],
+    [() => modinfo.moduleInfo("", specifier, "Jsx", unchecked({ mediatype: "Jsx" })), /^there is no option mediatype: /],
     [() => modinfo.analyze("{}", unchecked({ sginal: 1 })), /^there is no option sginal: /],
     [() => modinfo.check({}, unchecked({ commands: "reach" })), /^there is no option commands: /],
     [() => modinfo.graph(unchecked({ path: "." })), /^there is no option path: /],

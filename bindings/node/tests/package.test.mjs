@@ -9,7 +9,7 @@ import { basename, delimiter, dirname, join } from "node:path";
 import { before, describe, test } from "node:test";
 import { fileURLToPath, pathToFileURL } from "node:url";
 
-import { MODINFO, STAND_IN, folderOf, linesOf, urlOf } from "./run_commands.mjs";
+import { MODINFO, folderOf, linesOf, urlOf } from "./run_commands.mjs";
 import { compile, parserFolder } from "./compile.mjs";
 
 /** @typedef {import("./run_commands.mjs").RunOptions} RunOptions */
@@ -38,7 +38,7 @@ const { error: noNpm } = spawnSync("npm", ["--version"]);
  * @param {RunOptions} options
  * @param {NodeJS.ProcessEnv} [variables]
  */
-function outputOf(program, words, { cwd, input, modinfo = STAND_IN }, variables = {}) {
+function outputOf(program, words, { cwd, input, modinfo = MODINFO }, variables = {}) {
   const env = { ...process.env, MODINFO: modinfo, ...variables };
   const { stdout, stderr, status, error } = spawnSync(program, words, { cwd, input, env });
   assert.deepEqual([error, String(stderr), status], [undefined, "", 0], `${program} ${words.join(" ")}`);
@@ -104,7 +104,7 @@ function pack(program, folder, words = [], variables = {}) {
 function standInWithVersion() {
   const { version } = JSON.parse(read("package.json"));
   return executable(`[ "$1" != --version ] || exec echo "modinfo ${version}"
-exec "${process.execPath}" "${STAND_IN}" "$@"`);
+exec "${MODINFO}" "$@"`);
 }
 
 /**
@@ -154,18 +154,13 @@ describe("the package", { skip: noNpm && "npm isn't there" }, () => {
 
   test("has its modules with their types, a README and a licence, and no tests", () => {
     const modules = filesBelow(PACKAGE, "src")
-      .filter((path) => /^src\/.*\.(?:mjs|mts|js|css)$/.test(path));
-    const expected = ["ADAPTERS.md", "LICENSE", "README.md", "package.json", "report.png", ...modules];
+      .filter((path) => /^src\/.*\.(?:[cm]js|[cm]ts|js|css)$/.test(path));
+    const expected = ["LICENSE", "README.md", "package.json", "report.png", ...modules];
     assert.deepEqual(packed.files.map(({ path }) => path).sort(), expected.sort());
   });
 
-  test("the README's program prints what it says, by both programs", (t) => {
+  test("the README's program prints what it says", () => {
     assert.equal(node(block("js")), block("text"));
-    if (existsSync(MODINFO)) {
-      assert.equal(node(block("js"), { modinfo: MODINFO }), block("text"));
-    } else {
-      t.diagnostic("build/modinfo isn't made: by the second one alone");
-    }
   });
 
   test("the README's other programs run", { skip: !parserFolder("acorn") && "there is no acorn" }, () => {
@@ -174,7 +169,7 @@ describe("the package", { skip: noNpm && "npm isn't there" }, () => {
       "src/main.ts": TEXT, "src/b.ts": "", "src/b.test.ts": "", "src/c.js": "",
     });
     symlinkSync(join(folder, "node_modules"), join(files, "node_modules"));
-    const [, ofTree, ofGraph, ...others] = blocks("js");
+    const [, ofTree, ofReport, ofGraph, ...others] = blocks("js");
     assert.deepEqual(others, []);
     const setUp = `import { Modinfo } from "modinfo"; const modinfo = new Modinfo();`;
     const tree = outputOf(process.execPath, ["--input-type=module"], { cwd: files, input: `${setUp}
@@ -185,6 +180,11 @@ describe("the package", { skip: noNpm && "npm isn't there" }, () => {
       console.log(JSON.stringify(info));
       await modinfo.close();` });
     assert.deepEqual(JSON.parse(tree), INFO);
+    const source = `${"a;".repeat(28)}b`;
+    const body = [[0, 2], [2, 4], [4, 6], [6, 99]].map((range) => ({ kind: "Other", range }));
+    const document = { specifier: "file:///a.js", mediaType: "JavaScript", source, program: { range: [0, 57], body } };
+    const report = node(`${setUp} const document = ${JSON.stringify(document)}; ${ofReport} await modinfo.close();`);
+    assert.equal(report, blocks("text")[1]);
     const graph = outputOf(process.execPath, ["--input-type=module"], { cwd: files, input: `${setUp}
       ${ofGraph}
       await modinfo.close();` });
@@ -193,49 +193,62 @@ describe("the package", { skip: noNpm && "npm isn't there" }, () => {
     assert.equal(graph, `${answers}${b} undefined []\n${c} undefined []\n${main} undefined [ '${b}' ]\n`);
   });
 
-  const notBuilt = !existsSync(MODINFO) && "build/modinfo isn't made";
-
-  test("the program of the page on adapters prints what it says", { skip: notBuilt }, () => {
-    const source = `${"a;".repeat(28)}b`;
-    const body = [[0, 2], [2, 4], [4, 6], [6, 99]].map((range) => ({ kind: "Other", range }));
-    const document = { specifier: "file:///a.js", mediaType: "JavaScript", source, program: { range: [0, 57], body } };
-    const script = `import { Modinfo } from "modinfo"; const modinfo = new Modinfo();
-      const document = ${JSON.stringify(document)};
-      ${blocks("js", "ADAPTERS.md").join("")}
-      await modinfo.close();`;
-    assert.equal(node(script, { modinfo: MODINFO }), blocks("text", "ADAPTERS.md").join(""));
+  test("is imported and required by its name", () => {
+    const script = (/** @type {string} */ load) => `
+      (async () => {
+        const { Modinfo, ModinfoFault, ProgramEnd, moduleInfo } = ${load};
+        const [text, specifier] = [${JSON.stringify(TEXT)}, "file:///a.js"];
+        const modinfo = new Modinfo({ program: process.env.MODINFO, jobs: 2 });
+        console.log(JSON.stringify([await modinfo.moduleInfo(text, specifier), await moduleInfo(text, specifier)]));
+        await modinfo.analyze("{").catch((error) => console.log(error instanceof ModinfoFault, error.fault));
+        await modinfo.close();
+        await modinfo.analyze("{}").catch((error) => console.log(error instanceof ProgramEnd));
+        await import("modinfo/src/runtime/pool.mjs").catch(({ code }) => console.log(code));
+      })();`;
+    for (const [load, words] of /** @type {[string, string[]][]} */ ([[`await import("modinfo")`, ["--input-type=module"]], [`require("modinfo")`, []]])) {
+      const [infos, ...others] = outputOf(process.execPath, words, { cwd: folder, input: script(load) }).split("\n");
+      assert.deepEqual(JSON.parse(infos), [INFO, INFO]);
+      assert.deepEqual(others, ["true Json", "true", "ERR_PACKAGE_PATH_NOT_EXPORTED", ""]);
+    }
   });
 
-  test("is imported by its name", () => {
-    const script = `
-      import { Modinfo, ModinfoFault, ProgramEnd } from "modinfo";
-      import { SourceFault, toDocument } from "modinfo/typescript";
-      import * as estree from "modinfo/estree";
+  /** Rollup without its plugins: where the package is, and its CommonJS, whose exports are one list, as ES modules. */
+  const ROLLUP = `export default {
+    input: "main.mjs", external: /^node:/,
+    plugins: [{
+      resolveId: (name) => (name === "modinfo" ? "${join(folder, "node_modules/modinfo/src/index.mjs")}" : null),
+      transform: (code) => ({ code: code.replace(/^module\\.exports = /m, "export "), map: null }),
+    }],
+    output: [{ file: "bundle.mjs", format: "es" }, { file: "bundle.cjs", format: "cjs" }],
+  };`;
+  const esbuild = ["main.mjs", "--bundle", "--platform=node", "--log-level=error"];
+  /** @type {Record<string, string[][]>} */
+  const bundlers = {
+    esbuild: [["esm", "bundle.mjs"], ["cjs", "bundle.cjs"]].map(([format, name]) => {
+      return [...esbuild, `--format=${format}`, `--outfile=${name}`];
+    }),
+    rollup: [["--config", "rollup.config.mjs", "--silent"]],
+  };
 
-      const modinfo = new Modinfo({ program: process.env.MODINFO, jobs: 2 });
-      const specifier = "file:///a.js";
-      const text = ${JSON.stringify(TEXT)};
-      for (const document of [toDocument(text, { specifier }), estree.toDocument(text, { specifier })]) {
-        console.log(JSON.stringify(await modinfo.analyze(document)));
+  for (const [bundler, runs] of Object.entries(bundlers)) {
+    const isAbsent = spawnSync(bundler, ["--version"]).error && `${bundler} isn't there`;
+
+    test(`a bundle of ${bundler} with it finds the program, or says what to do`, { skip: isAbsent }, () => {
+      const bundles = folderOf({
+        "main.mjs": `import { moduleInfo } from "modinfo";
+          moduleInfo("", "file:///a.js").then(console.log, ({ message }) => console.log(message));`,
+        "rollup.config.mjs": ROLLUP,
+      });
+      symlinkSync(join(folder, "node_modules"), join(bundles, "node_modules"));
+      runs.forEach((words) => outputOf(bundler, words, { cwd: bundles }));
+      for (const name of ["bundle.mjs", "bundle.cjs"]) {
+        const alone = folderOf({ [name]: readFileSync(join(bundles, name)) });
+        assert.equal(outputOf(process.execPath, [name], { cwd: alone }), "{ script: true }\n");
+        const message = outputOf(process.execPath, [name], { cwd: alone, modinfo: "" });
+        assert.match(message, /^the program modinfo is not installed: npm install modinfo-linux-\w+, or name it by /);
       }
-      console.log(JSON.stringify(await modinfo.moduleInfo(text, { specifier })));
-      await modinfo.analyze("{").catch((error) => console.log(error instanceof ModinfoFault, error.fault));
-      await modinfo.close();
-      await modinfo.analyze("{}").catch((error) => console.log(error instanceof ProgramEnd));
-      for (const adapter of [toDocument, estree.toDocument]) {
-        try {
-          adapter("(", { specifier });
-        } catch (error) {
-          console.log(error instanceof SourceFault, error.line, error.column);
-        }
-      }
-      await import("modinfo/src/runtime/service.mjs").catch(({ code }) => console.log(code));`;
-    const [first, second, third, ...others] = node(script).split("\n");
-    assert.deepEqual([first, second, third].map((line) => JSON.parse(line)), [INFO, INFO, INFO]);
-    assert.deepEqual(others, [
-      "true Json", "true", "true 1 2", "true 1 2", "ERR_PACKAGE_PATH_NOT_EXPORTED", "",
-    ]);
-  });
+    });
+  }
 
   test("runs no other program where its own isn't installed", () => {
     const other = executable("echo called >&2; exit 1");
@@ -246,8 +259,8 @@ describe("the package", { skip: noNpm && "npm isn't there" }, () => {
     const script = `import { Modinfo } from "modinfo"; new Modinfo();`;
     const words = ["--input-type=module", "--eval", script];
     const { stderr } = spawnSync(process.execPath, words, { cwd: folder, env });
-    const message = "the program modinfo is not installed: npm install modinfo-linux-x64, or set the " +
-      "environment variable MODINFO to its path";
+    const message = "the program modinfo is not installed: npm install modinfo-linux-x64, or name it by the " +
+      "environment variable MODINFO or the option program";
     assert.match(String(stderr), new RegExp(`^ProgramEnd: ${message}$`, "m"));
     const command = spawnSync(join(folder, "node_modules/.bin/modinfo-files"), ["."], { cwd: folder, env });
     assert.deepEqual([String(command.stderr), command.status], [`modinfo-files: ${message}\n`, 1]);
@@ -265,11 +278,7 @@ describe("the package", { skip: noNpm && "npm isn't there" }, () => {
     /** @param {string} name */
     const link = (name) => join(folder, "node_modules/.bin", name);
     assert.deepEqual(linesOf(outputOf(link("modinfo-files"), ["src"], { cwd: files })), expected);
-    for (const name of ["modinfo-typescript", "modinfo-estree"]) {
-      const [document] = linesOf(outputOf(link(name), ["src/c.js"], { cwd: files }));
-      assert.deepEqual([document.specifier, document.source], [expected[1].specifier, ""]);
-      assert.match(outputOf(link(name), ["--version"], { cwd: files }), new RegExp(`^${name} ${packed.version}, `));
-    }
+    assert.match(outputOf(link("modinfo-files"), ["--version"], { cwd: files }), new RegExp(`^modinfo-files ${packed.version}\n`));
   });
 
   test("the README's commands of the graph answer in a project", () => {
@@ -293,7 +302,7 @@ describe("the package", { skip: noNpm && "npm isn't there" }, () => {
     assert.deepEqual(table, Object.keys(expected));
     const program = join(folder, "node_modules/.bin/modinfo-files");
     for (const [words, printed] of Object.entries(expected)) {
-      const env = { ...process.env, MODINFO: STAND_IN };
+      const env = { ...process.env, MODINFO };
       const { stdout, status } = spawnSync(program, words.split(" "), { cwd: files, env, encoding: "utf8" });
       const isFinding = /--(?:cycles|unreached|missing)/.test(words);
       assert.equal(status, isFinding ? 1 : 0, words);
@@ -306,15 +315,10 @@ describe("the package", { skip: noNpm && "npm isn't there" }, () => {
   });
 
   test("its types are those of its callers", { skip: !parserFolder("typescript") && "there is no TypeScript" }, () => {
-    const modules = join(folder, "node_modules");
-    for (const name of /** @type {const} */ (["acorn", "typescript"])) {
-      const parser = parserFolder(name);
-      if (parser) {
-        symlinkSync(parser, join(modules, name));
-      }
-    }
     mkdirSync(join(folder, "src"));
-    assert.equal(compile(folder, { "src/caller.mts": read("tests/types/caller.mts") }), "");
+    const plain = { lib: ["es2022"] };
+    assert.equal(compile(folder, { "src/caller.mts": read("tests/types/caller.mts") }, plain), "");
+    assert.equal(compile(folder, { "src/caller.cts": read("tests/types/caller.cts") }, plain), "");
     assert.equal(compile(folder, { "src/wrong.mts": read("tests/types/wrong.mts") }), "");
     const older = { module: "es2022", moduleResolution: "node" };
     assert.equal(compile(folder, { "src/older.ts": read("tests/types/wrong.mts") }, older), "");
@@ -333,7 +337,7 @@ describe("the package and that of its program", { skip: noNpm && "npm isn't ther
       return outputOf(process.execPath, ["--input-type=module"], { cwd: folder, input, modinfo: other }, { PATH: path });
     };
     assert.equal(output(block("js")), block("text"));
-    const named = block("js").replace("new Modinfo()", `new Modinfo({ program: ${JSON.stringify(STAND_IN)} })`);
+    const named = block("js").replace("new Modinfo()", `new Modinfo({ program: ${JSON.stringify(MODINFO)} })`);
     assert.equal(output(named), block("text"));
   });
 
@@ -353,31 +357,6 @@ describe("the package and that of its program", { skip: noNpm && "npm isn't ther
     assert.deepEqual([String(stderr), String(stdout)], ["", block("text")]);
     const files = run(join(folder, "node_modules/.bin/modinfo-files"), ["src"], "");
     assert.deepEqual(linesOf(String(files.stdout)).map(({ info }) => info), [INFO]);
-  });
-
-  const noTree = notBuilt || (!parserFolder("acorn") && "there is no acorn");
-
-  test("in an empty folder the program reads a parser's tree as the page shows", { skip: noTree }, () => {
-    const folder = folderOf();
-    npm(["install", ...pack(MODINFO, folder)], folder);
-    const [, shown] = read("ADAPTERS.md").match(/^## Trees of ESTree\n.*?\n((?: {4}[^\n]*\n)+)/ms) ?? [];
-    const script = `
-      import { createRequire } from "node:module";
-      import { Modinfo } from "modinfo";
-      import { estreeDocument } from "modinfo/estree";
-      const acorn = createRequire(import.meta.url)(${JSON.stringify(parserFolder("acorn"))});
-      const [text, specifier] = [${JSON.stringify(TEXT)}, "file:///a.js"];
-      const comments = [];
-      const tree = acorn.parse(text, { ecmaVersion: "latest", sourceType: "module", onComment: comments });
-      const modinfo = new Modinfo();
-      ${shown}
-      console.log(JSON.stringify([info, report]));
-      await modinfo.close();`;
-    const { MODINFO: _, ...env } = process.env;
-    const words = ["--input-type=module"];
-    const { stdout, stderr } = spawnSync(process.execPath, words, { cwd: folder, env, input: script });
-    assert.equal(String(stderr), "");
-    assert.deepEqual(JSON.parse(String(stdout)), [INFO, { valid: true }]);
   });
 
   test("a program of another version, and none, are refused", () => {

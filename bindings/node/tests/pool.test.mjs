@@ -1,95 +1,291 @@
-/** Worker threads and their tasks. */
+/** Processes of the program, and the requests that they are handed. */
 
 import assert from "node:assert/strict";
 import { spawnSync } from "node:child_process";
 import { EventEmitter, once } from "node:events";
+import { chmodSync, existsSync, readFileSync } from "node:fs";
 import { join } from "node:path";
 import { test } from "node:test";
-import { pathToFileURL } from "node:url";
 
-import { Pool, WorkerEnd, inOrder } from "../src/runtime/pool.mjs";
+import { ModinfoFault, ProgramEnd } from "../src/index.mjs";
+import { documentCommand, lineOf } from "../src/runtime/commands.mjs";
+import { inOrder } from "../src/runtime/in_order.mjs";
+import { Pool } from "../src/runtime/pool.mjs";
 import { all, settled } from "./promises.mjs";
-import { folderOf } from "./run_commands.mjs";
+import { MODINFO, folderOf } from "./run_commands.mjs";
 
-const SERVE = new URL("../src/runtime/worker.mjs", import.meta.url).href;
+/** @param {string} name */
+const document = (name) => JSON.stringify({
+  specifier: "file:///a.js", mediaType: "JavaScript", source: `import "${name}";`,
+  program: {
+    range: [0, name.length + 10],
+    body: [{
+      kind: "ImportDecl", range: [0, name.length + 10],
+      src: { value: name, range: [7, name.length + 9] },
+    }],
+  },
+});
 
-/**
- * A module for a pool, in which `handle` makes the result of a task.
- * @param {string} handle
- */
-function workerOf(handle) {
-  const folder = folderOf({
-    "worker.mjs": `
-import { threadId, workerData } from "node:worker_threads";
-import { serve } from ${JSON.stringify(SERVE)};
-const sleep = (time) => new Promise((resolve) => setTimeout(resolve, time));
-const handle = ${handle};
-serve(async (task) => ({ result: await handle(task), transfer: [] }), async () => {});`,
-  });
-  return pathToFileURL(join(folder, "worker.mjs"));
+/** A pool of processes of one command, whose requests are documents. */
+class Service {
+  #pool;
+
+  /**
+   * @param {string} program
+   * @param {number} [jobs]
+   */
+  constructor(program, jobs = 1) {
+    this.#pool = new Pool(documentCommand(program, "analyze"), jobs);
+  }
+
+  /**
+   * @param {string | Uint8Array} document
+   * @param {AbortSignal} [signal]
+   * @returns {Promise<any>}
+   */
+  answer(document, signal) {
+    return this.#pool.run(lineOf(document), signal);
+  }
+
+  close() {
+    return this.#pool.close();
+  }
+
+  kill() {
+    this.#pool.kill();
+  }
 }
 
+/** @param {unknown} answer JSON, also as bytes */
+const specifierOf = (answer) => JSON.parse(String(answer)).dependencies[0].specifier;
+
+/**
+ * A program in JavaScript that stands in for `modinfo`. In it `lines` are those of the input, and
+ * `starts` is how often it was started before.
+ * @param {string} body
+ */
+function programOf(body) {
+  const folder = folderOf();
+  const path = join(folder, "modinfo.mjs");
+  const files = folderOf({
+    "modinfo.mjs": `#!${process.execPath}
+import { appendFileSync, existsSync, readFileSync } from "node:fs";
+import { createInterface } from "node:readline";
+const log = ${JSON.stringify(path)};
+const starts = existsSync(log) ? readFileSync(log, "utf8").length : 0;
+appendFileSync(log, ".");
+const lines = createInterface({ input: process.stdin, crlfDelay: Infinity });
+${body}`,
+  });
+  chmodSync(join(files, "modinfo.mjs"), 0o755);
+  return {
+    program: join(files, "modinfo.mjs"),
+    starts: () => (existsSync(path) ? readFileSync(path, "utf8").length : 0),
+  };
+}
+
+/**
+ * What became of some promises: answers, or the names of their errors.
+ * @param {Promise<unknown>[]} promises
+ */
+async function outcomes(promises) {
+  const found = await settled(promises);
+  return found.map(({ value, reason }) => (reason ? reason.name : String(value)));
+}
+
+test("each of many documents gets its answer", async () => {
+  const service = new Service(MODINFO);
+  const names = Array.from({ length: 2000 }, (_, at) => `./${at}${"x".repeat(at % 700)}.js`);
+  const answers = await Promise.all(names.map((name) => service.answer(document(name))));
+  assert.deepEqual(answers.map(specifierOf), names);
+  await service.close();
+});
+
+test("a document is text or bytes, and may have line feeds", async () => {
+  const service = new Service(MODINFO);
+  const text = JSON.stringify(JSON.parse(document("./é.js")), undefined, 2);
+  for (const each of [text, Buffer.from(text)]) {
+    const before = each.toString();
+    assert.equal(specifierOf(await service.answer(each)), "./é.js");
+    assert.equal(each.toString(), before);
+  }
+  await service.close();
+});
+
+test("a fault rejects its own document alone", async () => {
+  const service = new Service(MODINFO);
+  const [first, wrong, last] = await settled(
+    [document("a"), "{", document("b")].map((each) => service.answer(each)),
+  );
+  assert.equal(specifierOf(first.value), "a");
+  assert.ok(wrong.reason instanceof ModinfoFault);
+  assert.equal(wrong.reason.fault, "Json");
+  assert.equal(specifierOf(last.value), "b");
+  await service.close();
+});
+
+test("answers may come in pieces of any length", async () => {
+  const { program } = programOf(`
+    for await (const line of lines) {
+      for (const byte of Buffer.from('{"answer":' + line + '}\\n')) {
+        await new Promise((resolve) => process.stdout.write(Buffer.of(byte), resolve));
+      }
+    }`);
+  const service = new Service(program);
+  const documents = ['"é"', '"日本"', "{}", '""'];
+  assert.deepEqual(await outcomes(documents.map((each) => service.answer(each))), documents);
+  await service.close();
+});
+
+/** Ends with status 1 over each document that begins with `"end`. */
+const ENDING = `
+  for await (const line of lines) {
+    if (line.startsWith('"end')) {
+      console.error("modinfo: Output");
+      process.exit(1);
+    }
+    console.log('{"answer":' + line + "}");
+  }`;
+
+test("a document over which the process ends twice is the only one that is rejected", async () => {
+  for (const jobs of [1, 3]) {
+    const { program } = programOf(ENDING);
+    const service = new Service(program, jobs);
+    const documents = ["1", "2", '"end"', "4", '"end"', "6"];
+    const found = await outcomes(documents.map((each) => service.answer(each)));
+    assert.deepEqual(found, ["1", "2", "ProgramEnd", "4", "ProgramEnd", "6"]);
+    const [ended] = await settled([service.answer('"end"')]);
+    assert.ok(ended.reason instanceof ProgramEnd);
+    assert.match(ended.reason.message, /modinfo\.mjs ended with status 1: modinfo: Output$/);
+    assert.deepEqual(await outcomes([service.answer('"b"')]), ['"b"']);
+    await service.close();
+  }
+});
+
+test("where the process is killed, what it held goes to another one", async () => {
+  const { program, starts } = programOf(`
+    let answered = 0;
+    for await (const line of lines) {
+      if (starts === 0 && answered++ === 500) {
+        process.kill(process.pid, "SIGKILL");
+        await new Promise(() => {});
+      }
+      console.log('{"answer":' + line + "}");
+    }`);
+  const service = new Service(program);
+  const numbers = Array.from({ length: 3000 }, (_, at) => String(at));
+  assert.deepEqual(await outcomes(numbers.map((each) => service.answer(each))), numbers);
+  assert.equal(starts(), 2);
+  await service.close();
+});
+
+/** Has no answer to a document that begins with `"wait`. */
+const WAITING = `
+  for await (const line of lines) {
+    if (!line.startsWith('"wait')) {
+      console.log('{"answer":' + line + "}");
+    }
+  }`;
+
+test("a small document doesn't wait for a large one", async () => {
+  const service = new Service(programOf(WAITING).program, 2);
+  const large = () => service.answer(`"wait${"x".repeat(1 << 17)}"`);
+  const first = large();
+  const numbers = Array.from({ length: 100 }, (_, at) => String(at));
+  assert.deepEqual(await outcomes(numbers.map((each) => service.answer(each))), numbers);
+  const held = [first, large(), service.answer("1")];
+  service.kill();
+  assert.deepEqual(await outcomes(held), Array(3).fill("ProgramEnd"));
+});
+
+test("a document that is aborted loses its process, the others of the process get their answers", async () => {
+  const { program, starts } = programOf(WAITING);
+  const service = new Service(program);
+  assert.equal(String(await service.answer('"a"')), '"a"');
+  const controller = new AbortController();
+  const aborted = service.answer('"wait"', controller.signal);
+  const others = ["1", "2"].map((each) => service.answer(each));
+  const waiting = service.answer(`"${"x".repeat(1 << 17)}"`, controller.signal);
+  controller.abort(new Error("enough"));
+  await assert.rejects(aborted, { message: "enough" });
+  await assert.rejects(waiting, { message: "enough" });
+  assert.deepEqual(await outcomes(others), ["1", "2"]);
+  assert.equal(starts(), 2);
+  await service.close();
+});
+
+test("a pool that is ended rejects what has no answer, and takes nothing more", async () => {
+  const service = new Service(programOf(WAITING).program, 2);
+  const held = ['"wait1"', '"wait2"', `"wait${"x".repeat(1 << 17)}"`].map((each) => service.answer(each));
+  service.kill();
+  assert.deepEqual(await outcomes([...held, service.answer("1")]), Array(4).fill("ProgramEnd"));
+});
+
+test("a program that can't be started is an error of each document", async () => {
+  const service = new Service("/none/modinfo");
+  const documents = [service.answer("1"), service.answer("2")];
+  assert.deepEqual(await outcomes(documents), ["ProgramEnd", "ProgramEnd"]);
+  await assert.rejects(service.answer("3"), /^ProgramEnd: \/none\/modinfo can't be started: spawn .*ENOENT/);
+  const last = service.answer("4");
+  const closed = service.close();
+  assert.deepEqual(await outcomes([last, closed]), ["ProgramEnd", "undefined"]);
+});
+
+test("a name that no program can have is an error of each document", async () => {
+  const service = new Service("a\0b");
+  assert.deepEqual(await outcomes([service.answer("1"), service.answer("2")]), ["ProgramEnd", "ProgramEnd"]);
+  await service.close();
+});
+
+test("where no more files can be opened, each document is rejected", () => {
+  const script = `
+    import { openSync } from "node:fs";
+    import { documentCommand } from ${JSON.stringify(new URL("../src/runtime/commands.mjs", import.meta.url).href)};
+    import { Pool } from ${JSON.stringify(new URL("../src/runtime/pool.mjs", import.meta.url).href)};
+    try { for (;;) openSync("/dev/null"); } catch {}
+    const service = new Pool(documentCommand("cat", "analyze"), 2);
+    const settled = await Promise.allSettled([service.run("1\\n"), service.run("2\\n")]);
+    await service.close();
+    settled.forEach(({ reason }) => process.stdout.write(reason + "\\n"));`;
+  const line = 'ulimit -n 60; exec "$0" --input-type=module';
+  const { stdout, stderr, status } = spawnSync("bash", ["-c", line, process.execPath], { input: script });
+  assert.match(String(stdout), /^(ProgramEnd: cat can't be started: spawn cat EMFILE .*\n){2}$/);
+  assert.deepEqual([String(stderr), status], ["", 0]);
+});
+
+test("after what is no answer nothing that the process prints is one", async () => {
+  const { program, starts } = programOf(`
+    for await (const line of lines) {
+      console.log({ 1: "modinfo", 2: '{"fault":2}', 3: '{"answer":3}\\n{"answer":4}' }[line] ?? '{"answer":' + line + "}");
+    }`);
+  const service = new Service(program);
+  for (const [wrong, printed] of [["1", "modinfo"], ["2", '{"fault":2}']]) {
+    const [refused, ...others] = await settled([service.answer(wrong), service.answer("5"), service.answer("6")]);
+    assert.equal(String(refused.reason), `ProgramEnd: ${program} prints what is no answer: ${printed}`);
+    assert.deepEqual(others.map(({ value }) => String(value)), ["5", "6"]);
+  }
+  assert.equal(String(await service.answer("3")), "3");
+  assert.equal(String(await service.answer("5")), "5");
+  assert.ok(starts() > 4);
+  await service.close();
+});
+
+test("closing waits for the answers, and takes no more documents", async () => {
+  const service = new Service(MODINFO);
+  const answers = ["a", "b"].map((name) => service.answer(document(name)));
+  const closed = service.close();
+  await assert.rejects(service.answer(document("c")), ProgramEnd);
+  await closed;
+  assert.deepEqual((await Promise.all(answers)).map(specifierOf), ["a", "b"]);
+  await new Service(MODINFO).close();
+});
+
 /** @param {number} end */
-async function* numbers(end) {
+async function* numbersTo(end) {
   for (let at = 0; at < end; at++) {
     yield at;
   }
 }
-
-/**
- * The results of tasks in a pool, or the names of their errors, in the order of the tasks.
- * @param {URL} worker
- * @param {number} jobs
- * @param {AsyncIterable<number>} tasks
- * @param {{ most?: number, perWorker?: number, data?: unknown }} options
- */
-async function results(worker, jobs, tasks, { most = 40, ...options } = {}) {
-  const pool = new Pool(worker, { jobs, ...options });
-  const run = (/** @type {number} */ task) => pool.run(task).catch((error) => error.name);
-  const found = await all(inOrder(tasks, most, run));
-  await pool.close();
-  return found;
-}
-
-test("results keep the order of the tasks, whichever is done first", async () => {
-  const worker = workerOf(`async (task) => (await sleep((task * 7) % 30), task)`);
-  for (const jobs of [1, 3]) {
-    assert.deepEqual(await results(worker, jobs, numbers(100)), await all(numbers(100)));
-  }
-});
-
-test("at most so many workers run, and no more than there are tasks", async () => {
-  const worker = workerOf(`async (task) => (await sleep(5), threadId)`);
-  /**
-   * @param {number} jobs
-   * @param {number} tasks
-   */
-  const threads = async (jobs, tasks) => new Set(await results(worker, jobs, numbers(tasks))).size;
-  assert.equal(await threads(3, 60), 3);
-  assert.equal(await threads(4, 2), 2);
-  assert.equal(await threads(1, 10), 1);
-});
-
-test("a worker may get some tasks before another is started", async () => {
-  const worker = workerOf(`async (task) => (await sleep(5), threadId)`);
-  /** @param {number} tasks */
-  const threads = async (tasks) => new Set(await results(worker, 4, numbers(tasks), { perWorker: 8 })).size;
-  assert.deepEqual([await threads(8), await threads(9), await threads(60)], [1, 2, 4]);
-});
-
-test("a result may be bytes that are handed over", async () => {
-  const folder = folderOf({
-    "worker.mjs": `
-import { serve } from ${JSON.stringify(SERVE)};
-serve(async (task) => {
-  const bytes = new TextEncoder().encode("é".repeat(task));
-  return { result: { bytes }, transfer: [bytes.buffer] };
-}, async () => {});`,
-  });
-  const worker = pathToFileURL(join(folder, "worker.mjs"));
-  const found = await results(worker, 2, numbers(20));
-  assert.deepEqual(found.map(({ bytes }) => bytes.length), (await all(numbers(20))).map((n) => 2 * n));
-});
 
 test("tasks are taken up only as results are", async () => {
   let [started, running, most] = [0, 0, 0];
@@ -101,7 +297,7 @@ test("tasks are taken up only as results are", async () => {
     running--;
     return task;
   };
-  const found = inOrder(numbers(1000), 10, run);
+  const found = inOrder(numbersTo(1000), 10, run);
   for (let at = 0; at < 5; at++) {
     assert.equal((await found.next()).value, at);
   }
@@ -109,7 +305,7 @@ test("tasks are taken up only as results are", async () => {
     await new Promise(setImmediate);
   }
   assert.ok(started <= 15);
-  assert.deepEqual(await all(found), (await all(numbers(1000))).slice(5));
+  assert.deepEqual(await all(found), (await all(numbersTo(1000))).slice(5));
   assert.ok(most <= 10);
 });
 
@@ -126,109 +322,3 @@ test("a result doesn't wait for the next task", async () => {
   assert.deepEqual(await all(found), [2]);
 });
 
-test("a task over which workers end is the only one that is lost", async () => {
-  const worker = workerOf(`async (task) => (task % 40 === 17 ? process.exit(1) : task)`);
-  const found = await results(worker, 2, numbers(120));
-  const expected = (await all(numbers(120))).map((n) => (n % 40 === 17 ? "WorkerEnd" : n));
-  assert.deepEqual(found, expected);
-});
-
-test("a worker that is out of memory ends with that code", async () => {
-  const worker = workerOf(`async (task) => {
-    const kept = [];
-    while (task) {
-      kept.push(new Array(1000).fill(task));
-    }
-    return task;
-  }`);
-  const pool = new Pool(worker, { jobs: 1, resourceLimits: { maxOldGenerationSizeMb: 20 } });
-  await assert.rejects(pool.run(1), { code: "ERR_WORKER_OUT_OF_MEMORY" });
-  assert.equal(await pool.run(0), 0);
-  await pool.close();
-});
-
-test("an error of a worker's code is reported", async () => {
-  const pool = new Pool(workerOf(`async () => { throw new Error("wrong"); }`), { jobs: 1 });
-  await assert.rejects(pool.run(1), (error) => error instanceof WorkerEnd && error.message === "wrong");
-  await pool.close();
-});
-
-test("where workers can't be started, each task is rejected at once", async () => {
-  const folder = folderOf({ "worker.mjs": "import 'none';" });
-  const pool = new Pool(pathToFileURL(join(folder, "worker.mjs")), { jobs: 2 });
-  const runs = await settled(Array.from({ length: 50 }, (_, at) => pool.run(at)));
-  assert.ok(runs.every(({ reason }) => /Cannot find package 'none'/.test(reason.message)));
-  assert.ok(runs.every(({ reason }) => !(reason instanceof WorkerEnd)));
-  await pool.close();
-});
-
-/**
- * Data with which some workers can't be started.
- * @param {number[]} refused which ones, the first being 1
- */
-function dataRefused(refused) {
-  let starts = 0;
-  return {
-    get start() {
-      starts++;
-      return refused.includes(starts) ? assert.fail(`the start ${starts} is refused`) : starts;
-    },
-  };
-}
-
-test("where node starts no worker, each task is rejected with its error", async () => {
-  const pool = new Pool(new URL("http://a/"), { jobs: 1 });
-  const refused = { code: "ERR_INVALID_URL_SCHEME" };
-  await Promise.all([1, 2, 3].map((task) => assert.rejects(pool.run(task), refused)));
-  await assert.rejects(pool.run(4), refused);
-  await pool.close();
-});
-
-test("where node starts no second worker, the first one does all tasks", async () => {
-  const worker = workerOf(`async (task) => (await sleep(1), [workerData.start, task])`);
-  const found = await results(worker, 3, numbers(100), { data: dataRefused([2]) });
-  assert.deepEqual(found, (await all(numbers(100))).map((task) => [1, task]));
-});
-
-test("where node starts none for one that has ended, what waits is rejected, and later tasks aren't", async () => {
-  const worker = workerOf(`async (task) => (task < 20 ? process.exit(1) : task)`);
-  const pool = new Pool(worker, { jobs: 1, data: dataRefused([2]) });
-  const refused = { message: "the start 2 is refused" };
-  await Promise.all((await all(numbers(40))).map((task) => assert.rejects(pool.run(task), refused)));
-  assert.equal(await pool.run(20), 20);
-  await pool.close();
-});
-
-test("where further workers end before they are ready, the one that there is does all tasks", async () => {
-  const worker = workerOf(`Atomics.add(workerData, 0, 1) > 0 ? process.exit(1) : async (task) => task`);
-  const data = new Int32Array(new SharedArrayBuffer(4));
-  assert.deepEqual(await results(worker, 3, numbers(100), { data }), await all(numbers(100)));
-  assert.deepEqual([...data], [3]);
-});
-
-test("closing ends a worker that is at work, and rejects its task", async () => {
-  const worker = workerOf(`(task) => task && new Promise(() => setInterval(() => {}, 1000))`);
-  const pool = new Pool(worker, { jobs: 1 });
-  assert.equal(await pool.run(0), 0);
-  const lost = assert.rejects(pool.run(1), { name: "WorkerEnd", message: "the pool is closed" });
-  await pool.close();
-  await lost;
-  await assert.rejects(pool.run(0), { name: "WorkerEnd", message: "the pool is closed" });
-});
-
-test("node doesn't end while a pool closes to which a late result comes", () => {
-  const worker = workerOf(`async (task) => (await sleep(10 * task), task)`);
-  const pool = new URL("../src/runtime/pool.mjs", import.meta.url).href;
-  // The second result comes while this thread is busy, so it is there, unread, when the pool closes.
-  const { stdout, stderr, status } = spawnSync(process.execPath, ["--input-type=module", "--eval", `
-    import { Pool } from ${JSON.stringify(pool)};
-    const pool = new Pool(new URL(${JSON.stringify(worker.href)}), { jobs: 1 });
-    const late = pool.run(1).catch(() => {});
-    await pool.run(0);
-    Atomics.wait(new Int32Array(new SharedArrayBuffer(4)), 0, 0, 300);
-    await pool.close();
-    await late;
-    console.log("closed");
-  `]);
-  assert.deepEqual([String(stdout), String(stderr), status], ["closed\n", "", 0]);
-});

@@ -5,7 +5,7 @@ import { spawnSync } from "node:child_process";
 import { test } from "node:test";
 
 import { Progress } from "../src/cli/common/progress.mjs";
-import { STAND_IN, folderOf, programOf } from "./run_commands.mjs";
+import { MODINFO, folderOf, programOf } from "./run_commands.mjs";
 
 /**
  * What a stream was written.
@@ -53,7 +53,7 @@ test("files.mjs on a terminal", { skip: !hasScript && "script isn't installed" }
   const command = `${process.execPath} ${programOf("files.mjs")} ${folder}`;
   /** @param {string} line */
   const onTerminal = (line) => String(spawnSync("script", ["-qec", line, "/dev/null"], {
-    env: { ...process.env, MODINFO: STAND_IN, SHELL: "/bin/sh" },
+    env: { ...process.env, MODINFO, SHELL: "/bin/sh" },
   }).stdout);
   assert.match(onTerminal(`${command} > /dev/null`), /\r\x1b\[K\d of 2 files, \d faults?/);
   assert.doesNotMatch(onTerminal(command), /of 2 files/);

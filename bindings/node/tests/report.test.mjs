@@ -93,7 +93,7 @@ test("a file that is named twice is there once, and so is what is reported of it
   const { stderr } = make(folder, words);
   const excerpt = "  | let b = ;\n  |         ^";
   const gaps = `${NAME}: of what is reached 1 file can't be read or parsed: more may be reached than is known\n`;
-  assert.equal(stderr, `${NAME}: src/wrong.ts:1:9: Expression expected.\n${excerpt}\n${gaps}`);
+  assert.equal(stderr, `${NAME}: src/wrong.ts:1:9: expected an expression\n${excerpt}\n${gaps}`);
   const { modules, entries } = dataOf(join(folder, "report.html"));
   assert.deepEqual([modules.length, entries], [4, [3]]);
 });
@@ -111,7 +111,7 @@ test("a file without an answer is reported, is in the page with its position, an
   const { stderr, status } = make(folder, ["."]);
   const excerpt = "  | let b = ;\n  |         ^";
   assert.equal(
-    stderr, `${NAME}: a.ts:2:9: Expression expected.\n${excerpt}\n${NAME}: b.ts: the file is not UTF-8\n`,
+    stderr, `${NAME}: a.ts:2:9: expected an expression\n${excerpt}\n${NAME}: b.ts: the file isn't UTF-8\n`,
   );
   assert.equal(status, 1);
   const { modules, lists } = dataOf(join(folder, "report.html"));

@@ -10,7 +10,7 @@ import { Links, countEdges, edgesOf } from "../src/report/links.mjs";
 import { listsOf } from "../src/report/lists.mjs";
 import { outsideOf } from "../src/report/outside.mjs";
 import { gridOf, shelvesOf } from "../src/report/page/layout_grid.js";
-import { curveOf, pointOnCurve } from "../src/report/page/layout_curves.js";
+import { curveOf, placeOfCount, pointsOnCurve } from "../src/report/page/layout_curves.js";
 import { folderOf } from "./run_commands.mjs";
 
 /**
@@ -219,5 +219,17 @@ test("a curve begins and ends at its points, and a count is on it", () => {
   assert.equal(curveOf(points), "M0 0Q10 20 20 20Q30 20 40 0");
   assert.equal(curveOf(points.slice(0, 2)), "M0 0L10 20");
   // Half way along the first of its quadratic curves: (start + 2 bend + end) / 4.
-  assert.deepEqual(pointOnCurve(points, { x: 11, y: 20 }), { x: 10, y: 15 });
+  const [middle, ...others] = pointsOnCurve(points, { x: 11, y: 20 });
+  assert.deepEqual(middle, { x: 10, y: 15 });
+  assert.ok(others.every(({ x, y }) => x > 0 && x < 20 && y > 0 && y < 20 && x !== 10), JSON.stringify(others));
+});
+
+test("counts on edges don't overlap where there is room along a curve", () => {
+  const points = [{ x: 50, y: 50 }, { x: 50, y: 60 }, { x: 50, y: 70 }, { x: 80, y: 50 }];
+  /** @type {{ x: number, y: number, width: number }[]} */
+  const counts = [];
+  const places = [2, 3, 1000, 4].map((count) => placeOfCount(points, count, counts));
+  // Each is 16 high, and 8 and 7 for each character wide.
+  assert.deepEqual(places, [points[0], points[2], points[3], points[0]]);
+  assert.deepEqual(counts.map(({ width }) => width), [15, 15, 43, 15]);
 });

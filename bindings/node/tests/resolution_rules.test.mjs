@@ -190,6 +190,33 @@ test("a deno.json: its import map, scopes, workspace, and files as ES modules", 
   assert.deepEqual(found(folder, "member/mod.ts", ["own", "~/b.ts"], { notices }), ["member/mod.ts by importmap", "src/b.ts by importmap"]);
 });
 
+test("what is kept of a name is for files of one folder with the same rules, and for its kind", () => {
+  const paths = (/** @type {string} */ file, /** @type {string} */ target) => {
+    return JSON.stringify({ include: [file], compilerOptions: { paths: { x: [target] } } });
+  };
+  const files = ["a.js", "a.ts", "b.ts", "both.js", "both.ts", "one.ts", "two.ts", "in/both.js"];
+  const folder = folderOf({
+    "tsconfig.json": `{"files":[],"references":[{"path":"./one.json"},{"path":"./two.json"}]}`,
+    "one.json": paths("a.ts", "./one.ts"), "two.json": paths("b.ts", "./two.ts"),
+    "deno/deno.json": `{"imports":{"x":"./one.ts"},"scopes":{"./b.ts":{"x":"./two.ts"}}}`,
+    "node_modules/p/package.json": `{"exports":{"import":"./one.mjs","require":"./two.cjs"}}`,
+    "node_modules/p/one.mjs": "", "node_modules/p/two.cjs": "",
+    ...Object.fromEntries(["", "deno/"].flatMap((each) => files.map((name) => [each + name, ""]))),
+  });
+  const resolver = createResolver({ root: folder });
+  /** @type {[from: string, name: string, kind: NameKind, expected: string][]} */
+  const expected = [
+    ["a.ts", "x", "import", "one.ts"], ["b.ts", "x", "import", "two.ts"], ["a.ts", "x", "import", "one.ts"],
+    ["a.ts", "./both", "import", "both.ts"], ["a.js", "./both", "import", "both.js"], ["in/both.js", "./both", "import", "in/both.js"],
+    ["deno/a.ts", "x", "import", "deno/one.ts"], ["deno/b.ts", "x", "import", "deno/two.ts"],
+    ["a.js", "p", "import", "node_modules/p/one.mjs"], ["a.js", "p", "require", "node_modules/p/two.cjs"],
+  ];
+  for (const [from, name, kind, file] of expected) {
+    const resolved = /** @type {any} */ (resolver.resolve(name, join(folder, from), { kind }));
+    assert.equal(resolved.file && relative(folder, fileURLToPath(resolved.file)), file, `${name} in ${from}`);
+  }
+});
+
 test("names that can be none are missing before any rule, and URLs have their classes", () => {
   const folder = folderOf({ "a.js": "", "b.js": "", "package.json": `{"type":"module","imports":{"#fs":"fs/promises","#p":"path"}}` });
   const long = `./${"a/".repeat(2046)}b`;

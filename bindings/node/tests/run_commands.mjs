@@ -11,15 +11,12 @@ import { fileURLToPath, pathToFileURL } from "node:url";
  * @typedef {object} RunOptions
  * @property {string} [cwd]
  * @property {string | Uint8Array} [input]
- * @property {string} [modinfo] the path of the program; else the second `modinfo`
+ * @property {string} [modinfo] the path of the program
  */
 
 /** @typedef {{ stdout: string, stderr: string, status: number | null }} Ended */
 
-/** The second `modinfo`, which is there without a build. */
-export const STAND_IN = fileURLToPath(new URL("./stand_in.mjs", import.meta.url));
-
-/** The program itself, where it is made. */
+/** The program, which the tests need. */
 export const MODINFO = process.env.MODINFO ?? fileURLToPath(new URL("../../../build/modinfo", import.meta.url));
 
 /**
@@ -59,8 +56,8 @@ export function programOf(name) {
  * @param {RunOptions} options
  * @returns {Ended}
  */
-export function run(name, words, { cwd, input = "", modinfo = STAND_IN } = {}) {
-  const command = [programOf(name), ...threadsFor(name, words), ...words];
+export function run(name, words, { cwd, input = "", modinfo = MODINFO } = {}) {
+  const command = [programOf(name), ...words];
   const { stdout, stderr, status } = spawnSync(process.execPath, command, {
     cwd,
     input,
@@ -71,24 +68,13 @@ export function run(name, words, { cwd, input = "", modinfo = STAND_IN } = {}) {
 }
 
 /**
- * Two threads, where the words don't say how many: each loads a parser, and the files of a test are few.
- * @param {string} name
- * @param {string[]} words
- * @returns {string[]}
- */
-export function threadsFor(name, words) {
-  const hasThreads = ["files.mjs", "report.mjs"].includes(name);
-  return hasThreads && !words.includes("--jobs") ? ["--jobs", "2"] : [];
-}
-
-/**
  * Runs a line of the shell, in which `$node` and `$cli` are there.
  * @param {string} line
  * @param {string} cwd
  * @returns {Ended}
  */
 export function shell(line, cwd) {
-  const env = { ...process.env, MODINFO: STAND_IN, node: process.execPath, cli: programOf(".") };
+  const env = { ...process.env, MODINFO, node: process.execPath, cli: programOf(".") };
   const { stdout, stderr, status } = spawnSync("bash", ["-c", line], { cwd, env });
   return { stdout: String(stdout), stderr: String(stderr), status };
 }

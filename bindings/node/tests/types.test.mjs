@@ -151,8 +151,8 @@ test("the types are what the schemas say", { skip }, () => {
     ["report", "runtime/check_report", "Report"],
   ]) {
     mkdirSync(join(folder, dirname(file)), { recursive: true });
-    copyFileSync(join(PACKAGE, `src/${file}.d.mts`), join(folder, `${file}.d.mts`));
-    checks.push(`import type { ${type} } from "./${file}.mjs";`);
+    copyFileSync(join(PACKAGE, `src/${file}.d.cts`), join(folder, `${file}.d.cts`));
+    checks.push(`import type { ${type} } from "./${file}.cjs";`);
     for (const [at, change] of [() => {}, ...CHANGES[name]].entries()) {
       const schema = readSchema(name);
       change(schema);

@@ -1,21 +1,9 @@
-/** TypeScript, read by the adapter of TypeScript's compiler API. */
+/** What the program finds in TypeScript. */
 
 import assert from "node:assert/strict";
 import { test } from "node:test";
 
-import { isAtLeast, loadParser } from "../src/parsers/installed_parsers.mjs";
-import { toDocument } from "../src/parsers/typescript/index.mjs";
-import { documentOf, typescriptAnswer } from "./documents.mjs";
-import { unchecked } from "./unchecked.mjs";
-
-const typescript = loadParser("typescript");
-
-/**
- * For syntax that came after the TypeScript that is installed.
- * @param {number} major
- * @param {number} minor
- */
-const since = (major, minor) => ({ skip: !isAtLeast(typescript, major, minor) && `needs TypeScript ${major}.${minor}` });
+import { typescriptAnswer } from "./documents.mjs";
 
 /**
  * The dependencies of a text without their ranges.
@@ -34,11 +22,6 @@ function dependencies(text, mediaType) {
 function place(text) {
   const [{ specifierRange, argumentRange }] = typescriptAnswer(text).dependencies;
   return specifierRange ?? argumentRange;
-}
-
-/** @param {string} text */
-function body(text, mediaType = "TypeScript") {
-  return documentOf(toDocument, text, mediaType).program.body;
 }
 
 test("type-only imports and exports", () => {
@@ -66,36 +49,10 @@ test("export type * from", () => {
   ]);
 });
 
-test("import defer", since(5, 9), () => {
+test("import defer", () => {
   assert.deepEqual(dependencies(`import defer * as a from "a"; import.defer("b")`), [
     { kind: "importDefer", specifier: "a" }, { kind: "importDefer", argument: "b" },
   ]);
-});
-
-test("import-equals", () => {
-  const text = `export import value = require("./a.js");\nimport value2 = require("./b.js");`;
-  assert.deepEqual(typescriptAnswer(text), {
-    script: true,
-    dependencies: [
-      { type: "static", kind: "exportEquals", specifier: "./a.js", specifierRange: [[0, 30], [0, 38]] },
-      { type: "static", kind: "importEquals", specifier: "./b.js", specifierRange: [[1, 24], [1, 32]] },
-    ],
-  });
-  assert.deepEqual(body(text).map(({ range }) => range), [[0, 40], [41, 75]]);
-  assert.deepEqual(typescriptAnswer("import a = b.c; export import d = b.c;"), { script: true });
-  assert.deepEqual(dependencies(`namespace a { import b = require("c"); import d = a.e; }`), [
-    { kind: "importEquals", specifier: "c" },
-  ]);
-});
-
-test("import types", () => {
-  assert.deepEqual(dependencies(`let a: import("a").B<import("b").C<typeof import("c")>>;`), [
-    { kind: "importType", specifier: "a" }, { kind: "importType", specifier: "b" }, { kind: "importType", specifier: "c" },
-  ]);
-  assert.deepEqual(place(`let a: typeof import("a").b;`), [[0, 21], [0, 24]]);
-  const [item] = body(`let a: typeof /* import */ import("a").b<c>;`);
-  assert.deepEqual(item.children[0].range, [27, 43]);
-  assert.deepEqual(dependencies(`function f(a: import("a")): asserts a is import("b") {}`).map((each) => each.specifier), ["a", "b"]);
 });
 
 test("attributes of import types", () => {
@@ -103,7 +60,6 @@ test("attributes of import types", () => {
   const attributes = (text) => dependencies(`let a: import("a", ${text})`)[0].importAttributes;
   assert.deepEqual(attributes(`{ with: { "resolution-mode": "import" } }`), { known: { "resolution-mode": "import" } });
   assert.deepEqual(attributes(`{ assert: { "resolution-mode": "require" } }`), { known: { "resolution-mode": "require" } });
-  assert.deepEqual(attributes(`{ with: { "resolution-mode": a } }`), { known: { "resolution-mode": null } });
 });
 
 test("attributes of declarations", () => {
@@ -115,50 +71,11 @@ test("attributes of declarations", () => {
   assert.deepEqual(dependencies(`import a from "a" with {};\nimport b from "b" with { type: "text" };`)[1].importAttributes, { known: { type: "text" } });
 });
 
-test("a later version's names of the clauses", () => {
-  const text = `import a from "a" assert { type: "json" }; let b: import("b", { assert: { c: "d" } });`;
-  const tree = typescript.createSourceFile("a.ts", text, { languageVersion: typescript.ScriptTarget.Latest });
-  const [declaration, { declarationList: { declarations: [{ type }] } }] = tree.statements;
-  /**
-   * @param {object} node
-   * @param {unknown} attributes
-   */
-  const rename = (node, attributes) => Object.assign(node, { attributes, assertClause: undefined, assertions: undefined });
-  rename(declaration, declaration.attributes ?? declaration.assertClause);
-  rename(type, type.attributes ?? type.assertions.assertClause);
-  const document = documentOf(toDocument, text, "TypeScript", { typescript, tree });
-  assert.deepEqual(document, documentOf(toDocument, text, "TypeScript"));
-});
-
-test("a call of a meta property that is no phase is none", () => {
-  for (const name of ["toString", "constructor", "__proto__", "meta", "phase"]) {
-    assert.deepEqual(dependencies(`import.${name}("a");`), [], name);
-  }
+test("calls of the phases of an import", () => {
+  assert.deepEqual(dependencies(`import.meta("a");`), []);
   assert.deepEqual(dependencies(`import.defer("a"); import.source("b");`), [
     { kind: "importDefer", argument: "a" }, { kind: "importSource", argument: "b" },
   ]);
-});
-
-test("a tree is that of the text", () => {
-  const tree = typescript.createSourceFile("a.ts", "a", typescript.ScriptTarget.Latest);
-  const options = { specifier: "file:///a.ts", typescript, tree };
-  assert.equal(toDocument("a", options).source, "a");
-  const noTree = { ...options, tree: unchecked({}) };
-  for (const wrong of [() => toDocument("b", options), () => toDocument("a", noTree)]) {
-    assert.throws(wrong, { name: "TypeError", message: "the tree must be a SourceFile of the text" });
-  }
-});
-
-test("a tree that has more than the text, after an await at the top", () => {
-  const text = `await [1, ...a];\nimport "b";`;
-  const tree = typescript.createSourceFile("a.ts", text, typescript.ScriptTarget.Latest);
-  const document = documentOf(toDocument, text, "TypeScript", { typescript, tree });
-  assert.deepEqual(document, documentOf(toDocument, text, "TypeScript"));
-  assert.deepEqual(document.program.body.map(({ kind }) => kind), ["Other", "ImportDecl"]);
-  const other = { ...typescript, TransformFlags: undefined };
-  const simple = `await { a };\nimport "b";`;
-  const [first, second, ...more] = documentOf(toDocument, simple, "TypeScript", { typescript: other }).program.body;
-  assert.deepEqual([first.kind, second.kind, more], ["Other", "ImportDecl", []]);
 });
 
 test("module declarations", () => {
@@ -175,13 +92,6 @@ test("module declarations", () => {
   ]);
   assert.equal(typescriptAnswer(text).script, true);
   assert.deepEqual(place(`declare module 'a';`), [[0, 15], [0, 18]]);
-});
-
-test("an exported module declaration begins after the export", () => {
-  const [item] = body(`export /* a */ declare module "b" { import "c"; }`);
-  assert.equal(item.kind, "ExportOther");
-  assert.deepEqual(item.children[0].range, [15, 49]);
-  assert.deepEqual(body(`export namespace a { import "b"; }`)[0].children.map(({ kind }) => kind), ["ImportDecl"]);
 });
 
 test("what is a script", () => {
@@ -202,16 +112,9 @@ test("what is a script", () => {
   assert.equal(isScript("const a = await [b];", "JavaScript"), false);
 });
 
-test("await using", since(5, 2), () => {
+test("await using", () => {
   assert.equal(typescriptAnswer("await using a = b;").script, undefined);
   assert.equal(typescriptAnswer("async () => { await using a = b; }").script, true);
-});
-
-test("an export with decorators begins with them", () => {
-  const text = `/// <reference path="a" />\n@b(import("c")) export class D {}`;
-  assert.equal(typescriptAnswer(text).tsReferences.length, 1);
-  assert.deepEqual(body(text).map(({ kind, range }) => [kind, range]), [["ExportOther", [27, 60]]]);
-  assert.deepEqual(dependencies(text), [{ argument: "c" }]);
 });
 
 test("casts and assertions are no literals", () => {
@@ -219,12 +122,6 @@ test("casts and assertions are no literals", () => {
     assert.deepEqual(dependencies(`import(${unknown})`), [{}], unknown);
   }
   assert.deepEqual(dependencies(`require<import("a")>("b")`), [{ kind: "importType", specifier: "a" }, { kind: "require", argument: "b" }]);
-});
-
-test("where TypeScript's parser takes more than a string, it is an error", () => {
-  for (const text of ["import a from b", "export * from `a`", "import a = require(b)", "let a: import(b)"]) {
-    assert.throws(() => toDocument(text, { specifier: "file:///a.ts", mediaType: "TypeScript" }), { name: "SourceFault", line: 1 }, text);
-  }
 });
 
 test("each media type is parsed as its own", () => {
@@ -237,29 +134,6 @@ test("each media type is parsed as its own", () => {
   for (const mediaType of ["Dts", "Dmts", "Dcts"]) {
     assert.deepEqual(dependencies(`export declare const a: import("a");`, mediaType).length, 1);
   }
-});
-
-test("a comment that only looks like a reference is no error", () => {
-  const text = `
-    /// <reference types=./b />
-    /// <reference />
-    /// <reference none="c" />
-    /// <reference types="d" resolution-mode="none" />
-    /// <amd-module name="e" />
-    /// <amd-module name="f" />
-    // @ts-check
-    import "g";
-  `;
-  for (const mediaType of ["TypeScript", "JavaScript", "Dts", "Mts"]) {
-    assert.deepEqual(dependencies(text, mediaType), [{ kind: "import", specifier: "g", sideEffect: true }]);
-    const script = `${text.replace('import "g"', "var await")} //`;
-    assert.equal(mediaType === "Mts" || typescriptAnswer(script, mediaType).script, true);
-  }
-  assert.deepEqual(typescriptAnswer(text).tsReferences.map((each) => each.text), ["d"]);
-  const wrong = { name: "SourceFault", line: 9 };
-  /** @param {string} more */
-  const refused = (more) => toDocument(text + more, { specifier: "file:///a.ts", mediaType: "TypeScript" });
-  assert.throws(() => refused("let a = ;"), { ...wrong, line: 10 });
 });
 
 test("an identifier may be spelled with escapes", () => {

@@ -1,7 +1,6 @@
 """What the tests take from the repository."""
 
 import sys
-from collections.abc import Iterator
 from pathlib import Path
 from typing import Any
 
@@ -13,25 +12,15 @@ CASES = ROOT / "crates/test_replay/data"
 
 sys.path.append(str(EXAMPLES / "embedding"))
 
-from replay import blocks, check_cases, program_cases  # noqa: E402
+from replay import CHECKED, COMMANDS, blocks, check_cases, examples, program_cases  # noqa: E402
+
+# In C these have no function that reads a document.
+COMMANDS["analyze", "--source"] = "analyze_source"
+CHECKED["--source",] = CHECKED["analyze", "--source"] = "analyze_source"
 
 __all__ = ["CASES", "EXAMPLES", "ROOT", "answer", "blocks", "check_cases", "examples", "program_cases"]
 
-# Each command's documents and what has to come out.
-ENDINGS = {
-    "analyze": (".json", ".out.json"),
-    "convert": (".convert.json", ".converted.json"),
-    "reach": (".reach.json", ".reached.json"),
-}
-
 
 def answer(command: modinfo.Command, document: bytes) -> Any:
-    """The answer to a document of a command, of which `analyze_estree` takes the parts."""
+    """The answer to a document of a command, of which some functions take the parts."""
     return modinfo._answer(command, document)
-
-
-def examples() -> Iterator[tuple[str, Path, Path]]:
-    """Each example's command, document and expected answer."""
-    for command, (document, answer) in ENDINGS.items():
-        for expected in sorted(EXAMPLES.glob(f"*{answer}")):
-            yield command, EXAMPLES / (expected.name.removesuffix(answer) + document), expected

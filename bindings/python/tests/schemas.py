@@ -1,8 +1,11 @@
 """Types of Python, and types of the schemas in docs/, in one form."""
 
+import dataclasses
 import json
+import re
+from collections.abc import Mapping
 from types import NoneType, UnionType
-from typing import Any, Literal, Union, get_args, get_origin, get_type_hints, is_typeddict
+from typing import Any, ClassVar, Literal, Union, get_args, get_origin, get_type_hints, is_typeddict
 
 from repository import ROOT
 
@@ -58,12 +61,32 @@ def typed(annotation: Any) -> Any:
         return frozenset().union(*(typed(part) for part in parts))
     if origin is Literal:
         return frozenset(parts)
-    if origin is list:
+    if origin in (list, tuple):
         return frozenset([("array", typed(parts[0]))])
-    if origin is dict:
+    if origin in (dict, Mapping):
         return frozenset([("members", typed(parts[1]))])
+    if dataclasses.is_dataclass(annotation):
+        return frozenset([typed_dataclass(annotation)])
     if not is_typeddict(annotation):
         return frozenset([("type", NAMES[annotation])])
     required = annotation.__required_keys__
     members = {(name, name in required, typed(part)) for name, part in get_type_hints(annotation).items()}
     return frozenset([("object", frozenset(members))])
+
+
+def typed_dataclass(annotation: Any) -> Any:
+    """An array for a pair, an object for another dataclass: its fields are members in camel case, and a tag is an
+    attribute of the class."""
+    hints = get_type_hints(annotation)
+    defaults = {each.name: each.default for each in dataclasses.fields(annotation)}
+    if annotation.__base__.__name__ == "Pair":
+        [part] = set(map(typed, hints.values()))
+        return "array", part
+    members = set()
+    for name, hint in hints.items():
+        is_tag = get_origin(hint) is ClassVar
+        required = is_tag or defaults[name] is dataclasses.MISSING
+        hint = get_args(hint)[0] if is_tag else hint
+        part = typed(hint) - ({("type", "null")} if not required else set())
+        members.add((re.sub("_(.)", lambda found: found[1].upper(), name), required, part))
+    return "object", frozenset(members)

@@ -69,6 +69,11 @@ FAULTS: list[tuple[modinfo.Command, modinfo.Document, dict[str, Any]]] = [
         },
     ),
     ("analyze", with_item(hasWith=True), {"fault": "Shape", "pointer": "/program/body/0", "range": [0, 16]}),
+    (
+        "analyze_source",
+        {"specifier": "file:///a.ts", "source": "\nimport {"},
+        {"fault": "Syntax", "pointer": "/source", "at": {"line": 1, "column": 8, "offset": 9}},
+    ),
     ("convert", {"a/b": [0, 0.5]}, {"fault": "Float", "pointer": "/a~1b/1"}),
     (
         "convert",
@@ -87,7 +92,7 @@ def test_a_document_with_a_fault(command: modinfo.Command, document: modinfo.Doc
     assert "fault" in report and report["expected"] != ""
     assert {name: value for name, value in report.items() if name != "expected"} == wanted
     with pytest.raises(modinfo.Fault) as refused:
-        getattr(modinfo, command)(document)
+        modinfo._answer(command, document)
     assert refused.value.name == report["fault"]
     assert refused.value.report == report
 
@@ -150,7 +155,7 @@ def test_a_case(name: str, command: modinfo.Command, document: bytes, report: by
 
 @pytest.mark.parametrize("command", ["", "check", "Analyze", "analyze ", None, 1], ids=repr)
 def test_another_command(command: Any) -> None:
-    with pytest.raises(ValueError, match="^a command is analyze, analyze_estree, convert or reach, not "):
+    with pytest.raises(ValueError, match="^a command is analyze, analyze_estree, analyze_source, convert, reach, not "):
         modinfo.check({}, command)
 
 
@@ -165,6 +170,6 @@ def test_out_of_memory(monkeypatch: pytest.MonkeyPatch) -> None:
     call = _library.Call(refuse, refuse)
     monkeypatch.setitem(_library.COMMANDS, "analyze", _library.Command(call, call))
     for function in modinfo.check, modinfo.analyze:
-        with pytest.raises(modinfo.Fault, match="^OutOfMemory$") as refused:
+        with pytest.raises(modinfo.Fault, match="^OutOfMemory: an allocation failed$") as refused:
             function({})
         assert refused.value.report is None

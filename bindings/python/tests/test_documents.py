@@ -1,4 +1,6 @@
 import json
+from collections import ChainMap
+from types import MappingProxyType
 from typing import Any
 
 import pytest
@@ -101,6 +103,16 @@ def test_an_answer_longer_than_its_document() -> None:
     found = modinfo.analyze(document)["dependencies"]
     assert [dependency["typesSpecifier"]["text"] for dependency in found] == [types] * 200
     assert len(json.dumps(found)) > 10 * len(json.dumps(document))
+
+
+def test_mappings_that_are_no_dicts() -> None:
+    """Of any depth, as the types say."""
+    document = {
+        name: MappingProxyType(part) if name == "program" else part for name, part in SIDE_EFFECT_IMPORT.items()
+    }
+    for function in modinfo.analyze, modinfo.check, modinfo.convert:
+        assert function(MappingProxyType(document)) == function(SIDE_EFFECT_IMPORT)
+    assert modinfo.reach(MappingProxyType({"root": "a", "modules": ChainMap({"a": {}})})) == ["a"]
 
 
 def test_that_a_call_leaves_its_document_as_it_was() -> None:

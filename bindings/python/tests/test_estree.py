@@ -51,10 +51,15 @@ def document(**members: Any) -> dict[str, Any]:
     return {**parts, "program": tree(UTF16), **members}
 
 
+def program_of(*body: dict[str, Any]) -> dict[str, Any]:
+    """A program of these statements."""
+    return {"type": "Program", "body": list(body)}
+
+
 def call_of(argument: dict[str, Any], end: int) -> dict[str, Any]:
     """A program of one `import(..)` with this argument."""
     call = {"type": "ImportExpression", "range": [0, end], "source": argument}
-    return {"body": [{"type": "ExpressionStatement", "range": [0, end], "expression": call}]}
+    return program_of({"type": "ExpressionStatement", "range": [0, end], "expression": call})
 
 
 def test_a_tree() -> None:
@@ -85,19 +90,20 @@ def test_that_a_tree_is_any_mapping() -> None:
     ids=ascii,
 )
 def test_a_lone_surrogate_in_the_tree(value: str, text: str) -> None:
-    program = call_of({"type": "Literal", "range": [7, 15], "value": value}, 16)
-    [dependency] = modinfo.analyze_estree(NAME, "Mjs", r'import("\ud800")', program)["dependencies"]
+    source = f"import({json.dumps(value)})"
+    program = call_of({"type": "Literal", "range": [7, len(source) - 1], "value": value}, len(source))
+    [dependency] = modinfo.analyze_estree(NAME, "Mjs", source, program)["dependencies"]
     assert dependency["argument"] == text
 
 
 def test_a_lone_surrogate_in_the_source() -> None:
     with pytest.raises(modinfo.Fault, match="^Input at "):
-        modinfo.analyze_estree(NAME, "Mjs", "//\ud800", {"body": []}, [])
+        modinfo.analyze_estree(NAME, "Mjs", "//\ud800", program_of(), [])
 
 
 def test_a_tree_of_another_text() -> None:
     report = {"fault": "RangeOutside", "range": [0, 1], "expected": "an end of at most 0, the source's length"}
-    short: dict[str, Any] = {"body": [{"type": "EmptyStatement", "start": 0, "end": 4}]}
+    short = program_of({"type": "EmptyStatement", "start": 0, "end": 4})
     assert modinfo.check_estree(NAME, "Mjs", "", short) == report
     with pytest.raises(modinfo.Fault) as refused:
         modinfo.analyze_estree(NAME, "Mjs", "", short)
@@ -106,11 +112,11 @@ def test_a_tree_of_another_text() -> None:
 
 
 def test_a_tree_of_another_form() -> None:
-    report = modinfo.check_estree(NAME, "Mjs", "", {"body": [{"type": "EmptyStatement", "start": 0}]})
+    report = modinfo.check_estree(NAME, "Mjs", "", program_of({"type": "EmptyStatement", "start": 0}))
     assert "fault" in report
     assert (report["fault"], report["pointer"]) == ("Tree", "/program/body/0")
     with pytest.raises(modinfo.Fault, match="^Tree at /offsets: "):
-        modinfo.analyze_estree(NAME, "Mjs", "", {"body": []}, offsets="utf32")  # type: ignore[arg-type]
+        modinfo.analyze_estree(NAME, "Mjs", "", program_of(), offsets="utf32")  # type: ignore[arg-type]
 
 
 def nested(depth: int) -> dict[str, Any]:
@@ -118,7 +124,7 @@ def nested(depth: int) -> dict[str, Any]:
     block: dict[str, Any] = {"type": "BlockStatement", "range": [0, 0], "body": []}
     for _ in range(depth - 1):
         block = {**block, "body": [block]}
-    return {"body": [block]}
+    return program_of(block)
 
 
 def test_how_deep_a_tree_nests() -> None:
@@ -130,11 +136,11 @@ def test_how_deep_a_tree_nests() -> None:
 @pytest.mark.parametrize("value", [{1}, object(), b"", re.compile("a")], ids=repr)
 def test_what_no_json_holds(value: object) -> None:
     with pytest.raises(TypeError, match=f"not {type(value).__name__}$"):
-        modinfo.analyze_estree(NAME, "Mjs", "", {"body": [], "value": value})
+        modinfo.analyze_estree(NAME, "Mjs", "", {**program_of(), "value": value})
 
 
 def test_a_tree_with_links_to_parents() -> None:
-    program: dict[str, Any] = {"body": []}
+    program = program_of()
     program["parent"] = program
     with pytest.raises(ValueError, match="Circular reference"):
         modinfo.analyze_estree(NAME, "Mjs", "", program)

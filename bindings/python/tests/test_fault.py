@@ -40,7 +40,11 @@ LINES: list[tuple[FaultReport | None, str]] = [
         {"fault": "Tree", "pointer": "/\x1b[2J\n\x9b\ud800\u2028é", "expected": "a"},
         "Tree at /\\x1b[2J\\n\\x9b\\ud800\\u2028é: expected a",
     ),
-    (None, "OutOfMemory"),
+    (
+        {"fault": "Syntax", "pointer": "/source", "at": {"line": 2, "column": 6, "offset": 24}, "expected": "no `x`"},
+        "Syntax at line 3, column 7 (offset 24): no `x`",
+    ),
+    (None, "OutOfMemory: an allocation failed"),
 ]
 
 
@@ -50,3 +54,13 @@ def test_the_line_of_a_fault(report: FaultReport | None, line: str) -> None:
     assert str(fault) == line
     again = pickle.loads(pickle.dumps(fault))
     assert (type(again), again.name, again.report, str(again)) == (modinfo.Fault, fault.name, report, line)
+
+
+def test_what_a_fault_has() -> None:
+    fault = modinfo.Fault(
+        "Json", {"fault": "Json", "at": {"line": 2, "column": 6, "offset": 24}, "expected": "a value"}
+    )
+    assert (fault.message, fault.line, fault.character) == ("a value", 2, 6)
+    fault = modinfo.Fault("Input", message="No such file")
+    assert (str(fault), fault.line, fault.character, fault.report) == ("Input: No such file", None, None, None)
+    assert isinstance(fault, modinfo.Error)

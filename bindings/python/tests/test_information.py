@@ -1,4 +1,4 @@
-"""Holds the types of modinfo.information against docs/module-info.schema.json."""
+"""Compares the types of modinfo.information and of modinfo.values with docs/module-info.schema.json."""
 
 from typing import Any
 
@@ -6,30 +6,32 @@ import pytest
 from schemas import Schema, typed
 
 import modinfo
-from modinfo import information
+from modinfo import information, values
 
 SCHEMA = Schema("module-info")
 
 
-@pytest.mark.parametrize(
-    "name, annotation",
-    [
-        ("position", information.Position),
-        ("range", information.Range),
-        ("specifier", information.Specifier),
-        ("resolutionMode", information.ResolutionMode),
-        ("staticDependency", information.StaticDependency),
-        ("dynamicDependency", information.DynamicDependency),
-        ("templatePart", information.TemplatePart),
-        ("importAttributes", information.ImportAttributes),
-        ("pathReference", information.PathReference),
-        ("typesReference", information.TypesReference),
-        ("jsdocImport", information.JsdocImport),
-    ],
-)
-def test_a_type(name: str, annotation: Any) -> None:
-    assert typed(annotation) == SCHEMA.definition(name)
+NAMES = {
+    "position": "Position",
+    "range": "Range",
+    "specifier": "Specifier",
+    "resolutionMode": "ResolutionMode",
+    "staticDependency": "StaticDependency",
+    "dynamicDependency": "DynamicDependency",
+    "templatePart": "TemplatePart",
+    "importAttributes": "ImportAttributes",
+    "pathReference": "PathReference",
+    "typesReference": "TypesReference",
+    "jsdocImport": "JsdocImport",
+}
 
 
-def test_the_whole() -> None:
-    assert typed(modinfo.ModuleInfo) == SCHEMA.described()
+@pytest.mark.parametrize("module", [information, values])
+@pytest.mark.parametrize("name", NAMES)
+def test_a_type(name: str, module: Any) -> None:
+    assert typed(getattr(module, NAMES[name])) == SCHEMA.definition(name)
+
+
+@pytest.mark.parametrize("whole", [modinfo.ModuleInfoDict, modinfo.ModuleInfo])
+def test_the_whole(whole: Any) -> None:
+    assert typed(whole) == SCHEMA.described()

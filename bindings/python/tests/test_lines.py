@@ -1,10 +1,11 @@
 """Many documents, one a line, against the test cases of docs/ROWS.md that run `modinfo analyze --lines`."""
 
 import io
+import json
 from collections.abc import Callable, Iterable, Iterator
 
 import pytest
-from repository import CASES, blocks, check_cases, examples, program_cases
+from repository import CASES, EXAMPLES, blocks, check_cases, examples, program_cases
 
 import modinfo
 from modinfo import _library
@@ -27,10 +28,12 @@ Function = Callable[[Iterable[bytes], int], Iterator[bytes]]
 FUNCTIONS: dict[str, Function] = {
     "analyze": modinfo.analyze_lines,
     "analyze --estree": modinfo.analyze_estree_lines,
+    "analyze --source": lambda lines, jobs: modinfo._lines("analyze_source", lines, jobs),
     "convert": modinfo.convert_lines,
+    "reach": modinfo.reach_lines,
     "check": lambda lines, jobs: modinfo.check_lines(lines, jobs=jobs),
     "check analyze": lambda lines, jobs: modinfo.check_lines(lines, "analyze", jobs),
-    "check --estree": lambda lines, jobs: modinfo.check_lines(lines, "analyze_estree", jobs),
+    "check --estree": modinfo.check_estree_lines,
     "check analyze --estree": lambda lines, jobs: modinfo.check_lines(lines, "analyze_estree", jobs),
     "check convert": lambda lines, jobs: modinfo.check_lines(lines, "convert", jobs),
     "check reach": lambda lines, jobs: modinfo.check_lines(lines, "reach", jobs),
@@ -91,7 +94,9 @@ def test_a_number_of_jobs_that_is_none(jobs: int) -> None:
 
 
 def test_another_command() -> None:
-    with pytest.raises(ValueError, match="^a command is analyze, analyze_estree, convert or reach, not 'check'$"):
+    with pytest.raises(
+        ValueError, match="^a command is analyze, analyze_estree, analyze_source, convert, reach, not 'check'$"
+    ):
         modinfo.check_lines([], "check")  # type: ignore[arg-type]
 
 
@@ -137,3 +142,27 @@ def test_that_a_batch_is_one_call(monkeypatch: pytest.MonkeyPatch) -> None:
     monkeypatch.setitem(_library.COMMANDS, "convert", _library.Command(one, command.check))
     lines = [b"%d" % number for number in range(3 * BATCH_LINES)]
     assert list(modinfo.convert_lines(lines, 2)) == [b'{"answer":%b}\n' % line for line in lines]
+
+
+@pytest.mark.parametrize("jobs", [1, 3])
+def test_keyed_documents(jobs: int) -> None:
+    """Of each form, with the specifier first and last, and of documents with a fault."""
+    path = EXAMPLES / "page.json"
+    document, wanted = json.loads(path.read_text()), json.loads((EXAMPLES / "page.out.json").read_text())
+    turned = json.dumps(dict(reversed(document.items())))
+    escaped = path.read_text().replace(document["specifier"], document["specifier"].replace("p", "\\u0070"))
+    forms = [document, json.dumps(document), path.read_bytes(), turned, escaped, bytearray(turned.encode())]
+    found = list(modinfo.analyze_many(forms * 100, jobs))
+    assert found == [(document["specifier"], modinfo.ModuleInfo.from_dict(wanted))] * len(forms) * 100
+    broken: list[modinfo.Document] = [
+        {"specifier": "file:///a"},
+        b'{"specifier":"a:b"',
+        b"{",
+        b"[]",
+        {"specifier": 1},
+        b"\xff",
+    ]
+    keyed = [(key, str(fault).split(" ")[0]) for key, fault in modinfo.analyze_many(broken, jobs)]
+    assert keyed == [("file:///a", "Tree"), ("a:b", "Json"), ("", "Json"), ("", "Tree"), ("", "Tree"), ("", "Input")]
+    with pytest.raises(TypeError, match="^a document is a mapping, a str or bytes, not int$"):
+        list(modinfo.analyze_many([1], jobs))  # type: ignore[list-item]

@@ -1,16 +1,17 @@
 """`python -m modinfo`, against the test cases of docs/ROWS.md that run the program."""
 
+import re
 import subprocess
 import sys
 from pathlib import Path
 
 import pytest
-from repository import CASES, EXAMPLES, check_cases, examples, program_cases
+from repository import CASES, EXAMPLES, ROOT, check_cases, examples, program_cases
 
 import modinfo
 
 # Each command's words, where they aren't its name.
-WORDS = {"analyze_estree": ["analyze", "--estree"]}
+WORDS = {"analyze_estree": ["analyze", "--estree"], "analyze_source": ["analyze", "--source"]}
 
 
 def run(*words: str, input: bytes = b"") -> tuple[int, bytes, str]:
@@ -52,6 +53,20 @@ def test_lines(jobs: str) -> None:
     assert run("analyze", "--lines", "--jobs", jobs, input=line + b"\n{\n") == (0, wanted, "")
 
 
+def test_files(tmp_path: Path) -> None:
+    """The lines of docs/FORMATS.md."""
+    page = (ROOT / "docs/FORMATS.md").read_text()
+    line = re.search('{"specifier":"file:///home/b.ts",.*}', page)
+    assert line is not None
+    (tmp_path / "a.ts").write_text('import "./b.ts";')
+    (tmp_path / "b.ts").write_text("import {")
+    info = (EXAMPLES / "side-effect-import.out.json").read_text().strip()
+    wanted = [f'{{"specifier":"file://{tmp_path}/a.ts","info":{info}}}', line[0].replace("/home", str(tmp_path))]
+    status, output, errors = run("files", str(tmp_path / "a.ts"), str(tmp_path / "b.ts"))
+    assert (status, output.decode().splitlines(), errors) == (1, wanted, "")
+    assert run("files", "--jobs", "2", str(tmp_path / "a.ts")) == (0, f"{wanted[0]}\n".encode(), "")
+
+
 @pytest.mark.parametrize("words, status", [([], 0), (["--strict"], 1)])
 def test_warnings(words: list[str], status: int) -> None:
     document = (EXAMPLES / "side-effect-import.json").read_bytes().replace(b'"program":', b'"child":[],"program":')
@@ -61,7 +76,7 @@ def test_warnings(words: list[str], status: int) -> None:
         assert (code, b'"warnings"' in output) == (status, True)
 
 
-@pytest.mark.parametrize("words", [[], ["analyse"], ["analyze", "x"], ["reach", "--lines"], ["analyze", "--jobs", "0"]])
+@pytest.mark.parametrize("words", [[], ["analyse"], ["analyze", "x"], ["files"], ["check", "reach", "--source"]])
 def test_words_that_are_no_usage(words: list[str]) -> None:
     status, output, errors = run(*words)
     assert (status, output) == (2, b"")

@@ -46,5 +46,15 @@ except modinfo.Fault as fault:
     assert printed(program) == "OutOfMemory None\n"
 
 
+def test_a_text_without_memory() -> None:
+    program = """
+try:
+    modinfo.module_info(LINE, "file:///a.ts")
+except modinfo.Fault as fault:
+    print(fault)
+"""
+    assert printed(program) == "OutOfMemory: an allocation failed\n"
+
+
 def test_that_the_fault_has_a_name() -> None:
     assert "OutOfMemory" in get_args(modinfo.FaultName)

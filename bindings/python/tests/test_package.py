@@ -1,12 +1,11 @@
-import json
-import os
 import re
 import subprocess
 import sys
 from importlib.metadata import requires, version
 from pathlib import Path
 
-from repository import EXAMPLES, ROOT
+import pytest
+from repository import ROOT
 
 import modinfo
 
@@ -23,26 +22,22 @@ def test_that_the_installed_package_is_the_one_that_is_tested() -> None:
 README = (ROOT / "bindings/python/README.md").read_text()
 
 
-def printed(program: str, folder: Path, **environment: str) -> str:
+def printed(program: str, folder: Path) -> str:
     command = [sys.executable, "-I", "-c", program]
-    run = subprocess.run(command, cwd=folder, env=os.environ | environment, capture_output=True, text=True, check=False)
+    run = subprocess.run(command, cwd=folder, capture_output=True, text=True, check=False)
     assert (run.stderr, run.returncode) == ("", 0)
     return run.stdout
 
 
-def test_the_example_of_the_readme(tmp_path: Path) -> None:
-    found = re.search(r"```python\n([^`]*?)```\n\nIt prints\n\n```\n(.*?)```\n", README, re.DOTALL)
-    assert found is not None
-    assert printed(found[1], tmp_path) == found[2]
+PROGRAMS = re.findall(r"```python\n([^`]*?)```\n\nIt prints\n\n```\n(.*?)```\n", README, re.DOTALL)
 
 
-def test_the_example_with_a_parser(tmp_path: Path) -> None:
-    """With a stand-in for the parser, which has the document of an example."""
-    found = re.search(r"```python\n(.*?)```\n", README, re.DOTALL)
-    assert found is not None
-    parser = tmp_path / "modinfo-typescript"
-    parser.write_text(f"#!/bin/sh\ntr -d '\\n' < {EXAMPLES}/side-effect-import.json\n")
-    parser.chmod(0o755)
-    document = json.loads((EXAMPLES / "side-effect-import.json").read_text())
-    wanted = f"{document['specifier']} static ./b.ts\n"
-    assert printed(found[1], tmp_path, PATH=f"{tmp_path}:{os.environ['PATH']}") == wanted
+@pytest.mark.parametrize("program, output", PROGRAMS, ids=range(len(PROGRAMS)))
+def test_a_program_of_the_page(program: str, output: str, tmp_path: Path) -> None:
+    (tmp_path / "a.ts").write_text('import "./b.ts";\n')
+    (tmp_path / "b.ts").write_text("import {\n")
+    assert printed(program, tmp_path).replace(str(tmp_path), "/home") == output
+
+
+def test_that_the_page_begins_with_a_program() -> None:
+    assert README.index("```python") < README.index("## ", 3) and len(PROGRAMS) == README.count("```python")

@@ -70,6 +70,18 @@ def test_that_a_wheel_is_tagged_by_what_its_library_needs(room: Path) -> None:
     assert made(room).name.endswith(f"-py3-none-manylinux_{major}_{minor}_{os.uname().machine}.whl")
 
 
+def test_that_a_wheel_says_where_its_library_comes_from(room: Path) -> None:
+    """By the stamp beside the library; a library without a stamp has none in the wheel either."""
+    copy = copy_of(room)
+    run(copy / "make_wheel", room / "without", library=room / "library")
+    stamp = "unchecked\nsources 0\nfile 0\n"
+    (room / "library/libmodinfo.so.origin").write_text(stamp)
+    run(copy / "make_wheel", room / "with", library=room / "library")
+    with zipfile.ZipFile(made(room / "without")) as without, zipfile.ZipFile(made(room / "with")) as wheel:
+        assert set(wheel.namelist()) - set(without.namelist()) == {"modinfo/libmodinfo.so.origin"}
+        assert wheel.read("modinfo/libmodinfo.so.origin").decode() == stamp
+
+
 def test_a_checkout_that_cannot_be_written_to(room: Path) -> None:
     copy = copy_of(room)
     subprocess.run(["chmod", "-R", "a-w", copy], check=True)

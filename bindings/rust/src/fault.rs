@@ -1,3 +1,4 @@
+use serde::{Deserialize, Deserializer, Serialize, Serializer};
 use std::error::Error;
 use std::fmt;
 
@@ -8,8 +9,8 @@ macro_rules! faults {
         #[non_exhaustive]
         pub enum Fault {
             $($(#[$meaning])* $name,)*
-            /// A name that this crate doesn't list. A library of this version has no such name, but the library
-            /// that is linked may be a later one.
+            /// A name that this crate doesn't list, or why an answer can't be read. A library of this version has
+            /// neither, but the library that is linked may be a later one.
             Unknown(String),
         }
 
@@ -43,6 +44,8 @@ faults! {
     Tree,
     /// `analyze`: the specifier is no URL.
     Specifier,
+    /// `analyze --source`: the source text has a syntax error.
+    Syntax,
     /// `analyze`: a range starts after its end.
     RangeReversed,
     /// `analyze`: a range ends after the source.
@@ -71,6 +74,18 @@ impl fmt::Display for Fault {
 }
 
 impl Error for Fault {}
+
+impl Serialize for Fault {
+    fn serialize<S: Serializer>(&self, serializer: S) -> Result<S::Ok, S::Error> {
+        serializer.serialize_str(self.name())
+    }
+}
+
+impl<'de> Deserialize<'de> for Fault {
+    fn deserialize<D: Deserializer<'de>>(deserializer: D) -> Result<Self, D::Error> {
+        String::deserialize(deserializer).map(Fault::from_name)
+    }
+}
 
 #[cfg(test)]
 mod tests {

@@ -1,8 +1,10 @@
-//! What the generated types of `module_info` are made with, and their methods.
+//! What the generated types are made with, and their methods.
 
+use crate::document::JsString;
 use crate::module_info::{
     DependencyDescriptor, DynamicArgument, DynamicDependencyDescriptor, ImportAttribute,
-    ImportAttributes, StaticDependencyDescriptor,
+    ImportAttributes, Position, PositionRange, StaticDependencyDescriptor,
+    TypeScriptTypesResolutionMode,
 };
 
 /// Defines a struct of two fields that is an array in JSON.
@@ -87,6 +89,12 @@ impl ImportAttributes {
         *self == ImportAttributes::None
     }
 
+    /// Whether the known `type` is one of an asset: `text`, `bytes` or `css`.
+    #[must_use]
+    pub fn has_asset(&self) -> bool {
+        matches!(self.get("type"), Some("text" | "bytes" | "css"))
+    }
+
     /// The value of a key, if it is known.
     #[must_use]
     pub fn get(&self, key: &str) -> Option<&str> {
@@ -105,5 +113,73 @@ impl DynamicArgument {
     #[must_use]
     pub fn is_expr(&self) -> bool {
         *self == DynamicArgument::Expr
+    }
+}
+
+impl Position {
+    /// The position on a line, at a character; both count from zero.
+    #[must_use]
+    pub const fn new(line: usize, character: usize) -> Position {
+        Position { line, character }
+    }
+
+    /// The first position of a text.
+    #[must_use]
+    pub const fn zeroed() -> Position {
+        Position::new(0, 0)
+    }
+}
+
+impl PositionRange {
+    /// The empty range at the first position of a text.
+    #[must_use]
+    pub const fn zeroed() -> PositionRange {
+        PositionRange {
+            start: Position::zeroed(),
+            end: Position::zeroed(),
+        }
+    }
+
+    /// Whether a position is in the range or at its end.
+    #[must_use]
+    pub fn includes(&self, position: Position) -> bool {
+        self.start <= position && position <= self.end
+    }
+}
+
+/// Whether a specifier is resolved as `import` or as `require` resolves.
+#[derive(Clone, Copy, Debug, PartialEq, Eq, Hash)]
+pub enum ResolutionMode {
+    /// As `import` does.
+    Import,
+    /// As `require` does.
+    Require,
+}
+
+impl TypeScriptTypesResolutionMode {
+    /// The mode that `import` or `require` names. `None` for any other text.
+    #[allow(clippy::should_implement_trait)]
+    #[must_use]
+    pub fn from_str(text: &str) -> Option<TypeScriptTypesResolutionMode> {
+        match text {
+            "import" => Some(TypeScriptTypesResolutionMode::Import),
+            "require" => Some(TypeScriptTypesResolutionMode::Require),
+            _ => None,
+        }
+    }
+
+    /// The mode of the same name.
+    #[must_use]
+    pub fn as_deno_graph(&self) -> ResolutionMode {
+        match self {
+            TypeScriptTypesResolutionMode::Import => ResolutionMode::Import,
+            TypeScriptTypesResolutionMode::Require => ResolutionMode::Require,
+        }
+    }
+}
+
+impl From<&str> for JsString {
+    fn from(text: &str) -> JsString {
+        JsString::Text(text.to_owned())
     }
 }

@@ -3,7 +3,8 @@
 mod repository;
 
 use modinfo::{
-    analyze, analyze_estree, check, check_convert, check_estree, check_reach, convert, reach, Fault,
+    analyze_estree, analyze_json, check, check_convert, check_estree, check_reach, convert, reach,
+    Fault,
 };
 use repository::{blocks, examples, field, root, test_cases};
 use std::collections::BTreeSet;
@@ -100,7 +101,7 @@ fn an_answer_longer_than_its_document() {
         "leading":[{{"pos":{start},"comments":[{{"kind":"line","range":[0,{}],"text":"{comment}"}}]}}]}}"#,
         start - 1
     );
-    let answer = analyze(document.as_bytes()).expect("an answer");
+    let answer = analyze_json(document.as_bytes()).expect("an answer");
     assert_eq!(answer.matches(&types).count(), 200);
     assert!(answer.len() > 10 * document.len());
     assert!(answer.ends_with('}'));
@@ -108,7 +109,7 @@ fn an_answer_longer_than_its_document() {
 
 #[test]
 fn an_empty_document_is_no_json() {
-    assert_eq!(analyze(b"").map_err(Fault::from), Err(Fault::Json));
+    assert_eq!(analyze_json(b"").map_err(Fault::from), Err(Fault::Json));
 }
 
 #[test]
@@ -118,7 +119,10 @@ fn bytes_that_are_no_utf_8() {
         b"{\"source\":\"\xff\"}",
         b"{\"source\":\"\xed\xa0\x80\"}",
     ] {
-        assert_eq!(analyze(document).map_err(Fault::from), Err(Fault::Input));
+        assert_eq!(
+            analyze_json(document).map_err(Fault::from),
+            Err(Fault::Input)
+        );
     }
 }
 
@@ -147,7 +151,7 @@ fn a_fault_is_an_error() {
 #[test]
 fn an_error_has_the_report_on_its_document() {
     let document = br#"{"specifier":"file:///a.js","mediaType":"JavaScript","source":"","program":{"range":[0,16],"body":[]}}"#;
-    let error = analyze(document).expect_err("a fault");
+    let error = analyze_json(document).expect_err("a fault");
     assert_eq!(error.fault(), &Fault::RangeOutside);
     assert_eq!(error.report(), check(document).ok().as_deref());
     assert_eq!(
@@ -162,7 +166,7 @@ fn an_error_has_the_report_on_its_document() {
 fn the_report_in_an_error_is_that_of_the_command() {
     for case in test_cases().into_iter().filter(|case| case.wanted.is_err()) {
         let (error, report) = match case.command.as_str() {
-            "analyze" => (analyze(&case.document), check(&case.document)),
+            "analyze" => (analyze_json(&case.document), check(&case.document)),
             "analyze --estree" => (analyze_estree(&case.document), check_estree(&case.document)),
             "convert" => (convert(&case.document), check_convert(&case.document)),
             "reach" => (reach(&case.document), check_reach(&case.document)),

@@ -1,12 +1,12 @@
 //! A report of each kind.
 
-use modinfo::{analyze, check, check_convert, check_reach, convert, reach, Error, Fault};
+use modinfo::{analyze_json, check, check_convert, check_reach, convert, reach, Error, Fault};
 
 type Check = fn(&[u8]) -> Result<String, Fault>;
 type Command = fn(&[u8]) -> Result<String, Error>;
 
 /// Each command's check, and the command itself.
-const ANALYZE: (Check, Command) = (check, analyze);
+const ANALYZE: (Check, Command) = (check, analyze_json);
 const CONVERT: (Check, Command) = (check_convert, convert);
 const REACH: (Check, Command) = (check_reach, reach);
 
@@ -159,9 +159,10 @@ fn warnings() {
             r#"{"valid":true,"warnings":[{"pointer":"/program/body/0/child","says":"nothing reads a member of this name here"}]}"#
         )
     );
-    let many: String = (0..103)
+    let many: Vec<_> = (0..103)
         .map(|number| format!(r#","child{number}":0"#))
         .collect();
+    let many = many.concat();
     let report = check(import(&format!(r#""range":[0,16]{many}"#)).as_bytes()).expect("a report");
     assert!(
         report.starts_with(r#"{"valid":true,"warnings":[{"#) && report.ends_with(r#"],"more":3}"#)

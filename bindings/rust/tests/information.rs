@@ -1,6 +1,5 @@
 //! The types of what `analyze` returns: what is found in each example and test case, and in generated documents, is read and
 //! written back.
-#![cfg(feature = "serde")]
 
 mod repository;
 
@@ -63,7 +62,7 @@ fn generated_documents_are_read_and_written_back() {
     let documents = String::from_utf8(generated.stdout).expect("UTF-8");
     assert_eq!(documents.lines().count(), 1000);
     for document in documents.lines() {
-        let line = modinfo::analyze(document.as_bytes()).expect(document);
+        let line = modinfo::analyze_json(document.as_bytes()).expect(document);
         assert_eq!(written(&read(&line)), line);
     }
 }

@@ -67,14 +67,14 @@ const VALID: &[u8] =
 
 #[test]
 fn an_answer_without_memory() {
-    let answer = modinfo::analyze(VALID).expect("an answer");
-    let refused = with_granted(0, || modinfo::analyze(VALID)).expect_err("no memory");
+    let answer = modinfo::analyze_json(VALID).expect("an answer");
+    let refused = with_granted(0, || modinfo::analyze_json(VALID)).expect_err("no memory");
     assert_eq!(refused.fault(), &Fault::OutOfMemory);
     assert_eq!(refused.report(), None);
     assert_eq!(refused.to_string(), "OutOfMemory");
     for number in 1..6 {
         assert_eq!(
-            with_granted(number, || modinfo::analyze(VALID)).as_ref(),
+            with_granted(number, || modinfo::analyze_json(VALID)).as_ref(),
             Ok(&answer)
         );
     }
@@ -90,9 +90,9 @@ fn a_report_without_memory() {
 
 #[test]
 fn a_fault_whose_report_has_no_memory() {
-    let whole = modinfo::analyze(b"{}").expect_err("a fault");
+    let whole = modinfo::analyze_json(b"{}").expect_err("a fault");
     assert!(whole.report().is_some());
-    let refused = with_granted(1, || modinfo::analyze(b"{}")).expect_err("a fault");
+    let refused = with_granted(1, || modinfo::analyze_json(b"{}")).expect_err("a fault");
     assert_eq!((refused.fault(), refused.report()), (&Fault::Tree, None));
-    assert_eq!(with_granted(4, || modinfo::analyze(b"{}")), Err(whole));
+    assert_eq!(with_granted(4, || modinfo::analyze_json(b"{}")), Err(whole));
 }

@@ -4,6 +4,7 @@ use std::env;
 use std::fs;
 use std::path::{Path, PathBuf};
 use std::process::{Command, Output};
+use std::sync::{Mutex, PoisonError};
 
 /// The folder with the library that these tests are linked with.
 fn library() -> PathBuf {
@@ -12,6 +13,14 @@ fn library() -> PathBuf {
         None => Path::new(env!("CARGO_MANIFEST_DIR")).join("../../build"),
     }
 }
+
+/// The folder that all rooms build in, so that the crates below this one are compiled once.
+fn target() -> PathBuf {
+    Path::new(env!("CARGO_TARGET_TMPDIR")).join("target")
+}
+
+/// One room builds and runs its program at a time.
+static BUILDING: Mutex<()> = Mutex::new(());
 
 /// A copy of the crate, and a program over it that prints the library's version.
 struct Room(PathBuf);
@@ -26,7 +35,7 @@ impl Room {
         copy_files(
             here,
             &room.join("modinfo"),
-            &["Cargo.toml", "build.rs", "README.md"],
+            &["Cargo.toml", "build.rs", "MOVING.md", "README.md"],
         );
         let sources: Vec<_> = names(&here.join("src"));
         let sources: Vec<_> = sources.iter().map(String::as_str).collect();
@@ -37,15 +46,17 @@ impl Room {
         );
         write(
             &room.join("program/src/main.rs"),
-            "fn main() {\n    print!(\"{} {}\", modinfo::version(), modinfo::analyze(b\"\").unwrap_err().fault());\n}\n",
+            "fn main() {\n    print!(\"{} {}\", modinfo::version(), modinfo::analyze_json(b\"\").unwrap_err().fault());\n}\n",
         );
         Room(room)
     }
 
     fn cargo(&self, folder: &str, words: &[&str], environment: &[(&str, &Path)]) -> Output {
+        let _building = BUILDING.lock().unwrap_or_else(PoisonError::into_inner);
         Command::new(env!("CARGO"))
             .args(words)
-            .args(["--offline", "--target-dir", "target"])
+            .args(["--offline", "--target-dir"])
+            .arg(target())
             .current_dir(self.0.join(folder))
             .env_remove("MODINFO_LIB_DIR")
             .env_remove("CARGO_TARGET_DIR")

@@ -1,8 +1,6 @@
-//! The programs of the README, each in a folder of its own.
+//! The program of the README, in a folder of its own, and that in examples/.
 
-use std::env;
 use std::fs;
-use std::os::unix::fs::PermissionsExt;
 use std::path::{Path, PathBuf};
 use std::process::Command;
 
@@ -29,11 +27,12 @@ fn program(name: &str, source: &str) -> PathBuf {
 }
 
 /// The status, and what the program prints on each stream.
-fn run(folder: &Path, path: &str) -> (bool, String, String) {
+fn run(folder: &Path, words: &[&str]) -> (bool, String, String) {
     let run = Command::new(env!("CARGO"))
-        .args(["run", "--offline", "--quiet", "--target-dir", "target"])
+        .args(["run", "--offline", "--quiet", "--target-dir"])
+        .arg(Path::new(env!("CARGO_TARGET_TMPDIR")).join("target"))
+        .args(words)
         .current_dir(folder)
-        .env("PATH", path)
         .output()
         .expect("cargo");
     let text = |bytes| String::from_utf8(bytes).expect("UTF-8");
@@ -44,25 +43,22 @@ fn run(folder: &Path, path: &str) -> (bool, String, String) {
 fn the_example_prints_what_the_readme_says() {
     let folder = program("readme", block("```rust\n"));
     let wanted = block("```text\n").to_owned();
-    assert_eq!(
-        run(&folder, &env::var("PATH").expect("a PATH")),
-        (true, wanted, String::new())
-    );
+    assert_eq!(run(&folder, &[]), (true, wanted, String::new()));
 }
 
-/// With a stand-in for the parser, which prints the document of one file.
+/// The program in examples/, on a file of the repository's examples and on one with a syntax error.
 #[test]
-fn the_example_with_a_parser() {
-    let folder = program("parser", block("```rust,no_run\n"));
-    let examples = Path::new(env!("CARGO_MANIFEST_DIR")).join("../../examples");
-    let parser = folder.join("modinfo-typescript");
-    let script = format!(
-        "#!/bin/sh\n[ \"$*\" = src/app.ts ] && exec cat {:?}\n",
-        examples.join("page.json")
+fn the_example_of_files() {
+    let here = Path::new(env!("CARGO_MANIFEST_DIR"));
+    let broken = Path::new(env!("CARGO_TARGET_TMPDIR")).join("broken.js");
+    fs::write(&broken, "let a = ;").expect("a file");
+    let good = here.join("../../examples/messages.js");
+    let (good, broken) = (good.display().to_string(), broken.display().to_string());
+    let wanted = fs::read_to_string(here.join("../../examples/messages.out.json"));
+    let printed = format!("{good}: {}", wanted.expect("an output"));
+    let fault = format!(
+        "{broken}: Syntax at /source at line 1, column 9 (offset 8): expected an expression\n"
     );
-    fs::write(&parser, script).expect("a stand-in");
-    fs::set_permissions(&parser, fs::Permissions::from_mode(0o755)).expect("a stand-in");
-    let path = format!("{}:{}", folder.display(), env::var("PATH").expect("a PATH"));
-    let wanted = fs::read_to_string(examples.join("page.out.json")).expect("an answer");
-    assert_eq!(run(&folder, &path), (true, wanted, String::new()));
+    let words = ["--example", "dependencies", &good, &broken];
+    assert_eq!(run(here, &words), (false, printed, fault));
 }

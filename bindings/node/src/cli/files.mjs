@@ -9,8 +9,7 @@
 import { resolve as absolute } from "node:path";
 import { pathToFileURL } from "node:url";
 
-import { TYPESCRIPT_MEDIA_TYPES } from "../parsers/typescript/parse.mjs";
-import { withoutExcerpt } from "../runtime/faults.mjs";
+import { createResolver } from "../graph/resolver.mjs";
 import { PROGRAM_HELP, checkProgram, modinfoPath } from "../runtime/program.mjs";
 import { UsageFault, runProgram, usageOf } from "./common/command_line.mjs";
 import { QUESTIONS, answerQuestion } from "./common/graph_questions.mjs";
@@ -55,38 +54,26 @@ or no file. --entry, --exclude, --ignore and --conditions may be repeated.
 
 ${PROGRAM_HELP}`;
 
-/**
- * @param {Words} words
- * @returns {Promise<number>}
- */
+/** @param {Words} words @returns {Promise<number>} */
 async function main({ values, positionals }) {
   const question = questionOf(values);
   checkWords(values, positionals, question);
   const program = modinfoPath();
+  await checkProgram(program);
   const resolve = {
-    types: Boolean(values.types || values.resolve || values.json || values.unreached),
+    types: Boolean(values.types),
     tsconfig: values.tsconfig && absolute(values.tsconfig),
     conditions: values.conditions,
   };
-  const isGraph = Boolean(question || values.entry || values.json);
-  /** @type {import("../runtime/file_worker.mjs").Work} */
-  const work = {
-    adapter: new URL("../parsers/by_media_type.mjs", import.meta.url).href,
-    mediaTypes: TYPESCRIPT_MEDIA_TYPES,
-    program,
-    ...((isGraph || values.resolve) && { resolve }),
-  };
-  // The threads load the parser meanwhile.
-  const ready = checkProgram(program);
-  ready.catch(() => {});
-  const run = { name: NAME, values, paths: positionals, work, ready };
-  return isGraph ? answerQuestion(question, run) : runLines({ ...run, write: writeInfo });
+  const run = { name: NAME, values, paths: positionals, program, resolve };
+  if (question || values.entry || values.json) {
+    return answerQuestion(question, run);
+  }
+  const resolver = values.resolve ? createResolver(resolve) : undefined;
+  return runLines(run, (result, reporter) => writeInfo(result, reporter, resolver));
 }
 
-/**
- * @param {any} values
- * @returns {string | undefined} the question that the words ask
- */
+/** @param {any} values @returns {string | undefined} the question that the words ask */
 function questionOf(values) {
   const asked = QUESTIONS.filter((each) => values[each] !== undefined);
   if (asked.length > 1) {
@@ -120,15 +107,29 @@ function checkWords(values, paths, question) {
   }
 }
 
-/** @param {FileResult} result */
-async function writeInfo({ path, line, fault }) {
-  const printed = fault && withoutExcerpt(fault);
-  await writeOutput(line ?? `${JSON.stringify({ specifier: pathToFileURL(path), ...printed })}\n`);
+/**
+ * @param {FileResult} result
+ * @param {import("./common/read_files.mjs").FileReporter} reporter
+ * @param {import("../graph/resolver.mjs").Resolver} [resolver]
+ */
+async function writeInfo({ path, info, fault }, reporter, resolver) {
+  const specifier = pathToFileURL(path);
+  if (info === undefined) {
+    await writeOutput(`${JSON.stringify({ specifier, ...fault })}\n`);
+    return;
+  }
+  let json = String(info);
+  if (resolver) {
+    const value = JSON.parse(json);
+    resolver.resolveInfo(value, absolute(path));
+    reporter.notice(resolver.takeNotices());
+    json = JSON.stringify(value);
+  }
+  await writeOutput(`{"specifier":${JSON.stringify(specifier)},"info":${json}}\n`);
 }
 
 await runProgram({
   name: NAME,
-  parser: "typescript",
   help: HELP,
   options: {
     ...LINE_OPTIONS,

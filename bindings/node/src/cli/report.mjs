@@ -6,12 +6,10 @@
  */
 
 import { basename, resolve as absolute } from "node:path";
-import { setFlagsFromString } from "node:v8";
 
 import { isReplaceable, placeOf, replaceFile } from "../files/replace_file.mjs";
 import { isReport } from "../files/report_pages.mjs";
 import { unledOf, unreachedOf } from "../graph/unreached.mjs";
-import { TYPESCRIPT_MEDIA_TYPES } from "../parsers/typescript/parse.mjs";
 import { indexOf, partsOf } from "../report/data.mjs";
 import { dotOf, isDot } from "../report/dot.mjs";
 import { readLibraries } from "../report/libraries.mjs";
@@ -23,7 +21,7 @@ import { Project } from "../report/project.mjs";
 import { systemMessage } from "../runtime/faults.mjs";
 import { printable, printableLines } from "../runtime/printable.mjs";
 import { PROGRAM_HELP, checkProgram, modinfoPath } from "../runtime/program.mjs";
-import { UsageFault, readJobs, readMaxBytes, runProgram, usageOf } from "./common/command_line.mjs";
+import { UsageFault, readJobs, runProgram, usageOf } from "./common/command_line.mjs";
 import { gapsNote } from "./common/graph_output.mjs";
 import { CACHE_HELP, ENTRY_HELP, GRAPH_OPTIONS, RESOLUTION_HELP, readRun } from "./common/graph_run.mjs";
 import { LINE_HELP, LINE_OPTIONS } from "./common/read_files.mjs";
@@ -59,10 +57,7 @@ it can't be written; 2 for a usage error, or an output that would overwrite no e
 
 ${PROGRAM_HELP}`;
 
-/**
- * @param {Words} words
- * @returns {Promise<number>}
- */
+/** @param {Words} words @returns {Promise<number>} */
 async function main({ values, positionals }) {
   if (positionals.length === 0) {
     throw new UsageFault(usageOf(HELP));
@@ -70,8 +65,6 @@ async function main({ values, positionals }) {
   const { output = "report.html", dot } = values;
   readJobs(values.jobs);
   checkOutputs(output, dot);
-  // Less memory for the parser's threads, at the cost of some time.
-  setFlagsFromString("--optimize-for-size");
   const program = modinfoPath();
   await checkProgram(program);
   const { project, read } = await readProject({ values, program, paths: positionals });
@@ -137,22 +130,15 @@ function checkInputs(outputs, modules) {
  * @returns {Promise<{ project: { folder: string, modules: Module[] }, read: GraphRun }>}
  */
 async function readProject({ values, program, paths }) {
-  const { tsconfig, conditions } = values;
-  /** @type {import("../runtime/file_worker.mjs").Work} */
-  const work = {
-    adapter: new URL("../parsers/typescript/index.mjs", import.meta.url).href,
-    parser: "typescript",
-    mediaTypes: TYPESCRIPT_MEDIA_TYPES,
-    program,
-    resolve: { types: true, tsconfig: tsconfig && absolute(tsconfig), conditions },
-  };
-  const project = new Project(readMaxBytes(values["max-bytes"]));
+  const { types = false, tsconfig, conditions } = values;
+  const resolve = { types, tsconfig: tsconfig && absolute(tsconfig), conditions };
+  const project = new Project();
   const onRead = (/** @type {import("../graph/read_graph.mjs").ReadFile} */ result) => {
     if (!result.isLeft) {
       project.add(result);
     }
   };
-  const read = await readRun({ name: NAME, values, paths, work }, { hasPages: true, onRead });
+  const read = await readRun({ name: NAME, values, paths, program, resolve }, { hasPages: true, onRead });
   const isListed = (/** @type {string} */ key) => read.graph.module(key)?.isExcluded !== true;
   return { project: project.finish(paths, isListed), read };
 }
@@ -200,7 +186,6 @@ async function write(path, text) {
 
 await runProgram({
   name: NAME,
-  parser: "typescript",
   help: HELP,
   options: {
     ...LINE_OPTIONS,

@@ -2,14 +2,8 @@
  * Keeps what was found in files, so that files which haven't changed needn't be parsed again.
  *
  * The cache is a file of lines, one for each file that was read. A line counts only where
- * its checksum is right, it has what it has to, the versions are those of now, and size, inode and both times
+ * its checksum is right, it has what it has to, the program is that of now, and size, inode and both times
  * of change of the file are those of the line. Any other line is passed over.
- *
- * @typedef {import("../document/write_document.mjs").Warning} Warning
- *
- * @typedef {object} Analysis
- * @property {string} info the JSON of a `ModuleInfo`
- * @property {Warning[]} [warnings]
  *
  * @typedef {object} State of a file, when it was looked at
  * @property {string} size
@@ -18,16 +12,11 @@
  */
 
 import { createHash } from "node:crypto";
-import { mkdirSync, readFileSync, readdirSync, rmdirSync, statSync } from "node:fs";
-import { join, resolve as absolute } from "node:path";
+import { mkdirSync, readFileSync, rmdirSync, statSync } from "node:fs";
+import { resolve as absolute } from "node:path";
 import { setTimeout as wait } from "node:timers/promises";
-import { fileURLToPath } from "node:url";
 
-import { isInstalled, parserVersion } from "../parsers/installed_parsers.mjs";
-import { replaceFile } from "./replace_file.mjs";
-
-/** The folders of the package whose modules decide what is found. */
-const SOURCES = ["parsers", "document"].map((name) => fileURLToPath(new URL(`../${name}`, import.meta.url)));
+import { isReplaceable, replaceFile } from "./replace_file.mjs";
 
 /** For so long after a change another one may leave the time as it is, in milliseconds. */
 const SETTLING = 2000;
@@ -38,16 +27,16 @@ const LONGEST_WAIT = 10_000;
 const LOCK_AGE = 60_000;
 
 const CHECKSUM_LENGTH = 16;
+/** The beginning of a line: its checksum, that of the program, and a path. */
+const BEGINNING = /^[\w-]{16}\t[\w-]{16}\t"/;
 
 export class AnalysisCache {
   #path;
   #version;
-  /** @type {Map<string, string>} */
+  /** @type {Map<string, string>} By the JSON of their paths. */
   #lines;
   /** @type {Map<string, string>} */
   #added = new Map();
-  /** What was found and not taken yet, by paths. @type {Map<string, any>} */
-  #found = new Map();
 
   /**
    * @param {string} path of the cache, which need not be there
@@ -55,77 +44,72 @@ export class AnalysisCache {
    */
   constructor(path, program) {
     this.#path = path;
-    this.#version = versionOf(program);
+    this.#version = hashOf(readFileSync(program));
     this.#lines = this.#read();
   }
 
   /**
    * What is known of a file.
    * @param {string} path
-   * @returns {{ state: State | undefined, analysis?: Analysis }} `state` is for `add`
+   * @returns {{ state: State | undefined, info?: string, value?: object }} `info` is the JSON of a `ModuleInfo`,
+   *   `value` what was read from it, `state` for `add`
    */
   find(path) {
     const key = absolute(path);
     const state = stateOf(key);
-    const line = this.#lines.get(key);
-    const { analysis, value } = (line && state && analysisOf(line, state)) || {};
-    if (analysis) {
-      this.#found.set(path, value);
+    const line = state && this.#lines.get(JSON.stringify(key));
+    const [, , , size, changed, info] = line?.split("\t") ?? [];
+    if (!line || size !== state?.size || changed !== state.changed || !isWhole(line)) {
+      return { state };
     }
-    return { state, ...(analysis && { analysis }) };
-  }
-
-  /**
-   * Returns the value of the JSON that `find` returned for a path, once.
-   * @param {string} path
-   * @returns {any} nothing where nothing was found
-   */
-  take(path) {
-    const value = this.#found.get(path);
-    this.#found.delete(path);
-    return value;
+    const value = jsonOf(info);
+    return typeof value === "object" && value !== null ? { state, info, value } : { state };
   }
 
   /**
    * @param {string} path
    * @param {State | undefined} state before the file was read
-   * @param {Analysis} analysis
+   * @param {string | Buffer} info JSON
    */
-  add(path, state, { info, warnings = [] }) {
+  add(path, state, info) {
     if (state?.isSettled) {
-      const key = absolute(path);
-      const texts = [JSON.stringify(key), state.size, state.changed, JSON.stringify(warnings), info];
-      this.#added.set(key, [this.#version, ...texts].join("\t"));
+      const key = JSON.stringify(absolute(path));
+      const rest = [this.#version, key, state.size, state.changed, info].join("\t");
+      this.#added.set(key, `${hashOf(rest)}\t${rest}`);
     }
   }
 
   /**
    * Writes what was added, together with what other runs have written meanwhile.
-   * @returns {Promise<void>} rejected with the system's error
+   * @returns {Promise<void>} rejected with the system's error, or where another file than a cache is there
    */
   async save() {
     if (this.#added.size === 0) {
       return;
     }
+    if (!isReplaceable(this.#path, (text) => BEGINNING.test(text))) {
+      throw new Error("no cache is there, but another file");
+    }
     const unlock = await lock(`${this.#path}.lock`);
     try {
-      const lines = new Map([...this.#read(), ...this.#added]);
-      const kept = [...lines].filter(([path]) => this.#added.has(path) || stateOf(path));
-      await replaceFile(this.#path, kept.map(([, line]) => `${checksumOf(line)}\t${line}\n`).join(""));
+      const others = [...this.#read()].filter(([key, line]) => {
+        const path = jsonOf(key);
+        return !this.#added.has(key) && isWhole(line) && typeof path === "string" && stateOf(path);
+      });
+      const kept = [...others, ...this.#added];
+      await replaceFile(this.#path, kept.map(([, line]) => `${line}\n`).join(""));
     } finally {
       unlock();
     }
   }
 
-  /** @returns {Map<string, string>} the lines of this version by their paths, without checksums */
+  /** @returns {Map<string, string>} the lines of this version by the JSON of their paths */
   #read() {
     const found = new Map();
     for (const line of linesOf(this.#path)) {
-      const [checksum, version, path] = line.split("\t", 3);
-      const rest = line.slice(checksum.length + 1);
-      const key = path && checksum === checksumOf(rest) ? jsonOf(path) : undefined;
-      if (version === this.#version && typeof key === "string") {
-        found.set(key, rest);
+      const [, version, key] = line.split("\t", 3);
+      if (version === this.#version && !found.has(key)) {
+        found.set(key, line);
       }
     }
     return found;
@@ -133,9 +117,15 @@ export class AnalysisCache {
 }
 
 /**
- * @param {string} path
- * @returns {string[]} none where there is no such file
+ * Whether a line has its checksum.
+ * @param {string} line
  */
+function isWhole(line) {
+  const end = line.indexOf("\t");
+  return line.slice(0, end) === hashOf(line.slice(end + 1));
+}
+
+/** @param {string} path @returns {string[]} none where there is no such file */
 function linesOf(path) {
   try {
     return readFileSync(path, "utf8").split("\n");
@@ -147,25 +137,7 @@ function linesOf(path) {
   }
 }
 
-/**
- * @param {string} line
- * @param {State} state
- * @returns {{ analysis: Analysis, value: any } | undefined} `value` is that of the JSON
- */
-function analysisOf(line, state) {
-  const [, , size, changed, warnings = "", info = ""] = line.split("\t");
-  if (size !== state.size || changed !== state.changed) {
-    return undefined;
-  }
-  const [known, value] = [jsonOf(warnings), jsonOf(info)];
-  const isWhole = Array.isArray(known) && typeof value === "object" && value !== null;
-  return isWhole ? { analysis: { info, warnings: known }, value } : undefined;
-}
-
-/**
- * @param {string} text
- * @returns {any} nothing where the text is no JSON
- */
+/** @param {string} text @returns {any} nothing where the text is no JSON */
 function jsonOf(text) {
   try {
     return JSON.parse(text);
@@ -174,10 +146,7 @@ function jsonOf(text) {
   }
 }
 
-/**
- * @param {string} path
- * @returns {State | undefined} nothing where there is no such file
- */
+/** @param {string} path @returns {State | undefined} nothing where there is no such file */
 function stateOf(path) {
   try {
     const { size, ino, mtimeNs, mtimeMs, ctimeNs, ctimeMs } = statSync(path, { bigint: true });
@@ -190,28 +159,9 @@ function stateOf(path) {
   }
 }
 
-/**
- * What decides about results besides the file: the program, the parsers and this package.
- * @param {string} program the path of `modinfo`
- */
-function versionOf(program) {
-  const hash = createHash("sha256").update(readFileSync(program));
-  for (const parser of /** @type {const} */ (["acorn", "typescript"])) {
-    hash.update(isInstalled(parser) ? parserVersion(parser) : "none");
-  }
-  for (const folder of SOURCES) {
-    for (const name of readdirSync(folder, { recursive: true }).map(String).sort()) {
-      if (name.endsWith(".mjs")) {
-        hash.update(readFileSync(join(folder, name)));
-      }
-    }
-  }
-  return hash.digest("base64url").slice(0, CHECKSUM_LENGTH);
-}
-
-/** @param {string} line */
-function checksumOf(line) {
-  return createHash("sha256").update(line).digest("base64url").slice(0, CHECKSUM_LENGTH);
+/** @param {string | Buffer} content */
+function hashOf(content) {
+  return createHash("sha256").update(content).digest("base64url").slice(0, CHECKSUM_LENGTH);
 }
 
 /**

@@ -36,10 +36,7 @@ export async function exclusionsOf({ exclude = [], ignore = [], ignoredIn = [] }
   };
 }
 
-/**
- * @param {string[]} globs
- * @returns {IsOut}
- */
+/** @param {string[]} globs @returns {IsOut} */
 function matcherOf(globs) {
   const matchers = globs.map(globMatcher);
   return withFolders((path) => {

@@ -1,11 +1,12 @@
 /** Finds the files that paths name. */
 
-import { realpathSync, statSync } from "node:fs";
+import { statSync } from "node:fs";
 import { readdir } from "node:fs/promises";
 import { dirname, join, resolve as absolute, sep } from "node:path";
 
-import { mediaTypeOf } from "../document/media_types.mjs";
+import { isModule } from "../graph/file_kinds.mjs";
 import { FileFault } from "../runtime/faults.mjs";
+import { realPath } from "./urls.mjs";
 
 /**
  * @typedef {import("node:fs").Dirent} Dirent
@@ -18,7 +19,6 @@ import { FileFault } from "../runtime/faults.mjs";
  * @property {boolean} [isPage] whether it is a page or a component, as `isPage` has it
  *
  * @typedef {object} Options
- * @property {string[]} mediaTypes those that are read
  * @property {boolean} [all] whether to go into `node_modules` and into folders whose names begin with
  *   a dot
  * @property {boolean} [follow] whether to follow links to files that are below no root
@@ -53,9 +53,10 @@ export function isPage(path) {
 export async function* findFiles(paths, options) {
   const roots = realPaths(options.roots ?? []);
   for await (const path of paths) {
-    if (isFolder(path)) {
+    const status = statusOf(path);
+    if (status?.isDirectory()) {
       yield* filesBelow(path, options, [...realPaths([path]), ...roots]);
-    } else if (isThere(path)) {
+    } else if (status || isThere(path)) {
       yield { path };
     } else {
       yield { path, error: new FileFault("Input", "no such file or folder") };
@@ -113,7 +114,7 @@ async function* filesBelow(folder, options, roots) {
  * @param {string[]} roots
  */
 async function entriesOf(folder, options, roots) {
-  const { mediaTypes, all, follow, isExcluded = () => false, isKept = () => false, pages } = options;
+  const { all, follow, isExcluded = () => false, isKept = () => false, pages } = options;
   const entries = await readdir(folder, { withFileTypes: true });
   entries.sort((one, other) => (one.name < other.name ? 1 : -1));
   const taken = [];
@@ -129,7 +130,7 @@ async function entriesOf(folder, options, roots) {
       }
     } else if (pages && isPage(entry.name) && entry.isFile()) {
       taken.push({ path, isFolder: false, isPage: true });
-    } else if (mediaTypes.includes(mediaTypeOf(entry.name) ?? "") && isRegular(entry, path)) {
+    } else if (isModule(entry.name) && isRegular(entry, path)) {
       const isLeft = entry.isSymbolicLink() && !follow && leadsOut(path, roots);
       taken.push({ path, isFolder: false, ...(isLeft && { isLeft }), ...(isOut && { isExcluded: true }) });
     }
@@ -160,30 +161,12 @@ function leadsOut(path, roots) {
   return real !== undefined && !roots.some(isIn);
 }
 
-/**
- * @param {string[]} paths
- * @returns {string[]} without those that lead to nothing
- */
+/** @param {string[]} paths @returns {string[]} without those that lead to nothing */
 function realPaths(paths) {
   return paths.flatMap((path) => realPath(path) ?? []);
 }
 
-/**
- * @param {string} path
- * @returns {string | undefined} the path without links in it; nothing where it leads to nothing
- */
-function realPath(path) {
-  try {
-    return realpathSync.native(path);
-  } catch {
-    return undefined;
-  }
-}
-
-/**
- * @param {string} path
- * @returns {import("node:fs").Stats | undefined} nothing where it leads to nothing
- */
+/** @param {string} path @returns {import("node:fs").Stats | undefined} nothing where it leads to nothing */
 function statusOf(path) {
   try {
     return statSync(path);
@@ -192,10 +175,7 @@ function statusOf(path) {
   }
 }
 
-/**
- * @param {string} path
- * @returns {boolean} true also where that can't be found out
- */
+/** @param {string} path @returns {boolean} true also where that can't be found out */
 function isThere(path) {
   try {
     return statSync(path, { throwIfNoEntry: false }) !== undefined;
@@ -204,10 +184,7 @@ function isThere(path) {
   }
 }
 
-/**
- * @param {string} path
- * @returns {boolean} false also where nothing is there
- */
+/** @param {string} path @returns {boolean} false also where nothing is there */
 export function isFolder(path) {
   return statusOf(path)?.isDirectory() ?? false;
 }

@@ -3,8 +3,28 @@
 import { readFileSync } from "node:fs";
 import { createRequire } from "node:module";
 
-/** What node loads from this package: never a module of a project that is read. */
-export const ownRequire = createRequire(import.meta.url);
+/** The folder of Debian's packages. Debian's node looks for modules there, others don't. */
+export const DEBIAN_MODULES = "/usr/share/nodejs";
+
+/** What node loads from this package, or from the bundle with it: never a module of a project that is read. */
+export const ownRequire = createRequire(import.meta.url ?? __filename);
+
+/**
+ * @returns {any} the module `typescript`
+ * @throws {Error} it isn't installed
+ */
+export function loadTypeScript() {
+  for (const path of ["typescript", `${DEBIAN_MODULES}/typescript`]) {
+    try {
+      return ownRequire(path);
+    } catch (/** @type {any} */ error) {
+      if (error.code !== "MODULE_NOT_FOUND") {
+        throw error;
+      }
+    }
+  }
+  throw new Error("types need TypeScript: npm install typescript, or Debian's node-typescript");
+}
 
 /**
  * @param {string | URL} path of a file of this package, or of one that is installed for it

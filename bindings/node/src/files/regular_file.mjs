@@ -29,6 +29,24 @@ export function readRegularFile(path, maxBytes = MAX_BYTES) {
   }
 }
 
+const decoder = new TextDecoder("utf-8", { fatal: true, ignoreBOM: true });
+
+/**
+ * The text of a regular file. A byte order mark stays in it.
+ * @param {string} path
+ * @returns {string}
+ * @throws {FileFault} the file is not regular, has more bytes, or isn't UTF-8
+ * @throws {Error} the system's, where it can't be read
+ */
+export function readRegularText(path) {
+  const bytes = readRegularFile(path);
+  try {
+    return decoder.decode(bytes);
+  } catch {
+    throw new FileFault("Input", "the file is not UTF-8");
+  }
+}
+
 /**
  * The content of a file that was opened.
  * @param {number} file its descriptor
@@ -42,24 +60,6 @@ export function readOpened(file, maxBytes, system = fs) {
   requireRegular(status);
   requireAtMost(maxBytes, status.size);
   return readAtMost(file, status.size, maxBytes, system);
-}
-
-/**
- * What a stream has, at most so many bytes.
- * @param {AsyncIterable<Uint8Array>} input
- * @param {number} maxBytes
- * @returns {Promise<Buffer>}
- * @throws {FileFault} it has more
- */
-export async function readStream(input, maxBytes) {
-  const parts = [];
-  let length = 0;
-  for await (const part of input) {
-    length += part.length;
-    requireAtMost(maxBytes, length);
-    parts.push(part);
-  }
-  return Buffer.concat(parts);
 }
 
 /**
@@ -91,7 +91,7 @@ function readAtMost(file, size, maxBytes, { readSync }) {
  */
 function requireAtMost(maxBytes, length) {
   if (length > maxBytes) {
-    throw new FileFault("Input", `the file has more than ${maxBytes} bytes (--max-bytes allows more)`);
+    throw new FileFault("Input", `the file has more than ${maxBytes} bytes`);
   }
 }
 

@@ -54,7 +54,7 @@ export class RegularFiles {
   /** How many links are being followed, each on the way of the one before, and whether these are too many. */
   #following = 0;
   #isTooFar = false;
-  /** Folders above a root: their own package.json and configurations count. @type {Set<string>} */
+  /** @type {Set<string>} Folders above a root: their own package.json and configurations count. */
   #above = new Set();
 
   /** @param {System} [system] what looks at files and opens them */
@@ -99,6 +99,11 @@ export class RegularFiles {
     const known = this.#entries.get(path);
     if (known) {
       return known;
+    }
+    const last = path.lastIndexOf("/");
+    const parent = this.#entries.get(path.slice(0, last));
+    if (parent && path.length - last <= MAX_NAME) {
+      return parent.kind === "folder" ? this.#look(parent, path) : NONE;
     }
     // From above: a long path costs no more than the part of it that is there.
     let entry = ROOT;

@@ -44,10 +44,7 @@ export function isReplaceable(path, isOutput) {
   return !status?.isFile() || status.size === 0 || isOutput(beginningOf(path));
 }
 
-/**
- * @param {string} path
- * @returns {string}
- */
+/** @param {string} path @returns {string} */
 function beginningOf(path) {
   const file = openSync(path, constants.O_RDONLY | constants.O_NONBLOCK | constants.O_NOCTTY);
   try {

@@ -1,5 +1,6 @@
-/** URLs of names and of folders. */
+/** URLs and places of names, files and folders. */
 
+import { realpathSync } from "node:fs";
 import { pathToFileURL } from "node:url";
 
 /**
@@ -17,4 +18,16 @@ export function urlFrom(text, base) {
  */
 export function urlOfFolder(folder) {
   return pathToFileURL(`${folder}/`);
+}
+
+/**
+ * @param {string} path
+ * @returns {string | undefined} the path without links in it; nothing where it leads to nothing
+ */
+export function realPath(path) {
+  try {
+    return realpathSync.native(path);
+  } catch {
+    return undefined;
+  }
 }

@@ -16,7 +16,7 @@ const SCRIPT_ENDINGS = [".js", ".jsx", ".mjs"];
 const TYPESCRIPT_ENDINGS = [".ts", ".tsx", ".mts"];
 const OTHER_ENDINGS = [".json", ".vue", ".svelte", ".css", ".d.ts"];
 
-/** The endings of TypeScript's files by those of their JavaScript. @type {Map<string, string[]>} */
+/** @type {Map<string, string[]>} The endings of TypeScript's files by those of their JavaScript. */
 const COMPILED = new Map([
   [".js", [".ts", ".tsx", ".d.ts"]], [".jsx", [".tsx", ".ts", ".d.ts"]],
   [".mjs", [".mts", ".d.mts"]], [".cjs", [".cts", ".d.cts"]],
@@ -116,10 +116,7 @@ export class BundlerRules {
       : [path, ...longer, ...sources];
   }
 
-  /**
-   * @param {string[]} paths
-   * @returns {Found | undefined}
-   */
+  /** @param {string[]} paths @returns {Found | undefined} */
   #firstFile(paths) {
     for (const path of paths) {
       const entry = this.#files.at(path);

@@ -104,10 +104,7 @@ export class Configurations {
     return including ?? nearest;
   }
 
-  /**
-   * @param {string} folder
-   * @returns {Configuration | undefined}
-   */
+  /** @param {string} folder @returns {Configuration | undefined} */
   #nearest(folder) {
     if (!this.#byFolder.has(folder)) {
       const path = NAMES.map((name) => join(folder, name)).find((each) => this.#isThere(each));
@@ -118,10 +115,7 @@ export class Configurations {
     return this.#byFolder.get(folder);
   }
 
-  /**
-   * @param {Configuration} root
-   * @returns {Configuration[]} each once
-   */
+  /** @param {Configuration} root @returns {Configuration[]} each once */
   #withReferences(root) {
     const found = new Map([[root.path, root]]);
     for (const { references } of found.values()) {
@@ -140,10 +134,7 @@ export class Configurations {
     return kind === "file" || kind === "other";
   }
 
-  /**
-   * @param {string} path
-   * @returns {Configuration}
-   */
+  /** @param {string} path @returns {Configuration} */
   #read(path) {
     let configuration = this.#byPath.get(path);
     if (!configuration) {
@@ -182,10 +173,7 @@ export class Configurations {
     return all;
   }
 
-  /**
-   * @param {string} path
-   * @returns {Record<string, unknown>} none where it can't be read
-   */
+  /** @param {string} path @returns {Record<string, unknown>} none where it can't be read */
   #membersOf(path) {
     try {
       const members = parseWithComments(this.#files.read(path));
@@ -287,26 +275,17 @@ class Members {
     this.#note = note;
   }
 
-  /**
-   * @param {string} name
-   * @returns {string | undefined}
-   */
+  /** @param {string} name @returns {string | undefined} */
   text(name) {
     return this.#shaped(name, (value) => (typeof value === "string" ? value : undefined), "text");
   }
 
-  /**
-   * @param {string} name
-   * @returns {string[] | undefined} also where it is one text
-   */
+  /** @param {string} name @returns {string[] | undefined} also where it is one text */
   texts(name) {
     return this.#shaped(name, textsOf, "list of texts");
   }
 
-  /**
-   * @param {(target: string) => string} absolutePath
-   * @returns {Map<string, string[]> | undefined}
-   */
+  /** @param {(target: string) => string} absolutePath @returns {Map<string, string[]> | undefined} */
   paths(absolutePath) {
     const paths = this.#shaped("paths", (value) => (isObject(value) ? value : undefined), "object");
     if (!paths) {

@@ -82,6 +82,15 @@ export class ConfiguredNames {
   }
 
   /**
+   * What decides where names lead, besides the folder of their file.
+   * @param {string} file absolute
+   * @returns {string} the same for files of a folder of which each name leads to the same
+   */
+  scopeOf(file) {
+    return this.#importMaps.isDeno(file) ? file : this.#configurations.of(file)?.path ?? "";
+  }
+
+  /**
    * Where the source of a file may be that is compiled.
    * @param {string} path absolute
    * @returns {string[]} paths without what is added to names
@@ -138,6 +147,9 @@ function inPaths(specifier, paths = new Map()) {
  * @returns {string[]}
  */
 function inRootDirs(specifier, importer, rootDirs = []) {
+  if (rootDirs.length === 0) {
+    return [];
+  }
   const path = absolute(dirname(importer), specifier);
   const inside = rootDirs.filter((each) => path.startsWith(each + sep))
     .sort((one, other) => other.length - one.length)[0];

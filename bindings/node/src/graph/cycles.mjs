@@ -73,18 +73,12 @@ function components(next) {
 
 /** Tarjan's search, whose recursion is a list. */
 class Search {
-  /**
-   * The components.
-   * @type {number[][]}
-   */
+  /** @type {number[][]} The components. */
   found = [];
   #next;
   #order = new Map();
   #low = new Map();
-  /**
-   * Nodes whose component isn't known yet.
-   * @type {number[]}
-   */
+  /** @type {number[]} Nodes whose component isn't known yet. */
   #open = [];
   #isOpen = new Set();
   /**

@@ -29,16 +29,15 @@ const MEMBERS = ["exports", "main", "module", "bin", "browser"];
 
 /**
  * @param {string[]} paths of modules, of folders with a package.json, and of pages with scripts
- * @param {{ mediaTypes: string[], find: Find }} options `mediaTypes`: those of the files for which `*` in
- *   `exports` stands
+ * @param {Find} find
  * @returns {Promise<EntryPoints>} each file once
  * @throws {EntryFault} a folder or a page names no entry that is there
  */
-export async function entryPoints(paths, { mediaTypes, find }) {
+export async function entryPoints(paths, find) {
   /** @type {EntryPoints} */
   const all = { files: [], absent: [] };
   for (const path of paths) {
-    const points = isFolder(path) ? await ofPackage(path, { mediaTypes, find }) : ofFile(path, find);
+    const points = isFolder(path) ? await ofPackage(path, find) : ofFile(path, find);
     const { files, absent } = points;
     all.files.push(...files);
     all.absent.push(...absent);
@@ -63,10 +62,10 @@ function ofFile(path, find) {
 
 /**
  * @param {string} folder
- * @param {{ mediaTypes: string[], find: Find }} options
+ * @param {Find} find
  * @returns {Promise<EntryPoints>}
  */
-async function ofPackage(folder, { mediaTypes, find }) {
+async function ofPackage(folder, find) {
   const manifest = join(folder, "package.json");
   const values = readManifest(manifest);
   const names = MEMBERS.flatMap((member) => targetsOf(Object.hasOwn(values, member) ? values[member] : undefined));
@@ -75,17 +74,14 @@ async function ofPackage(folder, { mediaTypes, find }) {
   const patterns = modules.filter((name) => name.includes("*"));
   const files = [];
   for (const pattern of patterns) {
-    files.push(...await filesOfPattern(folder, pattern, mediaTypes));
+    files.push(...await filesOfPattern(folder, pattern));
   }
   const plain = modules.filter((name) => !name.includes("*"));
   const direct = found(manifest, plain.length + files.length > 0 ? plain : ["./index"], find, files.length > 0);
   return { files: [...direct.files, ...files], absent: direct.absent };
 }
 
-/**
- * @param {string} path
- * @returns {any}
- */
+/** @param {string} path @returns {any} */
 function readManifest(path) {
   let values;
   try {
@@ -119,14 +115,13 @@ function targetsOf(value) {
 /**
  * @param {string} folder
  * @param {string} pattern with `*`
- * @param {string[]} mediaTypes
  * @returns {Promise<string[]>}
  */
-async function filesOfPattern(folder, pattern, mediaTypes) {
+async function filesOfPattern(folder, pattern) {
   const [start, end] = [pattern.slice(0, pattern.indexOf("*")), pattern.slice(pattern.lastIndexOf("*") + 1)];
   const base = join(folder, dirname(`${start}x`));
   const files = [];
-  for await (const { path } of findFiles(isFolder(base) ? [base] : [], { mediaTypes })) {
+  for await (const { path } of findFiles(isFolder(base) ? [base] : [], {})) {
     const name = `./${relative(folder, path)}`;
     const isMatch = name.startsWith(start) && name.replace(MODULE, "").endsWith(end.replace(MODULE, ""));
     if (isMatch && !DECLARATION.test(path)) {

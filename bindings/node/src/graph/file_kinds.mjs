@@ -4,6 +4,7 @@ import { Module } from "node:module";
 import { extname } from "node:path";
 
 const DECLARATION = /\.d\.[cm]?ts$/;
+const MODULE = /[^/]\.(?:[cm]?[jt]s|[jt]sx)$/i;
 const TYPESCRIPT = /\.(?:[cm]?ts|tsx)$/;
 
 /** The extensions that node, TypeScript or a bundler loads as a module. */
@@ -18,9 +19,15 @@ const MODULES = new Set([
 export const globalFolders = /** @type {any} */ (Module).globalPaths ?? [];
 
 /**
+ * Whether a file is JavaScript or TypeScript, by its name.
  * @param {string} path
  * @returns {boolean}
  */
+export function isModule(path) {
+  return MODULE.test(path);
+}
+
+/** @param {string} path @returns {boolean} */
 export function isDeclaration(path) {
   return DECLARATION.test(path);
 }
@@ -38,8 +45,14 @@ export function javaScriptBeside(path) {
 
 /**
  * @param {string} path
- * @returns {boolean} true for a declaration file too
+ * @returns {string | undefined} the path of the declaration file that may be beside JavaScript
  */
+export function declarationOf(path) {
+  const [ending, kind] = /\.([cm]?)jsx?$/.exec(path) ?? [];
+  return ending && `${path.slice(0, -ending.length)}.d.${kind}ts`;
+}
+
+/** @param {string} path @returns {boolean} true for a declaration file too */
 export function isTypeScript(path) {
   return TYPESCRIPT.test(path);
 }

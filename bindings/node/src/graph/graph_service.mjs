@@ -3,10 +3,9 @@
 import { AnalysisCache } from "../files/analysis_cache.mjs";
 import { exclusionsOf } from "../files/exclusions.mjs";
 import { findFiles, foldersOf } from "../files/find_files.mjs";
-import { TYPESCRIPT_MEDIA_TYPES } from "../parsers/typescript/parse.mjs";
-import { checkKnown } from "../runtime/call_options.mjs";
+import { checkKnown, readJobs } from "../runtime/call_options.mjs";
+import { ProgramEnd } from "../runtime/errors.cjs";
 import { checkProgram } from "../runtime/program.mjs";
-import { ProgramEnd } from "../runtime/service.mjs";
 import { entryPoints } from "./entry_points.mjs";
 import { NamedFiles } from "./named_files.mjs";
 import { canonicalUrl } from "./reach.mjs";
@@ -16,7 +15,7 @@ import { createResolver } from "./resolver.mjs";
 import { finderOf, unledOf, unreachedOf } from "./unreached.mjs";
 
 /**
- * @typedef {import("./graph.mjs").Graph} Graph
+ * @typedef {import("./graph.cjs").Graph} Graph
  * @typedef {import("./module_graph.mjs").ModuleGraph} ModuleGraph
  *
  * @typedef {object} GraphTask
@@ -31,7 +30,7 @@ import { finderOf, unledOf, unreachedOf } from "./unreached.mjs";
  * @property {number} jobs
  * @property {string} [cache] its path
  * @property {import("./resolver.mjs").ResolverOptions} resolver
- * @property {import("./graph.mjs").ResolveHook} [resolve]
+ * @property {import("./graph.cjs").ResolveHook} [resolve]
  * @property {string} program the path of `modinfo`
  */
 
@@ -49,7 +48,8 @@ const OPTIONS = [
 export function readGraphOptions(options, standard) {
   checkKnown(options, OPTIONS);
   const { gitignore = false, all = false, types = false, dynamic = true } = options ?? {};
-  const { jobs = standard.jobs, cache, resolve } = options ?? {};
+  const { cache, resolve } = options ?? {};
+  const jobs = readJobs(options?.jobs ?? standard.jobs);
   /** @type {Record<string, unknown[]>} */
   const { paths = [], entries = [], exclude = [], ignore = [] } = options ?? {};
   if (![paths, entries, exclude, ignore].every(Array.isArray) || paths.length + entries.length === 0) {
@@ -57,9 +57,6 @@ export function readGraphOptions(options, standard) {
   }
   if (![gitignore, all, types, dynamic].every((each) => typeof each === "boolean")) {
     throw new TypeError("gitignore, all, types and dynamic must be true or false");
-  }
-  if (!Number.isInteger(jobs) || jobs < 1) {
-    throw new TypeError(`jobs must be a whole number from 1 on, and is ${String(jobs)}`);
   }
   if (resolve !== undefined && typeof resolve !== "function") {
     throw new TypeError(`resolve must be a function, and is ${String(resolve)}`);
@@ -69,14 +66,14 @@ export function readGraphOptions(options, standard) {
     entries: entries.map((path) => pathOf(path, "an entry")),
     exclude: exclude.map(String), ignore: ignore.map(String), gitignore, all, types, dynamic, jobs, resolve,
     ...(cache !== undefined && { cache: pathOf(cache, "cache") }),
-    resolver: { types: true, ...readResolverOptions(options) },
+    resolver: { types, ...readResolverOptions(options) },
     program: standard.program,
   };
 }
 
 /**
  * @param {GraphTask} task
- * @param {AbortSignal} [signal] ends the reading
+ * @param {import("../index.cjs").Signal} [signal] ends the reading
  * @returns {Promise<Graph>} rejected with an `EntryFault`, a `GlobFault` or a `GitFault`
  */
 export async function graphOf(task, signal) {
@@ -87,23 +84,19 @@ export async function graphOf(task, signal) {
   const { exclude, ignore, gitignore } = task;
   const ignoredIn = gitignore ? foldersOf([...paths, ...entries]) : [];
   const exclusions = await exclusionsOf({ exclude, ignore, ignoredIn });
-  const work = {
-    adapter: new URL("../parsers/by_media_type.mjs", import.meta.url).href,
-    mediaTypes: TYPESCRIPT_MEDIA_TYPES, program,
-  };
   const resolver = createResolver(task.resolver);
   const find = finderOf(resolver);
-  const { files } = await entryPoints(entries, { mediaTypes: work.mediaTypes, find });
+  const { files } = await entryPoints(entries, find);
   const { isExcluded, isIgnored, isKept } = exclusions;
   const isLeft = (/** @type {string} */ path) => isExcluded(path) || isIgnored(path);
-  const search = { mediaTypes: work.mediaTypes, all, roots: paths };
+  const search = { all, roots: paths };
   const named = new NamedFiles(
     findFiles(paths, { ...search, isExcluded: isLeft, isKept, pages: true }), findFiles(files, search),
   );
   const cache = task.cache === undefined ? undefined : new AnalysisCache(task.cache, program);
   const onRead = async () => signal?.throwIfAborted();
   const graph = await readGraph(named, {
-    work, resolver, jobs, types, dynamic, all, cache, resolve, onRead, isExcluded, isIgnored,
+    program, signal, resolver, jobs, types, dynamic, all, cache, resolve, onRead, isExcluded, isIgnored,
     follow: files.length > 0,
   });
   await cache?.save();
@@ -144,7 +137,7 @@ class FileGraph {
     return this.#graph.cycles();
   }
 
-  /** @returns {Promise<import("./graph.mjs").Unreached>} */
+  /** @returns {Promise<import("./graph.cjs").Unreached>} */
   unreached() {
     const classesOf = this.entries ? unreachedOf : unledOf;
     return classesOf(this.#graph, this.#named, this.#project);

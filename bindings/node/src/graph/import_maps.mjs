@@ -79,18 +79,12 @@ export class ImportMaps {
     return this.#notices.splice(0);
   }
 
-  /**
-   * @param {string} file
-   * @returns {ImportMap | undefined}
-   */
+  /** @param {string} file @returns {ImportMap | undefined} */
   #of(file) {
     return file.includes(MODULES) ? undefined : this.#nearest(dirname(file));
   }
 
-  /**
-   * @param {string} folder
-   * @returns {ImportMap | undefined}
-   */
+  /** @param {string} folder @returns {ImportMap | undefined} */
   #nearest(folder) {
     if (!this.#byFolder.has(folder)) {
       const path = NAMES.map((name) => join(folder, name)).find((each) => this.#isThere(each));
@@ -208,10 +202,7 @@ export class ImportMaps {
     return {};
   }
 
-  /**
-   * @param {string} path
-   * @returns {Record<string, unknown>} none where it can't be read
-   */
+  /** @param {string} path @returns {Record<string, unknown>} none where it can't be read */
   #membersOf(path) {
     let members = this.#members.get(path);
     if (!members) {
@@ -221,10 +212,7 @@ export class ImportMaps {
     return members;
   }
 
-  /**
-   * @param {string} path
-   * @returns {Record<string, unknown>}
-   */
+  /** @param {string} path @returns {Record<string, unknown>} */
   #read(path) {
     try {
       return this.#objectOf(parseWithComments(this.#files.read(path)), `${path}: passed over`);
@@ -264,10 +252,7 @@ function targetIn(imports, name) {
   return best === undefined ? undefined : imports.get(best) + name.slice(best.length);
 }
 
-/**
- * @param {string} target
- * @returns {Configured}
- */
+/** @param {string} target @returns {Configured} */
 function configuredBy(target) {
   if (!target.startsWith("file:")) {
     return { by: "importmap", paths: [], name: target };

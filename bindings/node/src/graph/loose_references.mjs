@@ -2,7 +2,7 @@
  * Calls and tags that may name modules at run time, found in a text by a search: what `ModuleInfo` doesn't
  * have, and what is in files that aren't parsed. A comment or a string that looks like such a call counts too.
  *
- * @typedef {import("./graph.mjs").ReasonKind} ReasonKind
+ * @typedef {import("./graph.cjs").ReasonKind} ReasonKind
  *
  * @typedef {object} LooseReference
  * @property {ReasonKind} kind
@@ -54,10 +54,7 @@ function pattern(...parts) {
   return new RegExp(parts.join(""), "g");
 }
 
-/**
- * @param {string} text
- * @returns {LooseReference[]} the calls
- */
+/** @param {string} text @returns {LooseReference[]} the calls */
 export function looseCalls(text) {
   return text.length <= LONGEST_TEXT && ANY_CALL.test(text)
     ? CALLS.flatMap(({ call, kind, form = "name" }) => referencesAfter(text, call, { kind, form }))

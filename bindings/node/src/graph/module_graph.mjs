@@ -1,12 +1,12 @@
 /**
  * A graph of modules, and what can be asked of it.
  *
- * @typedef {import("./graph.mjs").Cycle} NamedCycle
- * @typedef {import("./graph.mjs").Edge} Edge
- * @typedef {import("./graph.mjs").GraphModule} GraphModule
- * @typedef {import("./graph.mjs").Mention} Mention
- * @typedef {import("./graph.mjs").Reference} Reference
- * @typedef {import("./graph.mjs").Step} Step
+ * @typedef {import("./graph.cjs").Cycle} NamedCycle
+ * @typedef {import("./graph.cjs").Edge} Edge
+ * @typedef {import("./graph.cjs").GraphModule} GraphModule
+ * @typedef {import("./graph.cjs").Mention} Mention
+ * @typedef {import("./graph.cjs").Reference} Reference
+ * @typedef {import("./graph.cjs").Step} Step
  *
  * @typedef {object} Counted
  * @property {boolean} [types] whether edges of types, JSDoc and references count
@@ -59,10 +59,7 @@ export class ModuleGraph {
     this.#edges.delete(module.specifier);
   }
 
-  /**
-   * @param {string} key
-   * @returns {GraphModule | undefined}
-   */
+  /** @param {string} key @returns {GraphModule | undefined} */
   module(key) {
     return this.#modules.get(key);
   }
@@ -131,8 +128,19 @@ export class ModuleGraph {
 
   /** @returns {Mention[]} the references to what isn't found, or isn't installed */
   missing() {
+    return this.#mentions(isMissing);
+  }
+
+  /** @returns {Mention[]} the references in JavaScript that other rules than node's find */
+  foundByOthers() {
+    return this.#mentions(({ resolved }) => !["node", undefined].includes(/** @type {any} */ (resolved).by))
+      .filter(({ module }) => !isTypeScript(module));
+  }
+
+  /** @param {(reference: Reference) => boolean} isMeant */
+  #mentions(isMeant) {
     return this.listed.flatMap(({ specifier, references }) => {
-      return references.filter((each) => this.#counts(each) && isMissing(each))
+      return references.filter((each) => this.#counts(each) && isMeant(each))
         .map((reference) => ({ module: specifier, reference }));
     });
   }

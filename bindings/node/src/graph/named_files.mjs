@@ -11,15 +11,9 @@ import { canonicalUrl } from "./reach.mjs";
  * @implements {AsyncIterable<Found>}
  */
 export class NamedFiles {
-  /**
-   * The keys of the files of paths that are listed.
-   * @type {string[]}
-   */
+  /** @type {string[]} The keys of the files of paths that are listed. */
   keys = [];
-  /**
-   * The absolute paths of pages and components, which aren't read as modules.
-   * @type {string[]}
-   */
+  /** @type {string[]} The absolute paths of pages and components, which aren't read as modules. */
   pages = [];
   #paths;
   #entries;

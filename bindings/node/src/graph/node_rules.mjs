@@ -384,10 +384,7 @@ export class NodeRules {
     return found.kind === "none" && this.#files.at(path).kind === "folder" ? this.#asFolder(path) : found;
   }
 
-  /**
-   * @param {string} folder
-   * @returns {Found}
-   */
+  /** @param {string} folder @returns {Found} */
   #asFolder(folder) {
     const main = this.#manifests.of(folder)?.main;
     const path = main ? absolute(folder, main) : undefined;
@@ -422,10 +419,7 @@ export function packageName(specifier) {
   return name === "" || NO_PACKAGE.test(name) ? undefined : { name, rest };
 }
 
-/**
- * @param {string} folder
- * @returns {string[]} each `node_modules` that may be above a folder
- */
+/** @param {string} folder @returns {string[]} each `node_modules` that may be above a folder */
 function modulesAbove(folder) {
   const parent = dirname(folder);
   const own = basename(folder) === "node_modules" ? [] : [join(folder, "node_modules")];
@@ -441,10 +435,7 @@ function inPackage(found, folder) {
   return found.kind === "none" ? { ...found, package: folder } : found;
 }
 
-/**
- * @param {Found} found
- * @returns {Found} not looked for in other folders
- */
+/** @param {Found} found @returns {Found} not looked for in other folders */
 function final(found) {
   return found.kind === "none" ? { ...found, isFinal: true } : found;
 }

@@ -193,10 +193,7 @@ function targetOfText(target, { match, isImport }, { folder }) {
   return { kind: "file", url: match === undefined ? url : new URL(filled(url.href)) };
 }
 
-/**
- * @param {string} target
- * @returns {Target}
- */
+/** @param {string} target @returns {Target} */
 function invalid(target) {
   const text = JSON.stringify(target);
   return { kind: "invalid", why: `${text} is no target: it leads out of the package, or begins without "./"` };
@@ -207,18 +204,12 @@ function isArrayIndex(key) {
   return String(Number(key)) === key && Number(key) >= 0 && Number(key) < 2 ** 32 - 1;
 }
 
-/**
- * @param {unknown} value
- * @returns {value is Record<string, unknown>}
- */
+/** @param {unknown} value @returns {value is Record<string, unknown>} */
 export function isObject(value) {
   return typeof value === "object" && value !== null && !Array.isArray(value);
 }
 
-/**
- * @param {string} character
- * @returns {string} an expression for it and its two encodings in a URL
- */
+/** @param {string} character @returns {string} an expression for it and its two encodings in a URL */
 function orEncoded(character) {
   const code = (/** @type {string} */ each) => `%${each.charCodeAt(0).toString(16)}`;
   const upper = character.toUpperCase();

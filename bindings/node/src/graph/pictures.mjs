@@ -1,6 +1,6 @@
 /** Writes a graph in the languages of programs that draw. */
 
-/** @typedef {import("./graph.mjs").Edge} Edge */
+/** @typedef {import("./graph.cjs").Edge} Edge */
 
 /** Kinds of edges that are drawn without a name. */
 const PLAIN = new Set(["static", "require"]);

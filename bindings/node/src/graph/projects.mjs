@@ -8,28 +8,49 @@ const REPOSITORY = [".git", ".hg"];
 const PACKAGES = ["node_modules"];
 
 /**
+ * @typedef {object} Project
+ * @property {string} [project] its folder
+ * @property {boolean} isWhole whether no more of it may be above that folder
+ * @property {boolean} [isRepository]
+ */
+
+/**
  * The folder of the repository that a folder is in; else the uppermost one with a package.json or a
  * configuration; else the nearest one with packages, above which more of the project may be.
  * @param {string} folder absolute and normal
  * @param {import("../files/regular_files.mjs").RegularFiles} files
- * @returns {{ project?: string, isWhole: boolean }}
+ * @param {Map<string, Project>} known those of folders that were asked for
+ * @returns {Project}
  */
-export function projectOf(folder, files) {
-  const has = (/** @type {string} */ each, /** @type {string[]} */ names) => {
-    return names.some((name) => files.at(join(each, name)).kind !== "none");
-  };
-  const above = foldersFrom(folder);
-  const project = above.find((each) => has(each, REPOSITORY)) ?? above.filter((each) => has(each, MARKS)).at(-1);
-  return project === undefined
-    ? { project: above.find((each) => has(each, PACKAGES)), isWhole: false }
-    : { project, isWhole: true };
+export function projectOf(folder, files, known) {
+  let found = known.get(folder);
+  if (!found) {
+    const parent = dirname(folder);
+    const above = parent === folder ? { isWhole: false } : projectOf(parent, files, known);
+    found = withFolder(folder, above, files);
+    known.set(folder, found);
+  }
+  return found;
 }
 
 /**
  * @param {string} folder
- * @returns {string[]} the folder, and all above it
+ * @param {Project} above the project of the folder around it
+ * @param {import("../files/regular_files.mjs").RegularFiles} files
+ * @returns {Project}
  */
-function foldersFrom(folder) {
-  const parent = dirname(folder);
-  return parent === folder ? [folder] : [folder, ...foldersFrom(parent)];
+function withFolder(folder, above, files) {
+  const has = (/** @type {string[]} */ names) => {
+    return names.some((name) => files.at(join(folder, name)).kind !== "none");
+  };
+  if (has(REPOSITORY)) {
+    return { project: folder, isWhole: true, isRepository: true };
+  }
+  if (above.isWhole) {
+    return above;
+  }
+  if (has(MARKS)) {
+    return { project: folder, isWhole: true };
+  }
+  return has(PACKAGES) ? { project: folder, isWhole: false } : above;
 }

@@ -1,13 +1,12 @@
-/**
- * Which files some entries reach, by `modinfo reach`.
- */
+/** Which files some entries reach, by `modinfo reach`. */
 
 import { spawn } from "node:child_process";
-import { realpathSync } from "node:fs";
 import { Readable } from "node:stream";
 import { pipeline } from "node:stream/promises";
 import { text } from "node:stream/consumers";
 import { pathToFileURL } from "node:url";
+
+import { realPath } from "../files/urls.mjs";
 
 /** The key of a module that names the entries; no file has it. */
 const ROOT = "";
@@ -23,19 +22,10 @@ const canonical = new Map();
 export function canonicalUrl(path) {
   let url = canonical.get(path);
   if (url === undefined) {
-    url = pathToFileURL(realPath(path)).href;
+    url = pathToFileURL(realPath(path) ?? path).href;
     canonical.set(path, url);
   }
   return url;
-}
-
-/** @param {string} path */
-function realPath(path) {
-  try {
-    return realpathSync.native(path);
-  } catch {
-    return path;
-  }
 }
 
 /**

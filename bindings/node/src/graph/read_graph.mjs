@@ -3,24 +3,31 @@
 import { resolve as absolute } from "node:path";
 import { fileURLToPath } from "node:url";
 
-import { mediaTypeOf } from "../document/media_types.mjs";
-import { withoutExcerpt } from "../runtime/faults.mjs";
+import { readFiles } from "../runtime/read_files.mjs";
+import { isDeclaration, isModule } from "./file_kinds.mjs";
 import { ModuleGraph } from "./module_graph.mjs";
 import { canonicalUrl } from "./reach.mjs";
-import { readModules } from "./read_modules.mjs";
-import { isRunKind } from "./references.mjs";
+import { isRunKind, referencesOf } from "./references.mjs";
 import { Walk } from "./walk.mjs";
 
 /**
  * @typedef {import("../files/find_files.mjs").Found} Found
- * @typedef {import("./read_modules.mjs").ReadModule & import("../runtime/read_files.mjs").ReadFile} ReadFile
- * @typedef {import("./graph.mjs").GraphModule} GraphModule
- * @typedef {import("./graph.mjs").Reference} Reference
- * @typedef {import("./graph.mjs").ResolveHook} ResolveHook
+ * @typedef {import("./graph.cjs").GraphModule} GraphModule
+ * @typedef {import("./graph.cjs").Reference} Reference
+ * @typedef {import("./graph.cjs").ResolveHook} ResolveHook
  *
- * @typedef {import("./read_modules.mjs").ReadOptions & GraphWords} GraphOptions
+ * @typedef {object} ReadModule
+ * @property {any} [info] the file's `ModuleInfo`, in which each object that names a module has `resolved`; none
+ *   with a fault
+ * @property {GraphModule} [module] none with a fault
+ * @property {string[]} [notices] what is wrong with a configuration
+ *
+ * @typedef {Omit<import("../runtime/read_files.mjs").FileResult, "info" | "value"> & ReadModule} ReadFile
+ *
+ * @typedef {import("../runtime/read_files.mjs").ReadOptions & GraphWords} GraphOptions
  *
  * @typedef {object} GraphWords
+ * @property {import("./resolver.mjs").Resolver} resolver
  * @property {boolean} [types] whether edges of types, JSDoc and references count
  * @property {boolean} [dynamic] whether edges of `import(..)` count; true where it is missing
  * @property {boolean} [follow] whether files are read that the named ones lead to
@@ -42,9 +49,9 @@ export async function readGraph(named, options) {
   const { types, dynamic, isExcluded = () => false, resolve, onRead = async () => {} } = options;
   const graph = new ModuleGraph({ types, dynamic });
   const walk = new Walk(named);
-  const { work, resolver, jobs, timeout, cache } = options;
-  const files = options.ahead?.(walk) ?? walk;
-  for await (const result of readModules(files, { work, resolver, jobs, timeout, cache })) {
+  for await (const { info: json, value, ...read } of readFiles(options.ahead?.(walk) ?? walk, options)) {
+    const info = json && (value ?? JSON.parse(String(json)));
+    const result = info === undefined ? read : { ...read, ...resolved(read.path, info, options.resolver) };
     await onRead(result);
     if (result.isLeft) {
       walk.pass([]);
@@ -61,14 +68,25 @@ export async function readGraph(named, options) {
 }
 
 /**
+ * @param {string} path
+ * @param {any} info a `ModuleInfo`
+ * @param {import("./resolver.mjs").Resolver} resolver
+ * @returns {ReadModule}
+ */
+function resolved(path, info, resolver) {
+  const file = absolute(path);
+  resolver.resolveInfo(info, file);
+  const references = referencesOf(info, { isDeclaration: isDeclaration(file) });
+  return { info, module: { specifier: canonicalUrl(file), references }, notices: resolver.takeNotices() };
+}
+
+/**
  * @param {ReadFile} result
  * @param {(path: string) => boolean} isExcluded
  * @returns {GraphModule}
  */
 function moduleOf({ path, module, fault }, isExcluded) {
-  const kept = fault && withoutExcerpt(fault);
-  const specifier = canonicalUrl(absolute(path));
-  const found = module ?? { specifier, references: [], ...(kept && { fault: kept }) };
+  const found = module ?? { specifier: canonicalUrl(absolute(path)), references: [], ...(fault && { fault }) };
   return isExcluded(absolute(path)) ? { ...found, isExcluded: true } : found;
 }
 
@@ -88,9 +106,10 @@ async function resolveBy(resolve, { specifier: from, references }) {
   }
 }
 
-/** @param {string | URL} found a path or the URL of a file */
+/** @param {string | import("./graph.cjs").Url} found a path or the URL of a file */
 function pathOf(found) {
-  return found instanceof URL || found.startsWith("file:") ? fileURLToPath(found) : absolute(found);
+  const text = typeof found === "string" ? found : found.href;
+  return text.startsWith("file:") ? fileURLToPath(text) : absolute(text);
 }
 
 /**
@@ -98,7 +117,7 @@ function pathOf(found) {
  * @param {GraphOptions} options
  * @returns {string[]}
  */
-function pathsToFollow({ references }, { follow, types, dynamic, all, work, isIgnored = () => false }) {
+function pathsToFollow({ references }, { follow, types, dynamic, all, isIgnored = () => false }) {
   const isFollowed = (/** @type {Reference} */ { kind, resolved }) => {
     const counts = isRunKind(kind) ? kind !== "dynamic" || dynamic !== false : types;
     return counts && (resolved.class === "file" || (all && resolved.class === "package"));
@@ -107,6 +126,5 @@ function pathsToFollow({ references }, { follow, types, dynamic, all, work, isIg
     const found = /** @type {{ file?: string, types?: string }} */ (resolved);
     return [found.file ?? [], (types && found.types) || []].flat();
   });
-  return urls.map((url) => fileURLToPath(url))
-    .filter((path) => work.mediaTypes.includes(mediaTypeOf(path) ?? "") && !isIgnored(path));
+  return urls.map((url) => fileURLToPath(url)).filter((path) => isModule(path) && !isIgnored(path));
 }

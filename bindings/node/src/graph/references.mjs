@@ -1,15 +1,15 @@
 /**
  * The ranges in a module that name other modules, by its `ModuleInfo`.
  *
- * @typedef {import("./graph.mjs").Edge} Edge
- * @typedef {import("./graph.mjs").Reference} Reference
- * @typedef {import("./graph.mjs").ReferenceKind} ReferenceKind
- * @typedef {import("./graph.mjs").Resolution} Resolution
- * @typedef {import("../document/module_info.mjs").DynamicDependencyKind} DynamicDependencyKind
- * @typedef {import("../document/module_info.mjs").DynamicTemplatePart} DynamicTemplatePart
- * @typedef {import("../document/module_info.mjs").PositionRange} PositionRange
- * @typedef {import("../document/module_info.mjs").ResolutionMode} ResolutionMode
- * @typedef {import("../document/module_info.mjs").StaticDependencyKind} StaticDependencyKind
+ * @typedef {import("./graph.cjs").Edge} Edge
+ * @typedef {import("./graph.cjs").Reference} Reference
+ * @typedef {import("./graph.cjs").ReferenceKind} ReferenceKind
+ * @typedef {import("./graph.cjs").Resolution} Resolution
+ * @typedef {import("../document/module_info.cjs").DynamicDependencyKind} DynamicDependencyKind
+ * @typedef {import("../document/module_info.cjs").DynamicTemplatePart} DynamicTemplatePart
+ * @typedef {import("../document/module_info.cjs").PositionRange} PositionRange
+ * @typedef {import("../document/module_info.cjs").ResolutionMode} ResolutionMode
+ * @typedef {import("../document/module_info.cjs").StaticDependencyKind} StaticDependencyKind
  *
  * @typedef {object} Named an object of a `ModuleInfo` that names a module
  * @property {any} node the object itself, which gets the member `resolved`
@@ -162,10 +162,7 @@ function ofComment(node, kind, syntax) {
   return { node, kind, specifier, range, syntax, mode: modeOf(resolutionMode) };
 }
 
-/**
- * @param {Named} named
- * @returns {Named}
- */
+/** @param {Named} named @returns {Named} */
 function asType(named) {
   return isRunKind(named.kind) ? { ...named, kind: "type" } : named;
 }

@@ -36,9 +36,9 @@ export function readResolveOptions(info, options) {
   if (typeof info !== "object" || info === null) {
     throw new TypeError(`a ModuleInfo must be an object, and is ${String(info)}`);
   }
-  const { specifier, types = true } = options ?? {};
+  const { specifier, types = false } = options ?? {};
   const path = pathOf(specifier, "specifier");
-  if (!String(specifier).startsWith("file:")) {
+  if (!String(specifier.href ?? specifier).startsWith("file:")) {
     throw new TypeError(`specifier must be the URL of a file, and is ${String(specifier)}`);
   }
   return { info, path, options: { types, ...readResolverOptions(options) } };
@@ -66,16 +66,16 @@ export function readResolverOptions({ tsconfig, conditions = [], root }) {
 }
 
 /**
- * @param {unknown} value a path or the URL of a file
+ * @param {any} value a path or the URL of a file
  * @param {string} name of the option
  * @returns {string} an absolute path
  * @throws {TypeError} it is neither
  */
 export function pathOf(value, name) {
-  const isText = typeof value === "string" && value !== "";
-  if (!isText && !(value instanceof URL)) {
+  const text = value?.href ?? value;
+  if (typeof text !== "string" || text === "") {
     throw new TypeError(`${name} must be a path or the URL of a file, and is ${String(value)}`);
   }
-  const isUrl = value instanceof URL || value.startsWith("file:");
-  return isUrl ? fileURLToPath(value) : absolute(String(value));
+  const isUrl = text !== value || text.startsWith("file:");
+  return isUrl ? fileURLToPath(text) : absolute(text);
 }

@@ -1,6 +1,6 @@
 /** What the names in modules lead to. */
 
-import type { Resolution } from "./graph.mjs";
+import type { Resolution } from "./graph.cjs";
 import type { System } from "../files/regular_files.mjs";
 
 export interface ResolverOptions {

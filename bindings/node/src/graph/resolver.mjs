@@ -1,7 +1,7 @@
 /**
  * What the names in modules lead to.
  *
- * @typedef {import("./graph.mjs").Resolution} Resolution
+ * @typedef {import("./graph.cjs").Resolution} Resolution
  * @typedef {import("./package_manifests.mjs").Format} Mode
  * @typedef {import("./references.mjs").Named} Named
  * @typedef {import("./references.mjs").Syntax} Syntax
@@ -16,7 +16,7 @@ import { pathToFileURL } from "node:url";
 
 import { RegularFiles } from "../files/regular_files.mjs";
 import { ConfiguredNames } from "./configured_names.mjs";
-import { globalFolders, isAsset, isDeclaration, isInstalled, isTypeScript } from "./file_kinds.mjs";
+import { declarationOf, globalFolders, isAsset, isDeclaration, isInstalled, isTypeScript } from "./file_kinds.mjs";
 import { PackageManifests } from "./package_manifests.mjs";
 import { projectOf } from "./projects.mjs";
 import { namedBy } from "./references.mjs";
@@ -26,13 +26,14 @@ import { TypeScriptTypes } from "./typescript_types.mjs";
 /** The most characters of a name. */
 const MAX_LENGTH = 4096;
 
+/** How many names are kept, and the most characters of one. */
+const MAX_KNOWN = 500_000;
+const MAX_KNOWN_LENGTH = 200;
+
 /** What a package that isn't installed may be called. */
 const PACKAGE_NAME = /^(?:@[^/!]+\/)?[^.@/!][^/!]*$/;
 
-/**
- * @param {ResolverOptions} [options]
- * @returns {Resolver}
- */
+/** @param {ResolverOptions} [options] @returns {Resolver} */
 export function createResolver(options) {
   return new Resolver(options);
 }
@@ -44,10 +45,15 @@ class Resolver {
   #names;
   #search;
   #types;
-  /** @type {Set<string>} */
-  #projects = new Set();
+  /** @type {Map<string, import("./projects.mjs").Project>} */
+  #projects = new Map();
+  /** The folders whose project was added. */
+  #added = new Set();
   /** @type {Map<string, Importer>} */
   #importers = new Map();
+  /** @type {Map<string, Importer["known"]>} By what decides where names lead. */
+  #known = new Map();
+  #knownCount = 0;
 
   /** @param {ResolverOptions} [options] */
   constructor(options = {}) {
@@ -116,9 +122,9 @@ class Resolver {
 
   /** @param {string} folder */
   #addProject(folder) {
-    if (!this.#projects.has(folder)) {
-      this.#projects.add(folder);
-      const { project, isWhole } = projectOf(folder, this.#files);
+    if (!this.#added.has(folder)) {
+      this.#added.add(folder);
+      const { project, isWhole } = projectOf(folder, this.#files, this.#projects);
       if (project !== undefined) {
         this.#files.addProject(project);
       }
@@ -136,7 +142,11 @@ class Resolver {
   #importerOf(path, isScript) {
     const isSource = isTypeScript(path) && !isDeclaration(path) && !isInstalled(path);
     const suffixes = isSource ? this.#names.configurationOf(path)?.options.moduleSuffixes : undefined;
-    return { path, isTypeScript: isSource, isScript, format: this.#names.formatOf(path, isSource), suffixes };
+    const format = this.#names.formatOf(path, isSource);
+    const key = [isSource, isScript, format, dirname(path), this.#names.scopeOf(path)].join("\0");
+    const known = this.#known.get(key) ?? new Map();
+    this.#known.set(key, known);
+    return { path, isTypeScript: isSource, isScript, format, suffixes, known };
   }
 
   /**
@@ -152,13 +162,45 @@ class Resolver {
     if (specifier === "" || specifier.length > MAX_LENGTH || specifier.includes("\0")) {
       return { class: "missing" };
     }
+    const key = `${syntax} ${named.mode} ${specifier}`;
+    let found = importer.known.get(key);
+    if (!found) {
+      found = this.#found({ ...named, specifier }, importer);
+      if (specifier.length <= MAX_KNOWN_LENGTH && this.#knownCount < MAX_KNOWN) {
+        this.#knownCount++;
+        importer.known.set(key, found);
+      }
+    }
+    return found;
+  }
+
+  /**
+   * @param {import("./search.mjs").Name} named
+   * @param {Importer} importer
+   * @returns {Resolution}
+   */
+  #found(named, importer) {
+    const { specifier, syntax } = named;
     if (syntax === "path") {
       return this.#referenced(specifier, importer);
     }
     const name = syntax === "jsx" ? `${specifier}/jsx-runtime` : specifier;
     const run = this.#search.find({ ...named, specifier: name }, importer);
-    const types = this.#types?.find(name, importer.path, { syntax, mode: named.mode, format: importer.format });
+    const types = this.#types
+      ? this.#types.find(name, importer.path, { syntax, mode: named.mode, format: importer.format })
+      : this.#typesBeside(run);
     return this.#classified(name, importer, run, types);
+  }
+
+  /**
+   * The declaration file beside what runs.
+   * @param {Run} run
+   * @returns {string | undefined} its path
+   */
+  #typesBeside({ found }) {
+    const path = found.kind === "file" ? declarationOf(found.path) : undefined;
+    const beside = path === undefined ? undefined : this.#files.at(path);
+    return beside?.kind === "file" && !this.#files.isOutside(beside) ? beside.path : undefined;
   }
 
   /**

@@ -20,6 +20,8 @@
  * @property {boolean} isScript whether it has no syntax of ES modules
  * @property {Mode | undefined} format what an `import` in it becomes
  * @property {string[]} [suffixes] what names may have before their endings
+ * @property {Map<string, import("./graph.cjs").Resolution>} known what names lead to, in all files of the folder
+ *   that have the same rules
  */
 
 import { isBuiltin } from "node:module";
@@ -388,10 +390,7 @@ function nodeModes({ syntax, mode }, { isTypeScript: isSource, isScript, format 
   return syntax === "import" && isSource && format === "require" ? ["require"] : ["import", "require"];
 }
 
-/**
- * @param {string} specifier
- * @returns {Run | undefined} nothing for a path and for a name
- */
+/** @param {string} specifier @returns {Run | undefined} nothing for a path and for a name */
 function byScheme(specifier) {
   const scheme = SCHEME.exec(specifier)?.[1].toLowerCase();
   switch (scheme) {
@@ -405,10 +404,7 @@ function byScheme(specifier) {
   }
 }
 
-/**
- * @param {string} url
- * @returns {Target}
- */
+/** @param {string} url @returns {Target} */
 function schemeOf(url) {
   const scheme = url.slice(0, url.indexOf(":")).toLowerCase();
   return { kind: scheme === "data" || scheme === "npm" || scheme === "jsr" ? scheme : "url" };

@@ -2,7 +2,7 @@
 
 import { resolve as absolute } from "node:path";
 
-import { isAtLeast, loadParser } from "../parsers/installed_parsers.mjs";
+import { loadTypeScript } from "../files/own_files.mjs";
 import { isTypeScript } from "./file_kinds.mjs";
 
 /** Diagnostics of a file that can't be read, which are reported without TypeScript. */
@@ -24,7 +24,7 @@ export class TypeScriptTypes {
   /** @type {Compiler} */
   #compiler;
   #system;
-  /** By the path of the configuration. @type {Map<string | undefined, Settings>} */
+  /** @type {Map<string | undefined, Settings>} By the path of the configuration. */
   #settings = new Map();
   /** @type {string[]} */
   #notices = [];
@@ -49,7 +49,7 @@ export class TypeScriptTypes {
    * @returns {string | undefined} its path, without links
    */
   find(specifier, importer, { syntax, mode: asked, format }) {
-    this.#compiler ??= loadParser("typescript");
+    this.#compiler ??= loadTypeScript();
     const mode = asked ?? modeOf(syntax, format);
     const settings = this.#settingsOf(importer);
     const directive = syntax === "types" ? this.#findDirective(specifier, importer, settings, mode) : undefined;
@@ -107,7 +107,7 @@ export class TypeScriptTypes {
    */
   #findByJavaScriptName(name, find) {
     const [ending, kind, jsx] = /\.([cm]?)ts(x?)$/.exec(name) ?? [];
-    if (ending === undefined || isAtLeast(this.#compiler, 5, 0)) {
+    if (ending === undefined || Number.parseInt(this.#compiler.version) >= 5) {
       return undefined;
     }
     const found = find(`${name.slice(0, -ending.length)}.${kind}js${jsx}`);
@@ -152,10 +152,7 @@ export class TypeScriptTypes {
     return { allowJs: true, module: NodeNext, moduleResolution };
   }
 
-  /**
-   * @param {any} options
-   * @returns {Settings}
-   */
+  /** @param {any} options @returns {Settings} */
   #withCache(options) {
     const customConditions = [...(options.customConditions ?? []), ...this.#conditions];
     const all = customConditions.length > 0 ? { ...options, customConditions } : options;

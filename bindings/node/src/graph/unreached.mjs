@@ -2,9 +2,9 @@
  * The modules that no entry reaches by what runs, in three classes: unreached, perhaps reached, and reached by
  * types alone. A module is perhaps reached where something that isn't known as a whole may lead to it.
  *
- * @typedef {import("./graph.mjs").Reason} Reason
- * @typedef {import("./graph.mjs").Reference} Reference
- * @typedef {import("./graph.mjs").Unreached} Unreached
+ * @typedef {import("./graph.cjs").Reason} Reason
+ * @typedef {import("./graph.cjs").Reference} Reference
+ * @typedef {import("./graph.cjs").Unreached} Unreached
  * @typedef {import("./loose_references.mjs").LooseReference} LooseReference
  * @typedef {import("./module_graph.mjs").ModuleGraph} ModuleGraph
  *
@@ -28,10 +28,7 @@ import { looseCalls, looseImports } from "./loose_references.mjs";
 import { Candidates } from "./name_patterns.mjs";
 import { isRunKind } from "./references.mjs";
 
-/**
- * @param {import("./resolver.mjs").Resolver} resolver
- * @returns {Project["find"]}
- */
+/** @param {import("./resolver.mjs").Resolver} resolver @returns {Project["find"]} */
 export function finderOf(resolver) {
   return (name, from) => {
     const { file } = /** @type {{ file?: string }} */ (resolver.resolve(name, from));
@@ -130,10 +127,7 @@ class Search {
   #candidates;
   /** @type {Map<string, Reason>} */
   #found = new Map();
-  /**
-   * The keys of modules, and the paths of other files.
-   * @type {Set<string>}
-   */
+  /** @type {Set<string>} The keys of modules, and the paths of other files. */
   #todo = new Set();
 
   /**
@@ -310,7 +304,7 @@ function foldersOf(from, first, kind) {
 /**
  * @param {string} key
  * @param {object} [fault] of the module
- * @returns {import("./graph.mjs").ReasonKind}
+ * @returns {import("./graph.cjs").ReasonKind}
  */
 function kindOfText(key, fault) {
   if (fault) {
@@ -319,10 +313,7 @@ function kindOfText(key, fault) {
   return isPage(fileURLToPath(key)) ? "script" : "ignored";
 }
 
-/**
- * @param {string} key
- * @returns {string | undefined} nothing where the file can't be read
- */
+/** @param {string} key @returns {string | undefined} nothing where the file can't be read */
 function textOf(key) {
   try {
     const text = String(readRegularFile(fileURLToPath(key)));

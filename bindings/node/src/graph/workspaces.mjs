@@ -42,10 +42,7 @@ export class Workspaces {
     return importer.includes(MODULES) ? undefined : this.#packages(dirname(importer)).get(name);
   }
 
-  /**
-   * @param {string} folder
-   * @returns {Map<string, string>}
-   */
+  /** @param {string} folder @returns {Map<string, string>} */
   #packages(folder) {
     let packages = this.#byFolder.get(folder);
     if (!packages) {
@@ -59,10 +56,7 @@ export class Workspaces {
     return packages;
   }
 
-  /**
-   * @param {string} folder
-   * @returns {string[]}
-   */
+  /** @param {string} folder @returns {string[]} */
   #patternsOf(folder) {
     const workspaces = this.#manifests.of(folder)?.members.workspaces;
     const patterns = isObject(workspaces) ? workspaces.packages : workspaces;
@@ -70,10 +64,7 @@ export class Workspaces {
     return own.length > 0 ? own : this.#pnpmPatterns(join(folder, PNPM));
   }
 
-  /**
-   * @param {string} path
-   * @returns {string[]}
-   */
+  /** @param {string} path @returns {string[]} */
   #pnpmPatterns(path) {
     if (this.#files.at(path).kind !== "file") {
       return [];
@@ -105,10 +96,7 @@ export class Workspaces {
     return names.flatMap((name) => this.#folders(join(folder, name), rest));
   }
 
-  /**
-   * @param {string[]} folders
-   * @returns {Map<string, string>}
-   */
+  /** @param {string[]} folders @returns {Map<string, string>} */
   #named(folders) {
     const found = new Map();
     for (const folder of folders) {

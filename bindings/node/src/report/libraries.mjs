@@ -2,10 +2,7 @@
 
 import { join } from "node:path";
 
-import { ownRequire, readOwnFile } from "../files/own_files.mjs";
-
-/** The folder of Debian's packages. Debian's node looks for modules there, others don't. */
-const DEBIAN_MODULES = "/usr/share/nodejs";
+import { DEBIAN_MODULES, ownRequire, readOwnFile } from "../files/own_files.mjs";
 
 /**
  * The libraries: of each the file that a browser can run, and what the library draws.

@@ -1,7 +1,7 @@
 /**
  * Targets of the rows of a report's modules, and the edges of the graph.
  *
- * @typedef {import("../graph/graph.mjs").Resolution} Resolution
+ * @typedef {import("../graph/graph.cjs").Resolution} Resolution
  * @typedef {import("./project.mjs").Module} Module
  * @typedef {import("./rows.mjs").Row} Row
  *
@@ -148,10 +148,7 @@ function edgesOfRow({ file }, row, links) {
   return /** @type {any} */ (ends.filter(([to]) => to !== undefined));
 }
 
-/**
- * @param {Row} row
- * @returns {boolean} whether the row runs what it names
- */
+/** @param {Row} row @returns {boolean} whether the row runs what it names */
 function runs({ kind, word }) {
   return isRunKind(kind) || word === "jsxImportSource";
 }

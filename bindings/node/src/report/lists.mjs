@@ -21,7 +21,7 @@
  *
  * @typedef {object} MayBeReached
  * @property {number} module
- * @property {import("../graph/graph.mjs").ReasonKind} kind
+ * @property {import("../graph/graph.cjs").ReasonKind} kind
  * @property {number} [by] the module that has the reason
  * @property {string} [file] else the path of another file, from the report's folder
  * @property {number} [line] from zero
@@ -87,7 +87,7 @@ export function listsOf(modules, links, edges, { unreached, cycles }) {
  */
 export function shownCycles(graph, indexOf) {
   const { cycles, typeCycles } = graph.withTypes().cycles();
-  /** @type {(isRun: boolean) => (cycle: import("../graph/graph.mjs").Cycle) => any} */
+  /** @type {(isRun: boolean) => (cycle: import("../graph/graph.cjs").Cycle) => any} */
   const shown = (isRun) => (cycle) => ({
     modules: cycle.modules.map(indexOf), path: cycle.path.map(indexOf), isRun,
     ...(isRun && graph.isPerhapsOfTypes(cycle) && { isOfTypes: true }),
@@ -98,7 +98,7 @@ export function shownCycles(graph, indexOf) {
 
 /**
  * The classes of what no entry reaches, by the indexes of the report's modules.
- * @param {import("../graph/graph.mjs").Unreached} found
+ * @param {import("../graph/graph.cjs").Unreached} found
  * @param {{ folder: string, links: import("./links.mjs").Links }} report
  * @returns {Unreached}
  */

@@ -8,7 +8,7 @@ import { readRegularFile } from "../files/regular_file.mjs";
 const MEMBERS = ["dependencies", "peerDependencies", "optionalDependencies", "devDependencies"];
 
 export class Manifests {
-  /** By folders. @type {Map<string, any>} */
+  /** @type {Map<string, any>} By folders. */
   #nearest = new Map();
 
   /**

@@ -114,10 +114,7 @@ function hash(text) {
   return `sha256-${createHash("sha256").update(text).digest("base64")}`;
 }
 
-/**
- * @param {string} text
- * @returns {string} HTML
- */
+/** @param {string} text @returns {string} HTML */
 export function escapeText(text) {
   return text.replace(/&/g, "&amp;").replace(/</g, "&lt;").replace(/>/g, "&gt;");
 }

@@ -15,11 +15,10 @@
 
 import { dirname, relative, resolve as absolute } from "node:path";
 
-import { faultOf, withoutExcerpt } from "../runtime/faults.mjs";
+import { faultOf } from "../runtime/faults.mjs";
 import { isFolder } from "../files/find_files.mjs";
-import { readRegularFile } from "../files/regular_file.mjs";
+import { readRegularText } from "../files/regular_file.mjs";
 import { canonicalUrl } from "../graph/reach.mjs";
-import { decode } from "../files/document_of_file.mjs";
 import { faultMarks, marksOf } from "./marks.mjs";
 import { rowsOf } from "./rows.mjs";
 
@@ -27,19 +26,13 @@ import { rowsOf } from "./rows.mjs";
 export class Project {
   /** @type {Module[]} */
   #modules = [];
-  #maxBytes;
-
-  /** @param {number} [maxBytes] the most bytes of a file */
-  constructor(maxBytes) {
-    this.#maxBytes = maxBytes;
-  }
 
   /** @param {FileResult} result `info` with its resolutions */
   add({ path, info, fault }) {
     const file = absolute(path);
     const module = { file, path: "", key: canonicalUrl(file), rows: [], marks: [] };
     this.#modules.push(module);
-    this.#read(module, info, fault && withoutExcerpt(fault));
+    this.#read(module, info, fault);
   }
 
   /**
@@ -64,7 +57,7 @@ export class Project {
    */
   #read(module, info, fault) {
     try {
-      module.source = decode(readRegularFile(module.file, this.#maxBytes));
+      module.source = readRegularText(module.file);
       if (fault) {
         module.fault = fault;
         module.marks = faultMarks(module.source, fault);

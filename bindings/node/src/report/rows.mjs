@@ -1,12 +1,12 @@
 /**
  * The rows of a module's table: its dependencies and their ranges.
  *
- * @typedef {import("../document/module_info.mjs").DynamicArgument} DynamicArgument
- * @typedef {import("../document/module_info.mjs").ImportAttributes} ImportAttributes
- * @typedef {import("../document/module_info.mjs").JsDocImportInfo} JsDocImportInfo
- * @typedef {import("../document/module_info.mjs").Position} Position
- * @typedef {import("../document/module_info.mjs").PositionRange} Range
- * @typedef {import("../document/module_info.mjs").ResolutionMode} ResolutionMode
+ * @typedef {import("../document/module_info.cjs").DynamicArgument} DynamicArgument
+ * @typedef {import("../document/module_info.cjs").ImportAttributes} ImportAttributes
+ * @typedef {import("../document/module_info.cjs").JsDocImportInfo} JsDocImportInfo
+ * @typedef {import("../document/module_info.cjs").Position} Position
+ * @typedef {import("../document/module_info.cjs").PositionRange} Range
+ * @typedef {import("../document/module_info.cjs").ResolutionMode} ResolutionMode
  *
  * @typedef {object} Row
  * @property {import("./kinds.mjs").Kind} kind
@@ -21,7 +21,7 @@
  *   which the comment before it names
  * @property {Resolution} [resolved] none if it names no module
  *
- * @typedef {import("../graph/graph.mjs").Resolution} Resolution
+ * @typedef {import("../graph/graph.cjs").Resolution} Resolution
  */
 
 import { kindOf } from "../graph/references.mjs";

@@ -1,5 +1,7 @@
 /** What the options of the calls have in common. */
 
+import os from "node:os";
+
 /**
  * @param {unknown} options
  * @param {string[]} names those that there are
@@ -20,7 +22,7 @@ export function checkKnown(options, names) {
 
 /**
  * @param {{ signal?: unknown } | undefined} options
- * @returns {AbortSignal | undefined}
+ * @returns {import("../index.cjs").Signal | undefined}
  * @throws {TypeError} it is no signal
  */
 export function readSignal(options) {
@@ -28,13 +30,25 @@ export function readSignal(options) {
   if (signal !== undefined && !(signal instanceof AbortSignal)) {
     throw new TypeError("signal must be an AbortSignal");
   }
-  return /** @type {AbortSignal | undefined} */ (signal);
+  return signal;
+}
+
+/**
+ * @param {unknown} [jobs] how many processes run at once
+ * @returns {number} one for each processor, where it is missing
+ * @throws {TypeError} it is no whole number from 1 on
+ */
+export function readJobs(jobs = os.availableParallelism?.() ?? os.cpus().length) {
+  if (!Number.isInteger(jobs) || Number(jobs) < 1) {
+    throw new TypeError(`jobs must be a whole number from 1 on, and is ${String(jobs)}`);
+  }
+  return Number(jobs);
 }
 
 /**
  * The result of a call, unless a signal is aborted before it is there.
  * @template T
- * @param {AbortSignal | undefined} signal
+ * @param {import("../index.cjs").Signal | undefined} signal
  * @param {() => Promise<T>} call isn't made where the signal is aborted already
  * @returns {Promise<T>} rejected with the reason of the signal once that is aborted
  */
@@ -48,7 +62,7 @@ export async function unlessAborted(signal, call) {
   /** @type {Promise<never>} */
   const aborted = new Promise((_, reject) => {
     stop = () => reject(signal.reason);
-    signal.addEventListener("abort", stop, { once: true });
+    signal.addEventListener("abort", stop);
   });
   try {
     return await Promise.race([result, aborted]);

@@ -1,17 +1,46 @@
-/** Documents that `modinfo check` reads, and the positions in them that its reports have. */
+/** Documents as the program gets them, and the positions in them that its reports have. */
 
-import { LONE_SURROGATE, isWellFormed } from "../document/source.mjs";
+import { ModinfoFault } from "./errors.cjs";
 
 /**
- * @typedef {import("./check_report.mjs").Report} Report
- * @typedef {import("./check_report.mjs").TextPlace} TextPlace
+ * @typedef {import("./check_report.cjs").Report} Report
+ * @typedef {import("./check_report.cjs").TextPlace} TextPlace
  */
+
+const LONE_SURROGATE = /\p{Surrogate}/u;
 
 /** No text in UTF-8 has this byte. */
 const NO_UTF8 = Buffer.of(0xff);
 
 /**
- * The document as the program gets it. A text ends with its first lone surrogate, which a byte that
+ * @param {unknown} document
+ * @returns {string | Uint8Array} its JSON
+ * @throws {TypeError} it has none
+ */
+export function jsonOf(document) {
+  const isJson = typeof document === "string" || document instanceof Uint8Array;
+  const json = isJson ? document : JSON.stringify(document);
+  if (json === undefined) {
+    throw new TypeError(`a document is an object, or its JSON, and is ${String(document)}`);
+  }
+  return json;
+}
+
+/**
+ * @template {string | Uint8Array} T
+ * @param {T} text
+ * @returns {T}
+ * @throws {ModinfoFault} it has a lone surrogate
+ */
+export function utf8Of(text) {
+  if (typeof text === "string" && LONE_SURROGATE.test(text)) {
+    throw new ModinfoFault("Input", "Input: a lone surrogate is no UTF-8");
+  }
+  return text;
+}
+
+/**
+ * The document of a check. A text ends with its first lone surrogate, which a byte that
  * UTF-8 doesn't have replaces.
  * @param {string | Uint8Array} json
  * @returns {string | Buffer} no bytes that the caller may change
@@ -20,7 +49,7 @@ export function checkedForm(json) {
   if (typeof json !== "string") {
     return Buffer.from(json);
   }
-  if (isWellFormed(json)) {
+  if (!LONE_SURROGATE.test(json)) {
     return json;
   }
   return Buffer.concat([Buffer.from(json.slice(0, json.search(LONE_SURROGATE))), NO_UTF8]);
@@ -29,11 +58,11 @@ export function checkedForm(json) {
 /**
  * A report with the position in the document as it was handed over: the program reads it as one line.
  * @param {Report} report
- * @param {string | Buffer} document
+ * @param {string | Uint8Array} document
  * @returns {Report}
  */
 export function withPlace(report, document) {
-  return report.fault && report.at
+  return report.fault && report.at && report.pointer === undefined
     ? { ...report, at: placeAt(Buffer.from(document), report.at.offset) }
     : report;
 }
@@ -50,7 +79,7 @@ function placeAt(document, offset) {
 
 /**
  * A report in one line, for people.
- * @param {import("./check_report.mjs").FaultReport} report
+ * @param {import("./check_report.cjs").FaultReport} report
  * @returns {string} one line, as `Tree at /program: expected a member `body``
  */
 export function describeReport(report) {
@@ -59,7 +88,7 @@ export function describeReport(report) {
 
 /**
  * Where a fault is; of `analyze --estree` a fault of the source has a range without a pointer.
- * @param {import("./check_report.mjs").FaultReport} report
+ * @param {import("./check_report.cjs").FaultReport} report
  */
 function positionOf({ pointer, range, at }) {
   if (at) {

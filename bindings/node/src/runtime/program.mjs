@@ -7,7 +7,7 @@ import { resolve as absolute } from "node:path";
 import { fileURLToPath } from "node:url";
 
 import { ownRequire } from "../files/own_files.mjs";
-import { ProgramEnd } from "./service.mjs";
+import { ProgramEnd } from "./errors.cjs";
 
 /** The package that has the program for this system, where there is one. */
 const PACKAGE = `modinfo-${process.platform}-${process.arch}`;
@@ -33,7 +33,8 @@ export function modinfoPath() {
   if (!path) {
     const remedy = REPOSITORY ? "run ./modinfo --prove" : `npm install ${PACKAGE}`;
     throw new ProgramEnd(
-      `the program modinfo is not installed: ${remedy}, or set the environment variable MODINFO to its path`,
+      `the program modinfo is not installed: ${remedy}, or name it by the environment variable MODINFO or the ` +
+      "option program",
     );
   }
   return absolute(path);
@@ -61,7 +62,7 @@ export async function checkProgram(program) {
   const how = await endOf(program).catch(({ message }) => message);
   if (how !== "status 0") {
     const hint = "./modinfo --prove makes it in the repository, MODINFO names another";
-    throw new Error(`${program} doesn't run with analyze --lines: ${how} (${hint})`);
+    throw new Error(`${program} doesn't run with files --null: ${how} (${hint})`);
   }
 }
 
@@ -71,7 +72,7 @@ export async function checkProgram(program) {
  * @returns {Promise<string>} as `status 0` or `SIGTERM`; rejected where it can't be started
  */
 async function endOf(program) {
-  const child = spawn(program, ["analyze", "--lines"], { stdio: ["ignore", "ignore", "inherit"] });
+  const child = spawn(program, ["files", "--null"], { stdio: ["ignore", "ignore", "inherit"] });
   const [status, signal] = await once(child, "close");
   return signal ?? `status ${status}`;
 }

@@ -5,14 +5,16 @@
 export class Queue {
   /** @type {T[]} */
   #entering = [];
-  /**
-   * The next to leave is last.
-   * @type {T[]}
-   */
+  /** @type {T[]} The next to leave is last. */
   #leaving = [];
 
   get length() {
     return this.#entering.length + this.#leaving.length;
+  }
+
+  /** @returns {T | undefined} the next to leave; nothing where the queue is empty */
+  get first() {
+    return this.#leaving.at(-1) ?? this.#entering[0];
   }
 
   /** @param {T} item */
@@ -20,7 +22,7 @@ export class Queue {
     this.#entering.push(item);
   }
 
-  /** @returns {T | undefined} nothing where it is empty */
+  /** @returns {T | undefined} nothing where the queue is empty */
   shift() {
     if (this.#leaving.length === 0) {
       this.#leaving = this.#entering.reverse();

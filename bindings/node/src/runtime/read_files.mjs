@@ -1,86 +1,88 @@
 /**
- * Reads many files at once, in threads.
+ * Reads many files at once, by `modinfo files`.
  *
- * @typedef {import("./file_worker.mjs").Work} Work
- * @typedef {import("../files/analysis_cache.mjs").AnalysisCache} Cache
+ * @typedef {import("../files/analysis_cache.mjs").AnalysisCache} AnalysisCache
  * @typedef {import("../files/find_files.mjs").Found} Found
- * @typedef {import("./file_worker.mjs").FileResult & Found} ReadFile
+ *
+ * @typedef {object} ReadOptions
+ * @property {string} program the path of `modinfo`
+ * @property {number} jobs the most processes at once
+ * @property {AnalysisCache} [cache]
+ * @property {import("../index.cjs").Signal} [signal] ends the processes
+ *
+ * @typedef {object} FileResult
+ * @property {string} path
+ * @property {boolean} [isLeft] whether it is a link that isn't followed
+ * @property {string | Buffer} [info] the JSON of its `ModuleInfo`; none with a fault
+ * @property {object} [value] what was read from it already
+ * @property {import("./faults.mjs").Fault} [fault]
  */
 
-import { faultOf } from "./faults.mjs";
-import { infoLine } from "./info_line.mjs";
-import { Pool, WorkerEnd, inOrder } from "./pool.mjs";
+import { realPath } from "../files/urls.mjs";
+import { isModule } from "../graph/file_kinds.mjs";
+import { filesCommand } from "./commands.mjs";
+import { FileFault, faultOf } from "./faults.mjs";
+import { inOrder } from "./in_order.mjs";
+import { Pool } from "./pool.mjs";
 
-/** How many files are under way for each worker: so many are done while an early one takes long. */
+/** Files that the system calls regular, some of which have no end. */
+const ENDLESS = /^\/(?:proc|sys)\//;
+
+/** How many files are under way for each process: so many are done while an early one takes long. */
 const UNDER_WAY = 256;
 
-/** How many files a worker has before another is started, which loads a parser of its own. */
-const PER_WORKER = 8;
-
-const WORKER = new URL("./file_worker.mjs", import.meta.url);
-
 /**
- * What becomes of each file, in the order of the files.
+ * What is in each file, in the order of the files.
  * @param {AsyncIterable<Found>} files
- * @param {object} options
- * @param {number} options.jobs
- * @param {Work} options.work
- * @param {number} [options.timeout] for a file, in seconds
- * @param {Cache} [options.cache]
- * @returns {AsyncGenerator<ReadFile, void>}
+ * @param {ReadOptions} options
+ * @returns {AsyncGenerator<FileResult, void>}
  */
-export async function* readFiles(files, { jobs, work, timeout, cache }) {
-  const pool = new Pool(WORKER, { jobs, data: work, timeout, perWorker: PER_WORKER });
+export async function* readFiles(files, { program, jobs, cache, signal }) {
+  const pool = new Pool(filesCommand(program), jobs);
+  const end = () => pool.kill();
+  signal?.addEventListener("abort", end);
   try {
-    /** @type {(file: Found) => Promise<ReadFile>} */
-    const read = cache ? (file) => readByCache(pool, file, work, cache) : (file) => readFile(pool, file);
-    yield* inOrder(files, jobs * UNDER_WAY, read);
+    yield* inOrder(files, jobs * UNDER_WAY, (file) => readFile(file, pool, cache));
   } finally {
-    await pool.close();
+    signal?.removeEventListener("abort", end);
+    end();
   }
 }
 
 /**
- * What becomes of a file, without the parser where the cache has what is found in it.
- * @param {Pool} pool
  * @param {Found} file
- * @param {Work} work
- * @param {Cache} cache
- * @returns {Promise<ReadFile>}
- */
-async function readByCache(pool, file, { maxBytes = Infinity, resolve }, cache) {
-  const { path } = file;
-  const { state, analysis } = cache.find(path);
-  const cached = state && Number(state.size) <= maxBytes ? analysis : undefined;
-  if (cached && !resolve && !file.error && !file.isLeft) {
-    return { path, line: infoLine(path, cached.info), warnings: cached.warnings };
-  }
-  const { info, ...result } = await readFile(pool, file, { path, cached, isKept: !cached });
-  if (info !== undefined) {
-    cache.add(path, state, { info, warnings: result.warnings });
-  }
-  return result;
-}
-
-/**
  * @param {Pool} pool
- * @param {Found} file
- * @param {import("./file_worker.mjs").Task} [task]
- * @returns {Promise<ReadFile>}
+ * @param {AnalysisCache} [cache]
+ * @returns {Promise<FileResult>}
  */
-async function readFile(pool, { path, error, isLeft }, task = { path }) {
-  if (error) {
-    return { path, fault: faultOf(error) };
-  }
+async function readFile({ path, error, isLeft }, pool, cache) {
   if (isLeft) {
     return { path, isLeft };
   }
   try {
-    return { path, ...await pool.run(task) };
-  } catch (end) {
-    if (end instanceof WorkerEnd) {
-      return { path, fault: faultOf(end) };
+    if (error || !isModule(path)) {
+      throw error ?? new FileFault("MediaType", "files with this ending are not read");
     }
-    throw end;
+    const { state, info, value } = cache?.find(path) ?? {};
+    return { path, value, info: info ?? await analyzed(path, state, pool, cache) };
+  } catch (fault) {
+    return { path, fault: faultOf(fault) };
   }
+}
+
+/**
+ * @param {string} path
+ * @param {import("../files/analysis_cache.mjs").State | undefined} state before the file is read
+ * @param {Pool} pool
+ * @param {AnalysisCache} [cache]
+ * @returns {Promise<Buffer>}
+ */
+async function analyzed(path, state, pool, cache) {
+  const real = realPath(path) ?? path;
+  if (ENDLESS.test(real)) {
+    throw new FileFault("Input", "a file of the system");
+  }
+  const info = await pool.run(`${real}\0`);
+  cache?.add(path, state, info);
+  return info;
 }

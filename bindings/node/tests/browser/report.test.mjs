@@ -299,7 +299,7 @@ shown("a syntax error is listed with its place, and marked there", async () => {
   const folder = folderOf({ "a.ts": text, "b.ts": Buffer.of(0xff) });
   await open(report(folder, [], 1));
   assert.deepEqual(await items("faults"), [
-    "a.ts:2:9 Syntax Expression expected.", "b.ts Input the file is not UTF-8",
+    "a.ts:2:9 Syntax expected an expression", "b.ts Input the file isn't UTF-8",
   ]);
   await openModule("a.ts");
   await untilText(text);

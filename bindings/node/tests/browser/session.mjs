@@ -6,7 +6,7 @@ import { join } from "node:path";
 import { after, before, test } from "node:test";
 import { fileURLToPath, pathToFileURL } from "node:url";
 
-import { MODINFO, STAND_IN, folderOf, run } from "../run_commands.mjs";
+import { MODINFO, folderOf, run } from "../run_commands.mjs";
 import { Browser, missingPrograms } from "./browser.mjs";
 
 export const EXAMPLE = fileURLToPath(new URL("../../../../examples/project/", import.meta.url));
@@ -37,7 +37,7 @@ if (!skip) {
  */
 export function report(folder, words = [], status = 0) {
   const page = join(folderOf(), "report.html");
-  const modinfo = hasProgram ? MODINFO : STAND_IN;
+  const modinfo = MODINFO;
   const result = run("report.mjs", [...words, "-o", page, folder], { modinfo });
   assert.equal(result.status, status, result.stderr);
   return pathToFileURL(page).href;

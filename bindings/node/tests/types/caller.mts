@@ -1,22 +1,23 @@
-/** A caller of the package, whose types are checked; it isn't run. */
+/** A caller of the package, whose types are checked, without those of the DOM and of node; it isn't run. */
 
-import * as acorn from "acorn";
-import ts from "typescript";
-import { Modinfo, ModinfoFault, ProgramEnd } from "modinfo";
+import { Modinfo, ModinfoFault, ProgramEnd, estreeDocument, moduleInfo } from "modinfo";
 import type {
-  CheckOptions, DependencyDescriptor, DocumentFault, DocumentNode, EstreeDocument, FaultName, FaultReport, Graph, GraphOptions,
+  CheckOptions, DependencyDescriptor, DocumentFault, DocumentNode, EstreeNode, FaultName, FaultReport, Graph, GraphOptions,
   MediaType, ModuleDocument, ModuleGraph, ModuleInfo, PositionRange, ReferenceKind, Report, Resolution,
-  ResolvedModuleInfo, ValidReport,
+  ResolvedModuleInfo, Signal, Url, ValidReport,
 } from "modinfo";
-import * as estree from "modinfo/estree";
-import * as typescript from "modinfo/typescript";
 
 const modinfo = new Modinfo({ program: "build/modinfo", jobs: 4 });
 const specifier = "file:///a.ts";
 const mediaType: MediaType = "TypeScript";
 const text: string = 'import "./b.ts";';
 
-const info: ModuleInfo = await modinfo.moduleInfo(text, { specifier, mediaType });
+declare const signal: Signal;
+const url: Url = { href: specifier };
+
+const info: ModuleInfo = await modinfo.moduleInfo(text, specifier, mediaType);
+await modinfo.moduleInfo(text, url, undefined, { signal });
+await moduleInfo(text, specifier);
 
 function textOf(dependency: DependencyDescriptor): string | undefined {
   if (dependency.type === "static") {
@@ -62,7 +63,7 @@ kinds(document.program.body);
 const infos: ModuleInfo[] = [
   await modinfo.analyze(document),
   await modinfo.analyze(JSON.stringify(document)),
-  await modinfo.analyze(new TextEncoder().encode(text)),
+  await modinfo.analyze(new Uint8Array([0x7b])),
   await modinfo.convert({ dependencies: [] }),
   await modinfo.convert("{}"),
 ];
@@ -84,7 +85,7 @@ const options: CheckOptions = { command: "reach" };
 const reports: Report[] = [
   await modinfo.check(document),
   await modinfo.check(JSON.stringify(document), { command: "analyze" }),
-  await modinfo.check(new TextEncoder().encode(text), {}),
+  await modinfo.check(new Uint8Array([0x7b]), {}),
   await modinfo.check({ nothing: true }, options),
 ];
 texts.push(...reports.flatMap(textsOf), ...reports.flatMap((report) => report.fault ?? []));
@@ -101,46 +102,24 @@ function fileOf(resolution: Resolution): string | undefined {
       return undefined;
   }
 }
-const { signal } = new AbortController();
 const resolved: ResolvedModuleInfo = await modinfo.resolve(info, {
-  specifier: new URL(specifier), types: false, tsconfig: "tsconfig.json", conditions: ["browser"], signal,
+  specifier: url, types: false, tsconfig: "tsconfig.json", conditions: ["browser"], signal,
 });
 texts.push(...(resolved.dependencies ?? []).map((each) => fileOf(each.resolved)));
 texts.push(resolved.selfTypesSpecifier && fileOf(resolved.selfTypesSpecifier.resolved));
 const graphOptions: GraphOptions = { entries: ["src/a.ts"], exclude: ["*.test.ts"], gitignore: true, types: true };
-const files: Graph = await modinfo.graph({ ...graphOptions, paths: [new URL("file:///src/")], all: true, jobs: 2, signal });
+const files: Graph = await modinfo.graph({ ...graphOptions, paths: [url], all: true, jobs: 2, signal });
 for (const { specifier: from, references, fault } of files.modules) {
   const words: ReferenceKind[] = references.map(({ kind }) => kind);
   texts.push(from, fault?.message, ...words, ...references.map((each) => each.specifier ?? fileOf(each.resolved)));
 }
 await modinfo.analyze(document, { signal });
 
-const comments: acorn.Comment[] = [];
-const tree = acorn.parse(text, { ecmaVersion: "latest", sourceType: "module", onComment: comments });
-const documents: ModuleDocument[] = [
-  estree.toDocument(text, { specifier: "file:///a.js" }),
-  estree.toDocument(text, { specifier, mediaType: "TypeScript", tree, comments }),
-  estree.toDocument(text, {
-    specifier, tree: { type: "Program", range: [0, 16] }, warn: ({ message, line, column }) => {
-      texts.push(`${message} ${line + column}`);
-    },
-  }),
-  typescript.toDocument(text, { specifier, mediaType, typescript: ts }),
-  typescript.toDocument(text, {
-    specifier, tree: ts.createSourceFile("a.ts", text, ts.ScriptTarget.Latest), typescript: ts,
-  }),
-];
-await Promise.all(documents.map((each) => modinfo.analyze(each)));
-
-const json: string = estree.estreeDocument(text, { specifier, mediaType: "TypeScript", tree, comments });
-const estreeDocuments: EstreeDocument[] = [
-  { specifier, mediaType, source: text, program: tree, comments },
-  { specifier, mediaType: "Mjs", source: text, offsets: "utf8", program: { type: "Program", range: [0, 16] } },
-];
-for (const each of [json, new TextEncoder().encode(json), ...estreeDocuments]) {
-  infos.push(await modinfo.analyzeEstree(each, { report: true }));
-  reports.push(await modinfo.check(each, { command: "analyze --estree" }));
-}
+const tree = { type: "Program", range: [0, 16] as [number, number], body: [] };
+const comments: EstreeNode[] = [{ type: "Line", start: 0, end: 0 }];
+const json: string = estreeDocument(tree, text, url, "Mjs", { comments, offsets: "utf8" });
+infos.push(await modinfo.analyzeEstree(tree, text, specifier, mediaType, { comments, report: true, signal }));
+reports.push(await modinfo.check(json, { command: "analyze --estree" }));
 
 try {
   await modinfo[Symbol.asyncDispose]();
@@ -151,8 +130,6 @@ try {
     texts.push(fault, ...place.map(String));
   } else if (error instanceof ProgramEnd) {
     texts.push(error.message);
-  } else if (error instanceof estree.SourceFault) {
-    texts.push(`${error.line}:${error.column}`);
   }
 }
 const closed: void = await modinfo.close();

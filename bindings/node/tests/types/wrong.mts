@@ -1,29 +1,25 @@
 /** Wrong uses of the package, each of which TypeScript has to refuse; it isn't run. */
 
-import { Modinfo, ModinfoFault } from "modinfo";
+import { Modinfo, ModinfoFault, estreeDocument } from "modinfo";
 import type { DependencyDescriptor, ModuleDocument, ModuleInfo, Report } from "modinfo";
-import * as estree from "modinfo/estree";
-import * as typescript from "modinfo/typescript";
 
 const modinfo = new Modinfo();
 const specifier = "file:///a.ts";
 
-// @ts-expect-error a number of threads is no text
+// @ts-expect-error a number of processes is no text
 new Modinfo({ jobs: "2" });
 // @ts-expect-error no such option
 new Modinfo({ threads: 2 });
 // @ts-expect-error a fault is made by the package alone
 new ModinfoFault("Tree");
+// @ts-expect-error a specifier is no option
+modinfo.moduleInfo("", { specifier });
 // @ts-expect-error a specifier is needed
-modinfo.moduleInfo("", {});
-// @ts-expect-error the options are needed
 modinfo.moduleInfo("");
-// @ts-expect-error TypeScript reads no JSON
-modinfo.moduleInfo("", { specifier, mediaType: "Json" });
 // @ts-expect-error no such media type
-modinfo.moduleInfo("", { specifier, mediaType: "typescript" });
+modinfo.moduleInfo("", specifier, "typescript");
 // @ts-expect-error a text is a string
-modinfo.moduleInfo(new Uint8Array(), { specifier });
+modinfo.moduleInfo(new Uint8Array(), specifier);
 // @ts-expect-error a document isn't an answer
 modinfo.analyze({ script: true });
 // @ts-expect-error a document is needed
@@ -53,22 +49,12 @@ modinfo.check("{}", "reach");
 // @ts-expect-error a number is no document
 modinfo.check(1);
 
-// @ts-expect-error acorn reads no TypeScript
-estree.toDocument("", { specifier, mediaType: "TypeScript" });
-// @ts-expect-error comments belong to a tree
-estree.toDocument("", { specifier, comments: [] });
 // @ts-expect-error a node has a type
-estree.toDocument("", { specifier, tree: { start: 0, end: 0 } });
-// @ts-expect-error a tree is needed
-estree.estreeDocument("", { specifier });
-// @ts-expect-error nothing is left out that a warning could be about
-estree.estreeDocument("", { specifier, tree: { type: "Program" }, warn: () => {} });
-// @ts-expect-error a document of another command
-modinfo.analyzeEstree({ specifier, mediaType: "TypeScript", source: "", program: { range: [0, 0], body: [] } });
-// @ts-expect-error a tree of ESTree is none of TypeScript's
-typescript.toDocument("", { specifier, tree: { type: "Program", start: 0, end: 0 } });
-// @ts-expect-error a warning is a record
-typescript.toDocument("", { specifier, warn: (warning: string) => warning });
+estreeDocument({ start: 0, end: 0 }, "", specifier, "Mjs");
+// @ts-expect-error a media type is needed
+estreeDocument({ type: "Program" }, "", specifier);
+// @ts-expect-error what a tree counts has a name
+modinfo.analyzeEstree({ type: "Program" }, "", specifier, "Mjs", { offsets: "bytes" });
 
 export function wrong(dependency: DependencyDescriptor, document: ModuleDocument, report: Report): unknown[] {
   return [

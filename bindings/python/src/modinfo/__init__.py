@@ -1,23 +1,39 @@
-"""What one JavaScript or TypeScript module depends on, found in its syntax tree.
+"""What one JavaScript or TypeScript module depends on, from its source text.
 
-A document is a dict, or its JSON as a str or as bytes in UTF-8. docs/FORMATS.md of the repository has all
-formats, docs/ESTREE.md that of trees of parsers. Nothing is kept between calls, and calls may run in many
-threads at once.
+`module_info` reads a text, `files` reads files. The other functions read documents: mappings, their JSON as a str, or
+as bytes in UTF-8. docs/FORMATS.md of the repository has all formats, docs/ESTREE.md that of trees of parsers. Nothing
+is kept between calls, and calls may run in many threads at once.
 """
 
 import json
+import re
 from collections.abc import Iterable, Iterator, Mapping
 from typing import Any, Literal, cast
 
 from . import _library
-from ._buffers import Buffer, is_buffer
+from ._buffers import Buffer
+from ._errors import Error, Fault, FaultName, alone
 from ._estree import Comments, Offsets, estree_json
-from ._fault import Fault, FaultName
-from ._lines import answer_lines
+from ._json import Document, bytes_of
+from ._lines import answer_lines, in_threads
+from ._source import file_url, files, module_info, read_file
 from .document import MediaType, ModuleDocument
-from .information import ModuleInfo
-from .parser import Parser, ParserError
+from .information import ModuleInfo as ModuleInfoDict
 from .report import DocumentFault, FaultReport, Report, ValidReport
+from .values import (
+    DynamicDependency,
+    ExpressionPart,
+    JsdocImport,
+    KnownAttributes,
+    ModuleInfo,
+    PathReference,
+    Position,
+    Range,
+    Specifier,
+    StaticDependency,
+    StringPart,
+    TypesReference,
+)
 
 __version__ = "0.1.0"
 __all__ = [
@@ -25,41 +41,61 @@ __all__ = [
     "Command",
     "Document",
     "DocumentFault",
+    "DynamicDependency",
+    "Error",
+    "ExpressionPart",
     "Fault",
     "FaultName",
     "FaultReport",
+    "JsdocImport",
+    "KnownAttributes",
     "MediaType",
     "ModuleDocument",
     "ModuleInfo",
+    "ModuleInfoDict",
     "Offsets",
-    "Parser",
-    "ParserError",
+    "PathReference",
+    "Position",
+    "Range",
     "Report",
+    "Specifier",
+    "StaticDependency",
+    "StringPart",
+    "TypesReference",
     "ValidReport",
     "analyze",
     "analyze_estree",
     "analyze_estree_lines",
     "analyze_lines",
+    "analyze_many",
     "check",
     "check_estree",
+    "check_estree_lines",
     "check_lines",
     "convert",
     "convert_lines",
+    "file_url",
+    "files",
+    "module_info",
     "reach",
+    "reach_lines",
+    "read_file",
     "version",
 ]
 
-Document = Mapping[str, object] | str | Buffer
-Command = Literal["analyze", "analyze_estree", "convert", "reach"]
+Command = Literal["analyze", "analyze_estree", "analyze_source", "convert", "reach"]
+# A specifier at the front of a document's JSON, where most writers put it.
+_SPECIFIER = re.compile(rb'\s*\{\s*"specifier"\s*:\s*("(?:[^"\\]|\\.)*")')
 
 
-def analyze(document: Document) -> ModuleInfo:
+def analyze(document: Document) -> ModuleInfoDict:
     """Returns what a module depends on, from its source, tree and comments.
 
-    Raises Fault where the document is refused or an allocation fails, and TypeError where the document has another
-    type. A dict that json.dumps can't write raises what that raises: TypeError, ValueError or RecursionError.
+    `ModuleInfo.from_dict` makes a dataclass of it. Raises Fault where the document is refused or an allocation fails,
+    and TypeError where the document has another type. A mapping that json.dumps can't write raises what that raises:
+    TypeError, ValueError or RecursionError.
     """
-    information: ModuleInfo = _answer("analyze", document)
+    information: ModuleInfoDict = _answer("analyze", document)
     return information
 
 
@@ -70,7 +106,7 @@ def analyze_estree(
     program: Mapping[str, object],
     comments: Comments | None = None,
     offsets: Offsets = "utf16",
-) -> ModuleInfo:
+) -> ModuleInfoDict:
     """Returns what a module depends on, from its source and the tree of a parser, as ESTree describes it.
 
     `comments` are all comments of the source, each with "start" and "end" or with "range"; by default those of the
@@ -82,7 +118,7 @@ def analyze_estree(
     RecursionError.
     """
     document = estree_json(specifier, media_type, source, program, comments, offsets)
-    information: ModuleInfo = _answer("analyze_estree", document)
+    information: ModuleInfoDict = _answer("analyze_estree", document)
     return information
 
 
@@ -106,12 +142,11 @@ def reach(document: Document) -> list[str]:
 def check(document: Document, command: Command = "analyze") -> Report:
     """Returns a report on a document of a command: what is wrong with it and where, or that it is valid.
 
-    `at` in the report of a dict is a place in what json.dumps makes of it, without white space. Raises Fault
+    `at` in the report of a mapping is a position in what json.dumps makes of it, without white space. Raises Fault
     only where an allocation fails, its name OutOfMemory; ValueError where there is no such command; and TypeError
     and others as analyze does.
     """
-    call = _command(command).check
-    return cast(Report, json.loads(_call(call, _bytes_of(document))))
+    return cast(Report, json.loads(_library.room().call(_command(command).check.one, bytes_of(document))))
 
 
 def check_estree(
@@ -131,6 +166,16 @@ def check_estree(
     return check(estree_json(specifier, media_type, source, program, comments, offsets), "analyze_estree")
 
 
+def analyze_many(documents: Iterable[Document], jobs: int = 1) -> Iterator[tuple[str, ModuleInfo | Fault]]:
+    """Returns for each document its specifier and what the module depends on, in their order.
+
+    Where a document has a fault, or an allocation fails, the Fault is returned, and the next document is read. The
+    specifier is empty where a document has none that can be read. `jobs` threads work side by side; with more than one,
+    some documents are read ahead. Raises others than Fault as analyze does.
+    """
+    return in_threads(_keyed, documents, jobs)
+
+
 def analyze_lines(lines: Iterable[Buffer], jobs: int = 1) -> Iterator[bytes]:
     """Returns for each line what `modinfo analyze --lines` prints for it, with a line feed.
 
@@ -138,24 +183,32 @@ def analyze_lines(lines: Iterable[Buffer], jobs: int = 1) -> Iterator[bytes]:
     allocation fails, `{"fault":NAME}` is returned, and the next line is read. `jobs` threads work side by side; with
     more than one, lines are read ahead. Raises TypeError where a line isn't bytes.
     """
-    return answer_lines(_library.COMMANDS["analyze"].answer, _in_answer, lines, jobs)
+    return _lines("analyze", lines, jobs)
 
 
 def analyze_estree_lines(lines: Iterable[Buffer], jobs: int = 1) -> Iterator[bytes]:
-    """Returns for each line what `modinfo analyze --estree --lines` prints for it, as analyze_lines does. A line is the
-    JSON of one document of docs/ESTREE.md.
-    """
-    return answer_lines(_library.COMMANDS["analyze_estree"].answer, _in_answer, lines, jobs)
+    """Like analyze_lines, for documents of docs/ESTREE.md."""
+    return _lines("analyze_estree", lines, jobs)
 
 
 def convert_lines(lines: Iterable[Buffer], jobs: int = 1) -> Iterator[bytes]:
-    """Returns for each line what `modinfo convert --lines` prints for it, as analyze_lines does."""
-    return answer_lines(_library.COMMANDS["convert"].answer, _in_answer, lines, jobs)
+    """Like analyze_lines, for `modinfo convert --lines`."""
+    return _lines("convert", lines, jobs)
+
+
+def reach_lines(lines: Iterable[Buffer], jobs: int = 1) -> Iterator[bytes]:
+    """Like analyze_lines, for `modinfo reach --lines`."""
+    return _lines("reach", lines, jobs)
 
 
 def check_lines(lines: Iterable[Buffer], command: Command = "analyze", jobs: int = 1) -> Iterator[bytes]:
     """Returns for each line the report that `modinfo check COMMAND --lines` prints for it, as analyze_lines does."""
-    return answer_lines(_command(command).check, _as_it_is, lines, jobs)
+    return answer_lines(_command(command).check, lambda line: line, lines, jobs)
+
+
+def check_estree_lines(lines: Iterable[Buffer], jobs: int = 1) -> Iterator[bytes]:
+    """Like check_lines, for documents of docs/ESTREE.md."""
+    return check_lines(lines, "analyze_estree", jobs)
 
 
 def version() -> str:
@@ -163,28 +216,44 @@ def version() -> str:
     return _library.version()
 
 
-def _in_answer(line: bytes) -> bytes:
-    return b'{"answer":%b}\n' % line[:-1]
+def _lines(command: Command, lines: Iterable[Buffer], jobs: int) -> Iterator[bytes]:
+    return answer_lines(_library.COMMANDS[command].answer, lambda line: b'{"answer":%b}\n' % line[:-1], lines, jobs)
 
 
-def _as_it_is(line: bytes) -> bytes:
-    return line
+def _keyed(document: Document) -> tuple[str, ModuleInfo | Fault]:
+    try:
+        read = bytes_of(document)
+        return _specifier(document, read), ModuleInfo.from_dict(_answer("analyze", read))
+    except Fault as fault:
+        return _specifier(document, read), alone(fault)
+
+
+def _specifier(document: Document, read: Buffer) -> str:
+    """The specifier of a document, of which nothing else is read where it comes first."""
+    try:
+        if not isinstance(document, Mapping):
+            found = _SPECIFIER.match(read)
+            document = {"specifier": json.loads(found[1])} if found else json.loads(bytes(read))
+        specifier = document.get("specifier")
+    except (ValueError, AttributeError, RecursionError):
+        return ""
+    return specifier if isinstance(specifier, str) else ""
 
 
 def _command(name: str) -> _library.Command:
     if name not in _library.COMMANDS:
-        raise ValueError(f"a command is analyze, analyze_estree, convert or reach, not {name!r}")
+        raise ValueError(f"a command is {', '.join(_library.COMMANDS)}, not {name!r}")
     return _library.COMMANDS[name]
 
 
 def _answer(name: Command, document: Document) -> Any:
-    return json.loads(_answer_line(name, _bytes_of(document)))
+    return json.loads(_answer_line(name, bytes_of(document)))
 
 
 def _answer_line(name: Command, document: Buffer) -> bytes:
     command = _library.COMMANDS[name]
     try:
-        return _call(command.answer, document)
+        return _library.room().call(command.answer.one, document)
     except Fault as fault:
         raise Fault(fault.name, _report(command, fault, document)) from None
 
@@ -194,24 +263,6 @@ def _report(command: _library.Command, fault: Fault, document: Buffer) -> FaultR
     if fault.name == "OutOfMemory":
         return None
     try:
-        return cast(FaultReport, json.loads(_call(command.check, document)))
+        return cast(FaultReport, json.loads(_library.room().call(command.check.one, document)))
     except Fault:
         return None
-
-
-def _call(call: _library.Call, document: Buffer) -> bytes:
-    try:
-        return _library.Room().call(call.one, document)
-    except _library.Refused as refused:
-        raise Fault(refused.name) from None
-
-
-def _bytes_of(document: Document) -> Buffer:
-    """The document's JSON. A lone surrogate becomes bytes that aren't UTF-8, which the library refuses as such."""
-    if isinstance(document, dict):
-        document = json.dumps(document, ensure_ascii=False, separators=(",", ":"))
-    if isinstance(document, str):
-        return document.encode(errors="surrogatepass")
-    if isinstance(document, bytes) or is_buffer(document):
-        return cast(Buffer, document)
-    raise TypeError(f"a document is a dict, a str or bytes, not {type(document).__name__}")

@@ -1,4 +1,4 @@
-"""The commands of the program modinfo, by the library: `python -m modinfo analyze < DOCUMENT`."""
+"""The commands of the program modinfo, by the library: `python -m modinfo files a.ts b.ts`."""
 
 import argparse
 import json
@@ -9,14 +9,19 @@ from collections.abc import Iterable, Iterator, Sequence
 import modinfo
 
 from . import _library
+from ._json import json_of
 
-ESTREE = "the document has the tree of a parser, as ESTree describes it"
+FORMS = {
+    "estree": "the document has the tree of a parser, as ESTree describes it",
+    "source": "the document has a source text",
+}
 
 DESCRIPTION = """\
-Reads one JSON document from the standard input, and prints one line of JSON."""
+Prints what JavaScript and TypeScript modules depend on. Each command but files reads one JSON document from the
+standard input, and prints one line of JSON."""
 
 EPILOG = """\
-Status 0; 1 where the document is refused, with one line on the error output, and where a checked document
+Status 0; 1 where the document is refused, with one line on the error output, and where a file or a checked document
 has a fault; 2 for words that aren't the usage."""
 
 COMMANDS = {
@@ -25,12 +30,7 @@ COMMANDS = {
     "reach": "the keys that a root reaches among modules",
     "check": "a report on a document of analyze, or of the command that OF names",
 }
-
-LINES = {
-    "analyze": modinfo.analyze_lines,
-    "analyze_estree": modinfo.analyze_estree_lines,
-    "convert": modinfo.convert_lines,
-}
+FILES = "for each file its URL and what it depends on, or its fault"
 
 
 def parser() -> argparse.ArgumentParser:
@@ -40,16 +40,22 @@ def parser() -> argparse.ArgumentParser:
     for name, meaning in COMMANDS.items():
         command = commands.add_parser(name, help=meaning, description=f"Prints {meaning}.")
         if name in ("analyze", "check"):
-            command.add_argument("--estree", action="store_true", help=ESTREE)
+            forms = command.add_mutually_exclusive_group()
+            for form, about in FORMS.items():
+                forms.add_argument(f"--{form}", dest="form", action="store_const", const=f"analyze_{form}", help=about)
         if name == "check":
             command.add_argument("of", metavar="OF", nargs="?", default="analyze", choices=list(COMMANDS)[:-1])
             command.add_argument("--strict", action="store_true", help="a warning counts as a fault does")
-        if name != "reach":
-            command.add_argument("--lines", action="store_true", help="each line of the input is a document")
-            command.add_argument(
-                "--jobs", metavar="N", type=positive, default=1, help="threads, with --lines (%(default)s)"
-            )
+        command.add_argument("--lines", action="store_true", help="each line of the input is a document")
+        add_jobs(command, "threads, with --lines")
+    command = commands.add_parser("files", help=FILES, description=f"Prints {FILES}.")
+    command.add_argument("paths", metavar="FILE", nargs="+")
+    add_jobs(command, "threads")
     return words
+
+
+def add_jobs(command: argparse.ArgumentParser, about: str) -> None:
+    command.add_argument("--jobs", metavar="N", type=positive, default=1, help=f"{about} (%(default)s)")
 
 
 def positive(word: str) -> int:
@@ -62,15 +68,15 @@ def positive(word: str) -> int:
 def command_of(words: argparse.Namespace) -> modinfo.Command:
     """The command whose documents are read."""
     command: modinfo.Command = words.of if words.command == "check" else words.command
-    return "analyze_estree" if getattr(words, "estree", False) else command
+    return getattr(words, "form", None) or command
 
 
 def print_one(words: argparse.Namespace) -> int:
     document = sys.stdin.buffer.read()
     command = command_of(words)
     if words.command == "check":
-        function = _library.COMMANDS[command].check
-        return print_reports([modinfo._call(function, document)], words.strict)
+        function = _library.COMMANDS[command].check.one
+        return print_reports([_library.room().call(function, document)], words.strict)
     sys.stdout.buffer.write(modinfo._answer_line(command, document))
     return 0
 
@@ -80,8 +86,23 @@ def print_lines(words: argparse.Namespace) -> int:
     command = command_of(words)
     if words.command == "check":
         return print_reports(modinfo.check_lines(lines, command, words.jobs), words.strict)
-    sys.stdout.buffer.writelines(LINES[command](lines, words.jobs))
+    sys.stdout.buffer.writelines(modinfo._lines(command, lines, words.jobs))
     return 0
+
+
+def print_files(words: argparse.Namespace) -> int:
+    status = 0
+    for specifier, found in modinfo.files(words.paths, words.jobs):
+        if isinstance(found, modinfo.Fault):
+            status = 1
+            fault: dict[str, object] = {"name": found.name, "message": found.message}
+            if found.line is not None:
+                fault["position"] = [found.line, found.character]
+            members: dict[str, object] = {"specifier": specifier, "fault": fault}
+        else:
+            members = {"specifier": specifier, "info": found.to_dict()}
+        sys.stdout.buffer.write(json_of(members).encode() + b"\n")
+    return status
 
 
 def print_reports(reports: Iterable[bytes], is_strict: bool) -> int:
@@ -104,10 +125,13 @@ def passes(report: modinfo.Report, is_strict: bool) -> bool:
 def main(arguments: Sequence[str] | None = None) -> int:
     usage = parser()
     words = usage.parse_args(arguments)
-    if command_of(words) == "analyze_estree" and getattr(words, "of", "analyze") != "analyze":
-        usage.error("--estree is for documents of analyze")
+    if getattr(words, "form", None) and getattr(words, "of", "analyze") != "analyze":
+        usage.error("--estree and --source are for documents of analyze")
     try:
-        status = print_lines(words) if getattr(words, "lines", False) else print_one(words)
+        if words.command == "files":
+            status = print_files(words)
+        else:
+            status = print_lines(words) if words.lines else print_one(words)
         sys.stdout.buffer.flush()
         return status
     except BrokenPipeError:

@@ -58,6 +58,8 @@ class Memory:
 
 
 def is_buffer(value: object) -> bool:
+    if type(value) is bytes:
+        return True
     try:
         with memoryview(value):  # type: ignore[arg-type]
             return True

@@ -5,6 +5,7 @@ import struct
 from collections.abc import Iterable, Mapping
 from typing import Any, Literal
 
+from ._json import json_of
 from .document import MediaType
 
 Offsets = Literal["utf16", "utf8"]
@@ -30,23 +31,12 @@ def estree_json(
     }
     if comments is not None:
         document["comments"] = list(comments)
-    text = _json_of(document)
+    text = json_of(document)
     try:
         return text.encode()
     except UnicodeEncodeError:
-        document["program"] = _with_units(json.loads(_json_of(program)))
-        return _json_of(document).encode(errors="surrogatepass")
-
-
-def _json_of(value: object) -> str:
-    return json.dumps(value, ensure_ascii=False, separators=(",", ":"), default=_as_dict)
-
-
-def _as_dict(value: object) -> dict[Any, Any]:
-    """A mapping that json.dumps doesn't know."""
-    if isinstance(value, Mapping):
-        return dict(value)
-    raise TypeError(f"a tree has dicts, lists, strings, numbers, True, False and None, not {type(value).__name__}")
+        document["program"] = _with_units(json.loads(json_of(program)))
+        return json_of(document).encode(errors="surrogatepass")
 
 
 def _with_units(value: Any) -> Any:

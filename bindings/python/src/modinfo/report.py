@@ -36,6 +36,7 @@ DocumentFault = Literal[
     "Json",
     "Tree",
     "Specifier",
+    "Syntax",
     "RangeReversed",
     "RangeOutside",
     "RangeOffBoundary",
@@ -81,7 +82,7 @@ class FaultReport(TypedDict):
     range: NotRequired[ByteRange]
 
     # For `Input`: the first byte that is in no UTF-8. For `Json`: the first invalid byte of the first token that can't
-    # be read, or the start of the token.
+    # be read, or the start of the token. For `Syntax`: the place in the source text.
     at: NotRequired[TextPlace]
 
     # What was expected there, in words that later versions may change.

@@ -1,11 +1,14 @@
 //! What the tests take from the repository.
 
-use modinfo::Fault;
+// Each test uses some of its parts.
+#![allow(dead_code)]
+
+use modinfo::{Command, Fault};
+use serde_json::Value;
 use std::fs;
 use std::path::{Path, PathBuf};
 
-/// One call of one of the functions, and what it has to return. Each test uses some of its parts.
-#[allow(dead_code)]
+/// One call of one of the functions, and what it has to return.
 pub struct Call {
     pub name: String,
     pub command: String,
@@ -14,13 +17,14 @@ pub struct Call {
     pub wanted: Result<String, String>,
 }
 
-#[allow(dead_code)]
 impl Call {
     /// The answer of the crate.
     pub fn answer(&self) -> Result<String, Fault> {
         match self.command.as_str() {
-            "analyze" => modinfo::analyze(&self.document).map_err(Fault::from),
+            "analyze" => modinfo::analyze_json(&self.document).map_err(Fault::from),
             "analyze --estree" => modinfo::analyze_estree(&self.document).map_err(Fault::from),
+            "analyze --source" => of_line(Command::AnalyzeSource, &self.document),
+            "check --source" => of_line(Command::CheckSource, &self.document),
             "convert" => modinfo::convert(&self.document).map_err(Fault::from),
             "reach" => modinfo::reach(&self.document).map_err(Fault::from),
             "check" | "check analyze" => modinfo::check(&self.document),
@@ -34,6 +38,22 @@ impl Call {
     pub fn check(&self) {
         let answer = self.answer().map_err(|fault| fault.to_string());
         assert_eq!(answer, self.wanted, "{}", self.name);
+    }
+}
+
+/// The answer, the report or the fault in the line of one document.
+fn of_line(command: Command, document: &[u8]) -> Result<String, Fault> {
+    let lines = modinfo::answer_lines(command, document)?;
+    let line = lines.trim_end();
+    let answer = line
+        .strip_prefix("{\"answer\":")
+        .and_then(|rest| rest.strip_suffix('}'));
+    let value: Value = serde_json::from_str(line).expect("JSON");
+    match (answer, command) {
+        (None, Command::AnalyzeSource) => {
+            Err(serde_json::from_value(value["fault"].clone()).expect("a fault"))
+        }
+        _ => Ok(answer.unwrap_or(line).to_owned()),
     }
 }
 
@@ -125,8 +145,15 @@ pub fn field(case: &TestCase, word: &str) -> Option<String> {
 /// Whether the words after the program's name are those of one document.
 fn is_call(words: &str) -> bool {
     let command = words.strip_prefix("check ").unwrap_or(words);
-    ["analyze", "analyze --estree", "convert", "reach"].contains(&command)
-        || ["check", "check --estree"].contains(&words)
+    [
+        "analyze",
+        "analyze --estree",
+        "analyze --source",
+        "convert",
+        "reach",
+    ]
+    .contains(&command)
+        || ["check", "check --estree", "check --source"].contains(&words)
 }
 
 fn call(folder: &Path, case: &TestCase) -> Option<Call> {

@@ -7,10 +7,10 @@ import { fileURLToPath } from "node:url";
 import { printable } from "../../runtime/printable.mjs";
 
 /**
- * @typedef {import("../../graph/graph.mjs").Cycle} NamedCycle
- * @typedef {import("../../graph/graph.mjs").Mention} Mention
- * @typedef {import("../../graph/graph.mjs").Step} Step
- * @typedef {import("../../graph/graph.mjs").Unreached} Unreached
+ * @typedef {import("../../graph/graph.cjs").Cycle} NamedCycle
+ * @typedef {import("../../graph/graph.cjs").Mention} Mention
+ * @typedef {import("../../graph/graph.cjs").Step} Step
+ * @typedef {import("../../graph/graph.cjs").Unreached} Unreached
  */
 
 const folder = realpathSync(process.cwd());
@@ -26,10 +26,7 @@ export function shownPath(url) {
   return from === "" || from.startsWith("..") ? path : from;
 }
 
-/**
- * @param {string[]} urls
- * @returns {string[]} lines
- */
+/** @param {string[]} urls @returns {string[]} lines */
 export function fileLines(urls) {
   return urls.map(shownPath);
 }
@@ -45,10 +42,7 @@ export function cycleLine({ modules, path }, isRun) {
   return printable(`${isRun ? "" : "by types alone: "}${chain}${more}`);
 }
 
-/**
- * @param {Mention} mention
- * @returns {string} a line
- */
+/** @param {Mention} mention @returns {string} a line */
 export function missingLine(mention) {
   const { specifier = "", resolved } = mention.reference;
   const why = resolved.class === "package"
@@ -57,29 +51,20 @@ export function missingLine(mention) {
   return printable(`${placeOf(mention)}: ${specifier}: ${why}`);
 }
 
-/**
- * @param {Step} step
- * @returns {string} a line
- */
+/** @param {Step} step @returns {string} a line */
 export function stepLine({ module, by }) {
   const place = by ? ` (${by.reference.specifier} at ${placeOf(by)})` : "";
   return printable(shownPath(module) + place);
 }
 
-/**
- * @param {Unreached["mayBeReached"][number]} found
- * @returns {string} a line
- */
+/** @param {Unreached["mayBeReached"][number]} found @returns {string} a line */
 export function mayBeReachedLine({ module, reason: { kind, module: from, position, text } }) {
   const what = text === undefined ? kind : `${kind} of ${text}`;
   const place = position ? positioned(from, position) : shownPath(from);
   return printable(`${shownPath(module)}: may be reached: ${what} at ${place}`);
 }
 
-/**
- * @param {Unreached["byTypes"][number]} found
- * @returns {string} a line
- */
+/** @param {Unreached["byTypes"][number]} found @returns {string} a line */
 export function byTypesLine({ module, by }) {
   return printable(`${shownPath(module)}: reached by types alone: ${by.reference.specifier} at ${placeOf(by)}`);
 }
@@ -104,10 +89,7 @@ export function mentionData({ module, reference }) {
   return { module, ...reference };
 }
 
-/**
- * @param {Mention} mention
- * @returns {string} as `FILE:LINE:COLUMN`, both counted from one
- */
+/** @param {Mention} mention @returns {string} as `FILE:LINE:COLUMN`, both counted from one */
 function placeOf({ module, reference: { range: [position] } }) {
   return positioned(module, position);
 }

@@ -13,7 +13,7 @@ import { readRun } from "./graph_run.mjs";
 import { writeOutput } from "./standard_output.mjs";
 
 /**
- * @typedef {import("./read_files.mjs").Run} Run
+ * @typedef {import("./graph_run.mjs").Run} Run
  *
  * @typedef {import("./graph_run.mjs").GraphRun & { values: any }} Context
  *
@@ -103,8 +103,11 @@ function cycles({ graph, values: { types } }) {
 /** @param {Context} context */
 function missing({ graph }) {
   const found = graph.missing();
+  const others = graph.foundByOthers();
+  const note = `node itself finds ${others.length} of the names in JavaScript nowhere (--json has foundByOthers)`;
   return {
-    lines: found.map(missingLine), data: { missing: found.map(mentionData) }, isFinding: found.length > 0,
+    lines: found.map(missingLine), isFinding: found.length > 0, notes: others.length > 0 ? [note] : [],
+    data: { missing: found.map(mentionData), foundByOthers: others.map(mentionData) },
   };
 }
 

@@ -14,7 +14,7 @@ import { FileReporter, ahead, exclusionsFor, findNamed, readOptions, saveCache }
 
 /**
  * @typedef {import("../../graph/read_graph.mjs").ReadFile} ReadFile
- * @typedef {import("./read_files.mjs").Run} Run
+ * @typedef {import("./read_files.mjs").Run & { resolve: import("../../graph/resolver.mjs").ResolverOptions }} Run
  *
  * @typedef {object} GraphRun
  * @property {import("../../graph/module_graph.mjs").ModuleGraph} graph
@@ -54,7 +54,7 @@ export const RESOLUTION_HELP = `\
   --tsconfig FILE    for all files, in place of the nearest tsconfig.json
   --conditions NAME  a condition of "exports" and "imports", as browser
 `;
-export const CACHE_HELP = `  --cache FILE       keeps results in FILE, and parses only files that have changed
+export const CACHE_HELP = `  --cache FILE       keeps results in FILE, and reads only files that have changed
 `;
 
 /**
@@ -64,12 +64,12 @@ export const CACHE_HELP = `  --cache FILE       keeps results in FILE, and parse
  * @returns {Promise<GraphRun>}
  */
 export async function readRun(run, { hasPages, onRead }) {
-  const { name, paths, values, work, ready } = run;
+  const { name, paths, values, program, resolve } = run;
   const { types, all, entry = [], "no-dynamic": noDynamic } = values;
   const reporter = new FileReporter(name, { isShown: true });
-  const resolver = createResolver(work.resolve);
+  const resolver = createResolver(resolve);
   const find = finderOf(resolver);
-  const points = await pointsOf(entry, { mediaTypes: work.mediaTypes, find });
+  const points = await pointsOf(entry, find);
   points.absent.forEach((each) => reporter.warn(`${each}: an entry that isn't there`));
   const exclusions = await exclusionsFor(run);
   const { isExcluded, isIgnored } = exclusions;
@@ -77,33 +77,32 @@ export async function readRun(run, { hasPages, onRead }) {
   const named = new NamedFiles(await findNamed(run, { ...exclusions, hasPages }), fromEntries);
   const options = readOptions(run);
   const graph = await readGraph(named, {
-    ...options, work: { ...options.work, resolve: undefined }, resolver, types, all, dynamic: !noDynamic,
+    ...options, resolver, types, all, dynamic: !noDynamic,
     isExcluded, isIgnored, follow: points.files.length > 0,
     ahead: (walked) => ahead(walked, reporter),
     onRead: async (result) => {
-      await ready;
+      reporter.notice(result.notices ?? []);
       // What is wrong with an excluded file counts where it is reached alone.
       reporter.report(isExcluded(absolute(result.path)) ? { path: result.path } : result);
       onRead?.(result);
     },
   });
-  await ready;
   reporter.end(paths);
   await saveCache(run, options.cache);
   return {
     graph, named: named.keys, pages: named.pages, isIgnored, find,
-    entries: points.files.map(keyOf), program: String(work.program),
+    entries: points.files.map(keyOf), program,
     status: points.absent.length > 0 ? 1 : reporter.status,
   };
 }
 
 /**
  * @param {string[]} paths
- * @param {{ mediaTypes: string[], find: import("../../graph/entry_points.mjs").Find }} options
+ * @param {import("../../graph/entry_points.mjs").Find} find
  */
-async function pointsOf(paths, options) {
+async function pointsOf(paths, find) {
   try {
-    return await entryPoints(paths, options);
+    return await entryPoints(paths, find);
   } catch (/** @type {any} */ error) {
     throw error instanceof EntryFault ? new UsageFault(printable(error.message)) : error;
   }

@@ -1,6 +1,5 @@
-/** Reads many files at once, and writes a line for each. */
+/** Reads many files at once, and prints what is wrong with them. */
 
-import { resolve as absolute } from "node:path";
 import { Readable } from "node:stream";
 
 import { describeFault, systemMessage } from "../../runtime/faults.mjs";
@@ -8,17 +7,14 @@ import { AnalysisCache } from "../../files/analysis_cache.mjs";
 import { exclusionsOf } from "../../files/exclusions.mjs";
 import { findFiles, foldersOf, readPaths } from "../../files/find_files.mjs";
 import { GlobFault } from "../../files/globs.mjs";
-import { MAX_BYTES } from "../../files/regular_file.mjs";
-import { writeOutput } from "./standard_output.mjs";
+import { readRegularFile } from "../../files/regular_file.mjs";
 import { printable } from "../../runtime/printable.mjs";
 import { readFiles } from "../../runtime/read_files.mjs";
-import { UsageFault, readJobs, readMaxBytes, readTimeout } from "./command_line.mjs";
+import { UsageFault, readJobs } from "./command_line.mjs";
 import { Progress } from "./progress.mjs";
-import { canonicalUrl } from "../../graph/reach.mjs";
 
 /**
- * @typedef {import("../../runtime/read_files.mjs").ReadFile} FileResult
- * @typedef {import("../../runtime/file_worker.mjs").Work} Work
+ * @typedef {import("../../runtime/read_files.mjs").FileResult} FileResult
  * @typedef {import("../../files/exclusions.mjs").Exclusions} Exclusions
  * @typedef {import("../../files/find_files.mjs").Found} Found
  */
@@ -28,17 +24,13 @@ export const LINE_OPTIONS = {
   jobs: { type: "string" },
   all: { type: "boolean" },
   follow: { type: "boolean" },
-  "max-bytes": { type: "string" },
   null: { type: "boolean", short: "0" },
-  timeout: { type: "string" },
 };
 
 /** What the options mean that a program has for many files, for its help. */
 export const LINE_HELP = `  --all              also what is in node_modules and in folders that begin with a dot
   --follow           also the files outside of PATH that links in it lead to
-  --max-bytes N      the most bytes of a file, up to 1073741824; else ${MAX_BYTES}
-  --timeout SECONDS  how long a file may take; else as long as it takes
-  --jobs N           threads that parse; else one for each processor, which is the most
+  --jobs N           processes that parse; else one for each processor, which is the most
 `;
 
 const ENDINGS = ".js, .mjs, .cjs, .jsx, .ts, .mts, .cts or .tsx";
@@ -49,40 +41,32 @@ const LEFT = "warning: a link out of the given paths is not followed (--follow f
 /** How many paths are looked up ahead of the files that are read. */
 const AHEAD = 1_000_000;
 
+/** How many characters of a line are shown before an error, and from there on. */
+const AROUND = 70;
+
 /**
  * @typedef {object} Run
  * @property {string} name the program's
  * @property {any} values those of its options
  * @property {string[]} paths
- * @property {Work} work
- * @property {Promise<void>} [ready] nothing is printed before it; where it is rejected, so is the run
+ * @property {string} program the path of `modinfo`
  */
 
 /**
  * Reads the files of some paths, and prints what is wrong with them.
- * @param {Run & {
- *   isOnce?: boolean,
- *   isQuiet?: boolean,
- *   write?: (result: FileResult) => Promise<void>,
- * }} run `isOnce`: whether a file that several paths name is read for the first of them alone;
- *   `isQuiet`: whether nothing is written to the standard output meanwhile; `write` is called for each
- *   file in turn
+ * @param {Run} run
+ * @param {(result: FileResult, reporter: FileReporter) => Promise<void>} write is called for each file in turn
  * @returns {Promise<number>} the status
  */
-export async function runLines(run) {
-  const { isOnce, isQuiet, ready, write = writeLine } = run;
-  const reporter = new FileReporter(run.name, { isShown: isQuiet || !process.stdout.isTTY });
-  const found = await findNamed(run);
-  const files = ahead(isOnce ? eachOnce(found) : found, reporter);
+export async function runLines(run, write) {
+  const reporter = new FileReporter(run.name, { isShown: !process.stdout.isTTY });
   const options = readOptions(run);
-  for await (const result of readFiles(files, options)) {
-    await ready;
+  for await (const result of readFiles(ahead(await findNamed(run), reporter), options)) {
     reporter.report(result);
     if (!result.isLeft) {
-      await write(result);
+      await write(result, reporter);
     }
   }
-  await ready;
   reporter.end(run.paths);
   await saveCache(run, options.cache);
   return reporter.status;
@@ -105,23 +89,19 @@ export async function saveCache({ name, values }, cache) {
 /**
  * How the files of a run are read.
  * @param {Run} run
- * @returns {{ jobs: number, work: Work, timeout?: number, cache?: AnalysisCache }}
+ * @returns {import("../../runtime/read_files.mjs").ReadOptions}
  */
-export function readOptions({ work, values }) {
-  return {
-    ...(values.cache !== undefined && { cache: openCache(values.cache, work) }),
-    jobs: readJobs(values.jobs),
-    work: { ...work, maxBytes: readMaxBytes(values["max-bytes"]) },
-    timeout: readTimeout(values.timeout),
-  };
+export function readOptions({ program, values }) {
+  const cache = values.cache === undefined ? undefined : openCache(values.cache, program);
+  return { program, cache, jobs: readJobs(values.jobs) };
 }
 
 /**
  * @param {string} path
- * @param {Work} work
+ * @param {string} program
  * @throws {Error} the cache or the program can't be read
  */
-function openCache(path, { program = "" }) {
+function openCache(path, program) {
   try {
     return new AnalysisCache(path, program);
   } catch (/** @type {any} */ error) {
@@ -136,12 +116,12 @@ function openCache(path, { program = "" }) {
  *   too, and what globs exclude
  * @returns {Promise<AsyncGenerator<Found, void>>}
  */
-export async function findNamed({ paths, values, work }, exclusions) {
+export async function findNamed({ paths, values }, exclusions) {
   const { all, follow } = values;
   const { isExcluded, isIgnored, isKept } = exclusions ?? await exclusionsFor({ paths, values });
   const hasPages = exclusions?.hasPages ?? false;
   return findFiles(named(paths, values), {
-    mediaTypes: work.mediaTypes, all, follow, pages: hasPages,
+    all, follow, pages: hasPages,
     roots: paths.filter((path) => path !== "-"),
     isExcluded: (path) => isExcluded(path) || isIgnored(path),
     isKept: hasPages ? isKept : undefined,
@@ -171,13 +151,6 @@ export function ahead(files, reporter) {
   return Readable.from(counted(files, reporter), { highWaterMark: AHEAD });
 }
 
-/** @param {FileResult} result */
-async function writeLine({ line }) {
-  if (line) {
-    await writeOutput(line);
-  }
-}
-
 /**
  * The paths that are named, by the words or on the standard input.
  * @param {string[]} paths
@@ -189,23 +162,6 @@ async function* named(paths, values) {
       yield* readPaths(process.stdin, values.null ? "\0" : "\n");
     } else {
       yield path;
-    }
-  }
-}
-
-/**
- * Each file by the first path that leads to it.
- * @param {AsyncIterable<Found>} files
- */
-async function* eachOnce(files) {
-  const passed = new Set();
-  for await (const file of files) {
-    const url = canonicalUrl(absolute(file.path));
-    if (file.isLeft) {
-      yield file;
-    } else if (!passed.has(url)) {
-      passed.add(url);
-      yield file;
     }
   }
 }
@@ -260,21 +216,24 @@ export class FileReporter {
     this.#print(`warning: ${printable(text)}`);
   }
 
-  /** @param {FileResult} result */
-  report({ path, isLeft, fault, warnings = [], notices = [] }) {
+  /**
+   * Prints what is wrong with configurations, each once.
+   * @param {string[]} notices
+   */
+  notice(notices) {
     for (const notice of notices.filter((each) => !this.#noticed.has(each))) {
       this.#noticed.add(notice);
-      this.#print(`warning: ${printable(notice)}`);
+      this.warn(notice);
     }
-    for (const { message, ...place } of warnings) {
-      this.#print(describeFault(path, { message: `warning: ${message}`, ...place }));
-    }
+  }
+
+  /** @param {Omit<FileResult, "info">} result */
+  report({ path, isLeft, fault }) {
     if (isLeft) {
       this.#print(describeFault(path, { message: LEFT }));
     }
     if (fault) {
-      const { excerpt, ...line } = fault;
-      this.#print([describeFault(path, line), ...excerptLines(excerpt)].join("\n"));
+      this.#print([describeFault(path, fault), ...excerptLines(path, fault)].join("\n"));
       this.status = 1;
       process.exitCode = 1;
     }
@@ -289,15 +248,22 @@ export class FileReporter {
 
 /**
  * The line of a syntax error with a mark below, behind a bar: so that it can't be taken for a line of the output.
- * @param {string} [excerpt]
- * @returns {string[]} none where there is no excerpt
+ * @param {string} path
+ * @param {import("../../runtime/faults.mjs").Fault} fault
+ * @returns {string[]} none where there is no line
  */
-function excerptLines(excerpt) {
-  if (excerpt === undefined) {
+function excerptLines(path, { line, column = 1 }) {
+  if (line === undefined) {
     return [];
   }
-  const at = excerpt.lastIndexOf("\n");
-  const [line, mark] = [excerpt.slice(0, at), excerpt.slice(at + 1)];
-  const before = printable([...line].slice(0, mark.length - 1).join(""));
-  return [`  | ${printable(line)}`, `  | ${before.replace(/[^\t]/g, " ")}^`];
+  try {
+    const characters = [...readRegularFile(path).toString().split("\n", line)[line - 1]];
+    const from = Math.max(0, column - 1 - AROUND);
+    const before = printable(characters.slice(from, column - 1).join(""));
+    const rest = printable(characters.slice(column - 1, column - 1 + AROUND).join("").replace(/\r$/, ""));
+    return [`  | ${before}${rest}`, `  | ${before.replace(/[^\t]/g, " ")}^`];
+  } catch {
+    // The file has changed.
+    return [];
+  }
 }

@@ -17,7 +17,7 @@
  * @property {{ from: string, to: string, path: string, label?: [number, number] }[]} edges
  */
 
-import { curveOf, pointOnCurve } from "./layout_curves.js";
+import { curveOf, placeOfCount, pointsOnCurve } from "./layout_curves.js";
 import { gridOf, shelvesOf } from "./layout_grid.js";
 
 /** Lengths in a drawing: around a box's items, above them for its title, and between two items. */
@@ -146,9 +146,10 @@ function drawGroup({ nodes, edges }, direction) {
     const { x, y } = graph.node(item.id);
     return { item, corner: [x - item.width / 2, y - item.height / 2] };
   });
+  const counts = [];
   const curves = edges.map(({ from, to, count }) => {
     const { points, x, y } = graph.edge(from, to);
-    const label = count > 1 ? pointOnCurve(points, { x, y }) : undefined;
+    const label = count > 1 ? placeOfCount(pointsOnCurve(points, { x, y }), count, counts) : undefined;
     return { corner: [0, 0], edge: { from, to, points, label } };
   });
   return atOrigin([...parts, ...curves]);

@@ -42,14 +42,50 @@ function bendsOf(points) {
   }));
 }
 
+/** How far along a bend a count may be, the best place first. */
+const PLACES = [0.5, 0.35, 0.65, 0.2, 0.8];
+
 /**
- * Returns the middle of a curve's bend that is nearest to a point.
+ * Returns points of the curve's bend that is nearest to a point, the middle of the bend first.
  * @param {Point[]} points
  * @param {Point} near
- * @returns {Point}
+ * @returns {Point[]}
  */
-export function pointOnCurve(points, near) {
+export function pointsOnCurve(points, near) {
   const far = (/** @type {{ bend: Point }} */ { bend: { x, y } }) => Math.hypot(x - near.x, y - near.y);
   const [nearest] = bendsOf(points).sort((one, other) => far(one) - far(other));
-  return nearest ? halfway(nearest.bend, halfway(nearest.start, nearest.end)) : near;
+  return nearest ? PLACES.map((part) => alongBend(nearest, part)) : [near];
+}
+
+/**
+ * Returns a point of a quadratic curve.
+ * @param {{ start: Point, bend: Point, end: Point }} ends
+ * @param {number} part from 0 at the start to 1 at the end
+ * @returns {Point}
+ */
+function alongBend({ start, bend, end }, part) {
+  const rest = 1 - part;
+  const at = (/** @type {"x" | "y"} */ axis) => {
+    return rest * rest * start[axis] + 2 * part * rest * bend[axis] + part * part * end[axis];
+  };
+  return { x: at("x"), y: at("y") };
+}
+
+/** The size of a count, as it is drawn: of its border, and of a digit. */
+const DRAWN = { border: 8, digit: 7, height: 16 };
+
+/**
+ * Returns the first point at which a count overlaps no other one, else the first point.
+ * @param {Point[]} points
+ * @param {number} count
+ * @param {{ x: number, y: number, width: number }[]} counts to which it is added
+ */
+export function placeOfCount(points, count, counts) {
+  const width = DRAWN.border + DRAWN.digit * count.toLocaleString("en").length;
+  const isFree = (/** @type {Point} */ { x, y }) => counts.every((other) => {
+    return Math.abs(other.x - x) >= (other.width + width) / 2 || Math.abs(other.y - y) >= DRAWN.height;
+  });
+  const place = points.find(isFree) ?? points[0];
+  counts.push({ ...place, width });
+  return place;
 }

@@ -1,0 +1,63 @@
+"""The errors of this package."""
+
+from typing import Literal
+
+from .report import DocumentFault, FaultReport
+
+FaultName = Literal[DocumentFault, "OutOfMemory"]
+
+
+class Error(Exception):
+    """The base of all errors that this package defines."""
+
+
+class Fault(Error):
+    """A text or a document is refused, or a file can't be read.
+
+    `name` is the kind of fault; docs/FORMATS.md of the repository lists the names. `message` says what is wrong, or
+    what was expected. `line` and `character` are the position of the fault in the text that was read, from zero; None
+    where the fault has no position. `report` is the report that `check` returns; None for a file that can't be read,
+    for a text that isn't UTF-8, and where an allocation failed. `str(fault)` is one line with all of these; lines and
+    columns in it count from one.
+    """
+
+    def __init__(self, name: FaultName, report: FaultReport | None = None, message: str | None = None) -> None:
+        super().__init__(name, report, message)
+        self.name: FaultName = name
+        self.report = report
+        self.message = message or (report["expected"] if report else "an allocation failed")
+        at = report.get("at") if report else None
+        self.line = at["line"] if at else None
+        self.character = at["column"] if at else None
+
+    def __str__(self) -> str:
+        if self.report is None:
+            return f"{self.name}: {shown(self.message)}"
+        # The message of a parser is a sentence of its own.
+        expected = "" if self.name == "Syntax" else "expected "
+        return f"{self.name}{_position(self.name, self.report)}: {expected}{shown(self.message)}"
+
+
+def alone(fault: Fault) -> Fault:
+    """The fault without the calls that raised it, which hold the text that was read."""
+    return Fault(*fault.args)
+
+
+def shown(text: str) -> str:
+    """The text with everything escaped that a terminal doesn't print: control characters and lone surrogates."""
+    return "".join(character if character.isprintable() else ascii(character)[1:-1] for character in text)
+
+
+def _position(name: FaultName, report: FaultReport) -> str:
+    position = ""
+    if "pointer" in report and name != "Syntax":
+        position += f" at {shown(report['pointer'])}" if report["pointer"] else " in the whole document"
+    if "other" in report:
+        position += f" and {shown(report['other'])}"
+    if "range" in report:
+        start, end = report["range"]
+        position += f" (bytes {start} to {end})"
+    if "at" in report:
+        at = report["at"]
+        position += f" at line {at['line'] + 1}, column {at['column'] + 1} (offset {at['offset']})"
+    return position
