@@ -1,36 +1,51 @@
-"""How far the work is, on a terminal."""
+"""How far a run is: counts, the list of faults, and a line on a terminal."""
 
 import time
 from typing import TextIO
 
-# Between two times that it is written, in seconds.
-INTERVAL = 0.2
+from work import Module
+
 CLEAR = "\r\x1b[K"
+MOST_LISTED = 100
 
 
 class Progress:
-    """One line on the error output that is written again and again; nothing where that is no terminal."""
+    def __init__(self, stream: TextIO) -> None:
+        self.faults = 0
+        self._listed: list[str] = []
+        self._analyzed = self._known = 0
+        self._stream, self._is_shown = stream, stream.isatty()
+        self._began = time.monotonic()
 
-    def __init__(self, stream: TextIO, interval: float = INTERVAL) -> None:
-        self._stream = stream
-        self._interval = interval
-        self._is_shown = stream.isatty()
-        self._began = self._written = time.monotonic()
-        self._lines = self._bytes = 0
+    def add(self, modules: list[Module], is_known: bool = False) -> None:
+        self._known += len(modules) * is_known
+        self._analyzed += len(modules) * (not is_known)
+        faults = [shown(f"{module.specifier}: {module.fault}") for module in modules if module.fault is not None]
+        self._listed += faults[: MOST_LISTED - len(self._listed)]
+        self.faults += len(faults)
 
-    def add(self, lines: int, size: int, workers: int) -> None:
-        """Adds answered lines and their bytes, and shows the sums beside the number of workers."""
-        self._lines += lines
-        self._bytes += size
-        now = time.monotonic()
-        if self._is_shown and now - self._written >= self._interval:
-            self._written = now
-            rate = self._lines / max(now - self._began, 0.001)
-            amount = f"{self._lines:,} lines, {self._bytes / 1e6:,.1f} MB, {rate:,.0f} lines a second"
-            self._stream.write(f"{CLEAR}{amount}, {workers} workers")
-            self._stream.flush()
+    def counts(self) -> str:
+        return f"{self._analyzed:,} analyzed, {self._known:,} known, {self.faults:,} faults"
 
-    def clear(self) -> None:
+    def show(self, workers: int) -> None:
+        """Writes the counts, if the stream is a terminal."""
+        rate = (self._analyzed + self._known) / max(time.monotonic() - self._began, 0.001)
+        self.write(f"{CLEAR}{self.counts()}, {rate:,.0f} a second, {workers} workers")
+
+    def write(self, text: str) -> None:
+        """Writes a text, if the stream is a terminal."""
         if self._is_shown:
-            self._stream.write(CLEAR)
+            self._stream.write(text)
             self._stream.flush()
+
+    def end(self) -> None:
+        """Clears the line, and lists the first faults."""
+        self.write(CLEAR)
+        more = self.faults - len(self._listed)
+        lines = [*self._listed, *[f".. and {more:,} more, where the fault isn't null in the table"] * (more > 0)]
+        self._stream.writelines(f"{line}\n" for line in lines)
+
+
+def shown(text: str) -> str:
+    """The text with control characters and undecodable bytes escaped, for a terminal."""
+    return "".join(character if character.isprintable() else ascii(character)[1:-1] for character in text)

@@ -13,21 +13,23 @@ ANSWERED, FAULT, TOO_SMALL = 0, 1, 2
 FUNCTIONS = ("analyze", "analyze_estree", "convert", "reach", "check", "check_estree", "check_convert", "check_reach")
 
 
+TEXT = (ctypes.c_char_p, ctypes.c_size_t)
+ANSWER = (ctypes.c_char_p, ctypes.c_size_t, ctypes.POINTER(ctypes.c_size_t))
+
+
 class Modinfo:
-    """The functions of include/modinfo.h."""
+    """The functions of include/modinfo.h that read a document."""
 
     def __init__(self, path):
         self.library = ctypes.CDLL(path)
         for name in FUNCTIONS:
-            function = getattr(self.library, f"modinfo_{name}")
-            function.restype = ctypes.c_uint8
-            function.argtypes = [
-                ctypes.c_char_p,
-                ctypes.c_size_t,
-                ctypes.c_char_p,
-                ctypes.c_size_t,
-                ctypes.POINTER(ctypes.c_size_t),
-            ]
+            self.declare(f"modinfo_{name}", *TEXT, *ANSWER)
+        self.declare("modinfo_run", ctypes.c_uint8, *TEXT, *ANSWER)
+
+    def declare(self, name, *parameters):
+        function = getattr(self.library, name)
+        function.restype = ctypes.c_uint8
+        function.argtypes = parameters
 
     def call(self, name, document, room=4096):
         """The answer's line; a ValueError with the fault's name where the document is refused."""

@@ -17,18 +17,36 @@ from analyze import ANSWERED, FAULT, TOO_SMALL, Modinfo
 COMMANDS = {
     ("analyze",): "analyze",
     ("analyze", "--estree"): "analyze_estree",
+    ("analyze", "--source"): "analyze_source",
     ("convert",): "convert",
     ("reach",): "reach",
 }
-CHECKED = {**COMMANDS, (): "analyze", ("--estree",): "analyze_estree"}
+CHECKED = {**COMMANDS, (): "analyze", ("--estree",): "analyze_estree", ("--source",): "analyze_source"}
 # Each command's function that writes reports.
 CHECKS = {
     "analyze": "check",
     "analyze_estree": "check_estree",
+    "analyze_source": "check_source",
     "convert": "check_convert",
     "reach": "check_reach",
 }
+# The numbers of the commands whose functions take a text in place of a document. modinfo_run takes their documents.
+NUMBERS = {"analyze_source": 8, "check_source": 9}
 GUARD = b"\xa5" * 64
+EXAMPLES = Path(__file__).resolve().parent.parent
+# Of each command, the endings of the names of its examples and of their expected outputs.
+ENDINGS = {
+    "analyze": (".json", ".out.json"),
+    "convert": (".convert.json", ".converted.json"),
+    "reach": (".reach.json", ".reached.json"),
+}
+
+
+def examples():
+    """The command, the document and the expected output of each example."""
+    for command, (document, output) in ENDINGS.items():
+        for expected in sorted(EXAMPLES.glob(f"*{output}")):
+            yield command, EXAMPLES / (expected.name.removesuffix(output) + document), expected
 
 
 def blocks(text):
@@ -105,8 +123,11 @@ def called(modinfo, function, document, room):
     """The status, the length, and the room with the bytes after it."""
     length = ctypes.c_size_t()
     answer = ctypes.create_string_buffer(b"\xa5" * room + GUARD, room + len(GUARD))
-    call = getattr(modinfo.library, f"modinfo_{function}")
-    status = call(document, len(document), answer, room, ctypes.byref(length))
+    rest = document, len(document), answer, room, ctypes.byref(length)
+    if function in NUMBERS:
+        status = modinfo.library.modinfo_run(NUMBERS[function], *rest)
+    else:
+        status = getattr(modinfo.library, f"modinfo_{function}")(*rest)
     return status, length.value, answer.raw
 
 

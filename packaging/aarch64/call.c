@@ -9,16 +9,29 @@
 
 typedef uint8_t function(const uint8_t *, size_t, uint8_t *, size_t, size_t *);
 
+/* The two commands on texts, whose own functions take no document. */
+static uint8_t analyze_source(const uint8_t *document, size_t length, uint8_t *answer, size_t room, size_t *written)
+{
+    return modinfo_run(MODINFO_ANALYZE_SOURCE, document, length, answer, room, written);
+}
+
+static uint8_t check_source(const uint8_t *document, size_t length, uint8_t *answer, size_t room, size_t *written)
+{
+    return modinfo_run(MODINFO_CHECK_SOURCE, document, length, answer, room, written);
+}
+
 static const struct {
     const char *name;
     function *function;
 } functions[] = {
     {"analyze", modinfo_analyze},
     {"analyze_estree", modinfo_analyze_estree},
+    {"analyze_source", analyze_source},
     {"convert", modinfo_convert},
     {"reach", modinfo_reach},
     {"check", modinfo_check},
     {"check_estree", modinfo_check_estree},
+    {"check_source", check_source},
     {"check_convert", modinfo_check_convert},
     {"check_reach", modinfo_check_reach},
 };

@@ -4,15 +4,16 @@
 _module_info() {
     local words=""
     if [[ $COMP_CWORD -eq 1 ]]; then
-        words="analyze convert reach check --help --version"
+        words="analyze convert reach check files --help --version"
     else
         case ${COMP_WORDS[1]} in
-            analyze) words="--estree --lines --help" ;;
+            analyze) words="--estree --source --lines --help" ;;
             convert) words="--lines --help" ;;
             reach) words="--lines --help" ;;
-            check) words="analyze convert reach --estree --lines --strict --help" ;;
+            check) words="analyze convert reach --estree --source --lines --strict --help" ;;
+            files) words="--null --help" ;;
         esac
     fi
     mapfile -t COMPREPLY < <(compgen -W "$words" -- "${COMP_WORDS[COMP_CWORD]}")
 }
-complete -F _module_info module-info
+complete -o bashdefault -o default -F _module_info module-info

@@ -10,7 +10,7 @@
 enum { SPACES = 1000000, ROOM = 4096 };
 
 #define MODULE "{\"specifier\":\"file:///a.js\",\"mediaType\":\"JavaScript\",\"source\":\"\",\"program\":{\"range\":[0,0],\"body\":[]}}"
-#define ESTREE "{\"specifier\":\"file:///a.js\",\"mediaType\":\"JavaScript\",\"source\":\"\",\"program\":{\"body\":[],\"comments\":[]}}"
+#define ESTREE "{\"specifier\":\"file:///a.js\",\"mediaType\":\"JavaScript\",\"source\":\"\",\"program\":{\"type\":\"Program\",\"body\":[],\"comments\":[]}}"
 
 static const struct {
     const char *name;

@@ -1,6 +1,5 @@
 """Compares the words that the program takes with docs/commands.json, and tests the completions of shells. The
-program is
-the one that MODINFO names, else that in build/."""
+program is the one that MODINFO names, else that in build/."""
 
 import itertools
 import json
@@ -17,7 +16,14 @@ PROGRAM = os.environ.get("MODINFO", f"{ROOT}/build/modinfo")
 COMPLETIONS = ROOT / "packaging/completions"
 USAGE = (2, b"", b"modinfo: usage: modinfo analyze, modinfo convert or modinfo reach\n")
 NAMES = [each["name"] for each in TABLE["names"]]
-WORDS = [*NAMES[:-1], *(each["name"] for each in TABLE["flags"]), "--help", "other"]
+# The commands that take names of files in place of words.
+OF_FILES = [each["name"] for each in TABLE["names"] if each.get("takes_files")]
+WORDS = [
+    *(name for name in NAMES if name not in (*OF_FILES, "check")),
+    *(each["name"] for each in TABLE["flags"]),
+    "--help",
+    "other",
+]
 OFFERED = f"""source {COMPLETIONS}/module-info.bash
 COMP_CWORD=$(($# - 1)) COMP_WORDS=("$@")
 _module_info
@@ -29,6 +35,8 @@ def are_right(name: str, words: tuple[str, ...]) -> bool:
     """Whether the table has the words after the name of a command."""
     if words == ("--help",):
         return True
+    if name in OF_FILES:
+        return words == ("--null",) or not any(word.startswith("-") for word in words)
     given = set(words)
     if len(given) != len(words):
         return False
@@ -50,7 +58,8 @@ def is_wrong(words: tuple[str, ...]) -> bool:
 
 @pytest.mark.parametrize("name", NAMES)
 def test_words_after_a_name(name: str) -> None:
-    """Each list of at most three words is refused with the usage exactly where the table doesn't have it."""
+    """Each list of at most three words is refused with the usage exactly where the table doesn't have it. A file that
+    isn't there is no wrong word."""
     lists = [(name, *rest) for count in range(4) for rest in itertools.product(WORDS, repeat=count)]
     with ThreadPoolExecutor(2) as pool:
         assert [words for words, wrong in zip(lists, pool.map(is_wrong, lists)) if wrong] == []

@@ -1,5 +1,5 @@
-"""Compiles a program that includes include/modinfo.h by each standard that the header supports, without a warning.
-Needs a C and a C++ compiler, and no library."""
+"""Compiles programs that include include/modinfo.h and modinfo.hpp by each standard that these support, without a
+warning. Needs a C and a C++ compiler, and no library."""
 
 import subprocess
 from pathlib import Path
@@ -20,6 +20,16 @@ CALLS = "".join(
         ("check_convert", "ANSWERED"),
         ("check_reach", "ANSWERED"),
     ]
+)
+# Those of texts, and those that take the number of a command.
+CALLS += "".join(
+    f"    if (modinfo_{name}_source(document, length, document, length, MODINFO_{media_type}, answer, room, written))\n"
+    "        return MODINFO_FAULT;\n"
+    for name, media_type in [("analyze", "OF_SPECIFIER"), ("check", "OTHER")]
+)
+CALLS += "".join(
+    f"    if (modinfo_{name}(MODINFO_{command}, document, length, answer, room, written)) return MODINFO_NO_COMMAND;\n"
+    for name, command in [("run", "ANALYZE_SOURCE"), ("run_lines", "CHECK_SOURCE")]
 )
 ARGUMENTS = "const uint8_t *document, size_t length, uint8_t *answer, size_t room, size_t *written"
 PROGRAM = f"""#include "modinfo.h"
@@ -44,6 +54,15 @@ def compiled(folder: Path, source: str, compiler: str, *options: str) -> "subpro
 @pytest.mark.parametrize("standard", "c89 c99 c11 c17 c++98 c++11 c++17 c++20".split())
 def test_the_header_by_each_standard(tmp_path: Path, standard: str) -> None:
     run = compiled(tmp_path, PROGRAM, "c++" if "+" in standard else "cc", f"-std={standard}", "-pedantic-errors")
+    assert run.returncode == 0, run.stderr
+
+
+@pytest.mark.parametrize("standard", "c++17 c++20 c++23".split())
+def test_the_header_of_strings(tmp_path: Path, standard: str) -> None:
+    """Two files of a program may include it."""
+    program = '#include "modinfo.hpp"\n#include "modinfo.hpp"\nstd::string use();\n'
+    program += 'std::string use() { return modinfo::module_info("", "file:///a.js"); }\n'
+    run = compiled(tmp_path, program, "c++", f"-std={standard}", "-pedantic-errors", "-Wshadow", "-Wconversion")
     assert run.returncode == 0, run.stderr
 
 

@@ -1,5 +1,6 @@
 """Tests tools/install in empty folders: which files it installs, that they work there, and its errors."""
 
+import hashlib
 import json
 import shutil
 import subprocess
@@ -29,7 +30,7 @@ PAGE, PAGE_OUTPUT = ROOT / "examples/page.json", ROOT / "examples/page.out.json"
 def wanted(libraries: str) -> set[str]:
     """The files below a prefix."""
     manuals = ["man1/module-info.1", *(f"man3/{function}.3" for function in FUNCTIONS)]
-    documents = ["copyright", "ESTREE.md", "FORMATS.md"]
+    documents = ["copyright", "origin", "ESTREE.md", "FORMATS.md"]
     documents += [f"{name}.schema.json" for name in ("document", "module-info", "report")]
     names = [f"libmodinfo.{ending}" for ending in ("a", "so", "so.0", f"so.{VERSION}")]
     names += [
@@ -40,6 +41,7 @@ def wanted(libraries: str) -> set[str]:
     return {
         "bin/module-info",
         "include/modinfo.h",
+        "include/modinfo.hpp",
         *(f"{libraries}/{name}" for name in names),
         *(f"share/doc/modinfo/{name}" for name in documents),
         *(f"share/man/{name}" for name in manuals),
@@ -70,19 +72,53 @@ def test_words(words: list[str]) -> None:
     run(ROOT / "tools/install", *words, status=2)
 
 
+def copy_built(clone: Path) -> None:
+    """Copies the program and the library to a clone."""
+    (clone / "build").mkdir()
+    for name in "modinfo", "libmodinfo.a", "libmodinfo.so":
+        for file in name, f"{name}.sources", f"{name}.origin":
+            shutil.copy(ROOT / "build" / file, clone / "build")
+
+
 def test_what_is_missing_or_old(tmp_path: Path) -> None:
     """A program is old where one of its sources is newer."""
     clone, nothing = tmp_path / "clone", tmp_path / "nothing"
     run("git", "clone", "-q", ROOT, clone)
     run(clone / "tools/install", nothing, status=1)
-    (clone / "build").mkdir()
-    for name in "modinfo", "libmodinfo.a", "libmodinfo.so":
-        for file in name, f"{name}.sources":
-            shutil.copy(ROOT / "build" / file, clone / "build")
+    copy_built(clone)
     for source in "modinfo_c/src/lib.rt", "modinfo_cli/src/main.rt":
         run("touch", "-d", "tomorrow", clone / "crates" / source)
         run(clone / "tools/install", nothing, status=1)
     assert not nothing.exists()
+
+
+def test_what_is_not_proved(tmp_path: Path) -> None:
+    """An unchecked file in the place of a proved one is refused: by its stamp, without one, with another's stamp."""
+    clone, nothing = tmp_path / "clone", tmp_path / "nothing"
+    run("git", "clone", "-q", ROOT, clone)
+    copy_built(clone)
+    program, stamp = clone / "build/modinfo", clone / "build/modinfo.origin"
+    proved = stamp.read_text()
+    stamp.write_text(proved.replace("proved", "unchecked", 1))
+    assert "isn't proved" in run(clone / "tools/install", nothing, status=1)
+    stamp.unlink()
+    assert "isn't proved" in run(clone / "tools/install", nothing, status=1)
+    stamp.write_text(proved)
+    program.write_bytes(program.read_bytes() + b"\n")
+    assert "isn't proved" in run(clone / "tools/install", nothing, status=1)
+    assert not nothing.exists()
+
+
+def test_where_files_come_from(prefix: Path) -> None:
+    """The hash of the sources is that of the stamp."""
+    lines = (prefix / "share/doc/modinfo/origin").read_text().splitlines()
+    for line, name in zip(lines, ["modinfo", "libmodinfo.a", "libmodinfo.so"], strict=True):
+        kind, sources, file = (ROOT / f"build/{name}.origin").read_text().splitlines()
+        assert line == f"{name}: {kind}, {sources}"
+        assert kind == "proved"
+        assert file == f"file {hashlib.sha256((ROOT / 'build' / name).read_bytes()).hexdigest()}"
+    folder = str(prefix / "lib/pkgconfig")
+    assert run("pkg-config", "--variable=build", "modinfo", PKG_CONFIG_PATH=folder) == "proved\n"
 
 
 @pytest.mark.parametrize("output", sorted(ROOT.glob("examples/*.out.json")), ids=lambda path: path.name)

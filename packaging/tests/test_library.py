@@ -1,13 +1,17 @@
-"""Tests the library for C in build/: what it exports, its name for the loader, its version, and that no call copies its
-document."""
+"""Tests the library for C in build/, or in the folder that MODINFO_LIB_DIR names: what it exports, its name for the
+loader, its version, that no call copies its document, and under sanitizers the rooms of the header and the calls of
+C++."""
 
+import os
 import re
 from pathlib import Path
 
 import pytest
 from installed import FUNCTIONS, ROOT, VERSION, run
 
-ARCHIVE, SHARED = ROOT / "build/libmodinfo.a", ROOT / "build/libmodinfo.so"
+LIBRARIES = Path(os.environ.get("MODINFO_LIB_DIR", ROOT / "build"))
+ARCHIVE, SHARED = LIBRARIES / "libmodinfo.a", LIBRARIES / "libmodinfo.so"
+TESTS = ROOT / "packaging/tests"
 NUMBERS = """\
 #include <stdio.h>
 #include "modinfo.h"
@@ -20,10 +24,10 @@ int main(void)
 """
 
 
-def compiled(folder: Path, source: Path) -> Path:
+def compiled(folder: Path, source: Path, *options: str) -> Path:
     program = folder / "program"
-    warnings = ["-std=c11", "-Wall", "-Wextra", "-Werror"]
-    run("cc", *warnings, f"-I{ROOT}/include", "-o", program, source, ARCHIVE)
+    words = ["cc", "-std=c11"] if source.suffix == ".c" else ["c++", "-std=c++17", "-pthread"]
+    run(*words, "-Wall", "-Wextra", "-Werror", *options, f"-I{ROOT}/include", "-o", program, source, ARCHIVE)
     return program
 
 
@@ -52,4 +56,14 @@ def test_versions(tmp_path: Path) -> None:
 
 
 def test_no_call_copies_its_document(tmp_path: Path) -> None:
-    assert run(compiled(tmp_path, ROOT / "packaging/tests/allocated.c")) == "16 calls, 0 copies\n"
+    assert run(compiled(tmp_path, TESTS / "allocated.c")) == "16 calls, 0 copies\n"
+
+
+def test_rooms_that_are_enough(tmp_path: Path) -> None:
+    printed = run(compiled(tmp_path, TESTS / "rooms.c", "-g", "-fsanitize=address,undefined"))
+    assert re.fullmatch(r"[1-9]\d+ calls, 0 with too little room\n", printed)
+
+
+@pytest.mark.parametrize("sanitizer", ["address,undefined", "thread"])
+def test_strings_of_cpp(tmp_path: Path, sanitizer: str) -> None:
+    assert run(compiled(tmp_path, TESTS / "strings.cc", "-g", f"-fsanitize={sanitizer}")) == ""

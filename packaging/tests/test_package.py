@@ -21,7 +21,7 @@ def packed(clone: Path, umask: str, **environment: str) -> str:
     run("git", "clone", "-q", ROOT, clone)
     (clone / "build").mkdir()
     for name in "modinfo", "libmodinfo.a", "libmodinfo.so":
-        for file in name, f"{name}.sources":
+        for file in name, f"{name}.sources", f"{name}.origin":
             shutil.copy2(ROOT / "build" / file, clone / "build")
             (clone / "build" / file).touch()
     return run("bash", "-c", f"umask {umask} && {clone}/tools/package", **environment)
@@ -86,7 +86,7 @@ def test_owners_times_and_files(first: Path) -> None:
         path = path.replace("/zsh/site-functions/", "/zsh/vendor-completions/")
         wanted.add(f"{path}.gz" if "/man/" in path else path)
     found = {row[5] for row in rows}
-    others = re.compile(r".*/|.*/\.gz|.*/share/doc/.*")
+    others = re.compile(r".*/|.*/\.gz|.*/share/(doc|lintian)/.*")
     assert {name for name in found if not others.fullmatch(name)} == {
         name for name in wanted if not others.fullmatch(name)
     }
@@ -101,6 +101,16 @@ def test_the_c_library_that_is_needed(first: Path, tree: Path, deb: str, file: s
     newest = max(tuple(map(int, found.split("."))) for found in re.findall(r"@GLIBC_([\d.]+)", symbols))
     depends = run("dpkg-deb", "--field", first / "build" / deb, "Depends")
     assert depends == f"libc6 (>= {'.'.join(map(str, newest))})\n"
+
+
+def test_where_packages_come_from(first: Path, tree: Path) -> None:
+    """Each from the file that it is made for."""
+    for deb, name in zip(DEBS, ["libmodinfo.so", "libmodinfo.so", "modinfo"], strict=True):
+        kind, sources, _ = (ROOT / f"build/{name}.origin").read_text().splitlines()
+        assert run("dpkg-deb", "--field", first / "build" / deb, "Modinfo-Build") == f"{kind}, {sources}\n"
+        assert "Its functions are proved" in run("dpkg-deb", "--field", first / "build" / deb, "Description")
+        package = deb.partition("_")[0]
+        assert f"{name}: {kind}, {sources}\n" in (tree / f"usr/share/doc/{package}/origin").read_text()
 
 
 def test_symbols(first: Path) -> None:

@@ -1,77 +1,58 @@
-"""Documents of real files, and the answers of one process to them."""
+"""Runs the program as a user does, with workers that some texts end or stop."""
 
 import os
+import sqlite3
 import subprocess
 import sys
+from contextlib import closing
 from pathlib import Path
+from typing import Any
 
 import pytest
 
 HERE = Path(__file__).resolve().parent
+PROGRAM = HERE.parent / "analyze.py"
 ROOT = HERE.parents[2]
 sys.path.insert(0, str(HERE.parent))
 
-NODE_FILES = Path("/usr/share/nodejs")
-ENDINGS = {".ts", ".tsx", ".mts", ".cts", ".js", ".jsx", ".mjs", ".cjs"}
-MODINFO = ROOT / "build/modinfo"
+
+class Example:
+    """A folder with files, and the store of their rows."""
+
+    def __init__(self, folder: Path) -> None:
+        self.folder, self.store, self.source = folder, folder / "store.sqlite", folder / "src"
+        self.source.mkdir()
+        self.deaths = folder / "deaths"
+        os.environ["DEATHS"] = str(self.deaths)
+        os.environ["DASK_LOGGING__DISTRIBUTED"] = "critical"
+        os.environ["DASK_DISTRIBUTED__WORKER__PRELOAD"] = str(HERE / "preload.py")
+
+    def write(self, **texts: str) -> None:
+        """Writes files NAME.ts."""
+        for name, text in texts.items():
+            (self.source / f"{name}.ts").write_text(text)
+
+    def url(self, name: str) -> str:
+        return f"file://{self.source}/{name}.ts"
+
+    def start(self, *words: str | Path, prefix: tuple[str, ...] = ()) -> "subprocess.Popen[str]":
+        command = [*prefix, sys.executable, PROGRAM, "--workers", "2", self.store, *(words or [self.source])]
+        pipe = subprocess.PIPE
+        return subprocess.Popen(command, stdin=pipe, stdout=pipe, stderr=pipe, text=True)
+
+    def run(self, *words: str | Path, input: str = "", prefix: tuple[str, ...] = ()) -> tuple[int, str, list[str]]:
+        """The status, the output and the lines of the error output."""
+        run = self.start(*words, prefix=prefix)
+        output, errors = run.communicate(input)
+        return run.returncode, output, errors.splitlines()
+
+    def rows(self, select: str) -> list[Any]:
+        """What the store has. Nothing, where it isn't made yet."""
+        with closing(sqlite3.connect(self.store)) as connection:
+            is_made = connection.execute("SELECT 1 FROM sqlite_master WHERE name = 'by_hash'").fetchone()
+            return connection.execute(select).fetchall() if is_made else []
 
 
-def pytest_addoption(parser: pytest.Parser) -> None:
-    parser.addoption("--files", type=int, default=400, help="so many files of Debian's node packages")
-
-
-def analyzed(lines: bytes) -> bytes:
-    """What one process prints."""
-    return subprocess.run([MODINFO, "analyze", "--lines"], input=lines, stdout=subprocess.PIPE, check=True).stdout
-
-
-@pytest.fixture(scope="session")
-def files(pytestconfig: pytest.Config) -> list[str]:
-    """Paths of files, evenly spread over all that there are."""
-    most: int = pytestconfig.getoption("--files")
-    every = sorted(
-        str(path)
-        for path in NODE_FILES.rglob("*")
-        if path.suffix in ENDINGS and not path.is_symlink() and path.is_file()
-    )
-    if len(every) < most:
-        pytest.skip(f"{NODE_FILES} has {len(every)} files, not {most}: bench/adapters_setup installs more")
-    return [every[at * len(every) // most] for at in range(most)]
-
-
-@pytest.fixture(scope="session")
-def folder(tmp_path_factory: pytest.TempPathFactory) -> Path:
-    return tmp_path_factory.mktemp("cluster")
-
-
-@pytest.fixture(scope="session")
-def documents(files: list[str], folder: Path) -> Path:
-    """A file with a document for each of the files, with broken ones among them and no line feed at the end."""
-    run = subprocess.run(
-        ["node", ROOT / "bindings/node/src/cli/typescript.mjs", "--lines", "-"],
-        input="".join(path + "\n" for path in files).encode(),
-        stdout=subprocess.PIPE,
-        stderr=subprocess.PIPE,
-    )
-    lines = run.stdout.splitlines(keepends=True)
-    # A file with a syntax error has no document, and two more lines with the place. A warning takes none away.
-    reported = [line for line in run.stderr.splitlines() if line.startswith(b"modinfo-typescript: ")]
-    assert len(lines) + sum(b": warning: " not in line for line in reported) == len(files)
-    assert len(lines) >= 0.9 * len(files)
-    lines[len(lines) // 2 : len(lines) // 2] = [b"\n", b"{}\n", b"\xff\n", b"[" * 1000 + b"\n"]
-    path = folder / "documents.jsonl"
-    path.write_bytes(b"".join(lines).removesuffix(b"\n"))
-    return path
-
-
-@pytest.fixture(scope="session")
-def answers(documents: Path) -> bytes:
-    answers = analyzed(documents.read_bytes())
-    assert answers.count(b"\n") == documents.read_bytes().count(b"\n") + 1
-    assert b'{"fault":"Json"}\n{"fault":"Tree"}\n{"fault":"Input"}\n{"fault":"Json"}\n' in answers
-    return answers
-
-
-@pytest.fixture(scope="session")
-def environment() -> dict[str, str]:
-    return {**os.environ, "MODINFO": str(MODINFO)}
+@pytest.fixture
+def example(tmp_path: Path) -> Example:
+    return Example(tmp_path)

@@ -1,30 +1,22 @@
-"""The progress is printed on a terminal, and not elsewhere."""
+"""The line on a terminal, and the list of faults."""
 
 import io
 
 import pytest
-from progress import Progress
-
-
-class Stream(io.StringIO):
-    def __init__(self, is_terminal: bool) -> None:
-        super().__init__()
-        self.is_terminal = is_terminal
-
-    def isatty(self) -> bool:
-        return self.is_terminal
+from progress import MOST_LISTED, Progress
+from work import Module
 
 
 @pytest.mark.parametrize("is_terminal", [True, False])
-def test_a_terminal_and_another_stream(is_terminal: bool) -> None:
-    stream = Stream(is_terminal)
-    progress = Progress(stream, interval=0)
-    progress.add(lines=1500, size=2_000_000, workers=4)
-    progress.add(lines=500, size=500_000, workers=3)
-    progress.clear()
-    printed = stream.getvalue()
-    if is_terminal:
-        assert "1,500 lines, 2.0 MB, " in printed and ", 4 workers" in printed
-        assert "2,000 lines, 2.5 MB, " in printed and printed.endswith(", 3 workers\r\x1b[K")
-    else:
-        assert printed == ""
+def test_a_terminal_and_another_stream(is_terminal: bool, monkeypatch: pytest.MonkeyPatch) -> None:
+    stream = io.StringIO()
+    monkeypatch.setattr(stream, "isatty", lambda: is_terminal)
+    progress = Progress(stream)
+    progress.add([Module(f"a{at}\x1b", None, "Syntax", []) for at in range(MOST_LISTED + 1400)])
+    progress.show(workers=4)
+    shown = stream.getvalue()
+    assert ("1,500 analyzed, 0 known, 1,500 faults, " in shown and shown.endswith(", 4 workers")) == is_terminal
+    progress.end()
+    lines = stream.getvalue()[len(shown) :].removesuffix("\n").split("\n")
+    assert lines[0] == "\r\x1b[K" * is_terminal + "a0\\x1b: Syntax" and len(lines) == MOST_LISTED + 1
+    assert lines[-1] == ".. and 1,400 more, where the fault isn't null in the table"
