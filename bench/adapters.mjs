@@ -22,7 +22,7 @@ import { join } from "node:path";
 import { fileURLToPath } from "node:url";
 import { parseArgs } from "node:util";
 
-import { mediaTypeOf } from "../bindings/node/src/document/media_types.mjs";
+import { mediaTypeOf } from "../bindings/node/tests/equipment/document/media_types.mjs";
 import { printHelp } from "./help.mjs";
 
 printHelp(import.meta.url);

@@ -13,10 +13,10 @@ import { createRequire } from "node:module";
 import { fileURLToPath } from "node:url";
 import { Worker, isMainThread, workerData } from "node:worker_threads";
 
-import { mediaTypeOf } from "../bindings/node/src/document/media_types.mjs";
-import { loadParser } from "../bindings/node/src/parsers/installed_parsers.mjs";
-import { Source } from "../bindings/node/src/document/source.mjs";
-import { parseWithTypeScript } from "../bindings/node/src/parsers/typescript/parse.mjs";
+import { mediaTypeOf } from "../bindings/node/tests/equipment/document/media_types.mjs";
+import { loadParser } from "../bindings/node/tests/equipment/installed_parsers.mjs";
+import { Source } from "../bindings/node/tests/equipment/document/source.mjs";
+import { parseWithTypeScript } from "../bindings/node/tests/equipment/typescript/parse.mjs";
 
 const require = createRequire("/usr/share/nodejs/");
 

@@ -27,7 +27,7 @@ from building import run_script  # noqa: E402
 
 MODINFO = ROOT / "build/modinfo"
 ANALYZE = [str(MODINFO), "analyze", "--lines"]
-ADAPTER = ["node", str(ROOT / "bindings/node/src/cli/typescript.mjs"), "--lines", "--jobs", "1", "-"]
+ADAPTER = ["node", str(ROOT / "bindings/node/tests/equipment/print_documents.mjs")]
 NODE_FILES = Path("/usr/share/nodejs")
 ENDINGS = {".ts", ".tsx", ".mts", ".cts", ".js", ".jsx", ".mjs", ".cjs"}
 # Files of a new process, and of one that is warm.

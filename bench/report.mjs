@@ -5,7 +5,7 @@
  * usage: node bench/report.mjs [--jobs N] [--program FILE] FOLDER ..
  * example: node bench/report.mjs /usr/share/nodejs/undici
  *
- *   --jobs N        threads that parse; else one for each processor
+ *   --jobs N        processes that parse; else one for each processor
  *   --program FILE  another report.mjs, as that of an older clone
  *   FOLDER          a folder, or a page that is made already, whose name ends in .html, with an
  *                   address in it after `#`

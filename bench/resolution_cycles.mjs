@@ -6,7 +6,7 @@ import { createRequire, isBuiltin } from "node:module";
 import { join } from "node:path";
 import { fileURLToPath } from "node:url";
 
-import { loadParser } from "../bindings/node/src/parsers/installed_parsers.mjs";
+import { loadParser } from "../bindings/node/tests/equipment/installed_parsers.mjs";
 
 /**
  * @param {string} folder

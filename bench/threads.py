@@ -53,7 +53,7 @@ def took(call: Callable[[], object], calls: int, threads: int) -> tuple[float, f
 def main() -> None:
     document = Path(sys.argv[1] if len(sys.argv) > 1 else DEFAULT).read_bytes()
     forms: dict[str, Callable[[], object]] = {
-        "library": lambda: modinfo._library.Room().call(modinfo._library.COMMANDS["analyze"].function, document),
+        "library": lambda: modinfo._library.room().call(modinfo._library.COMMANDS["analyze"].answer.one, document),
         "analyze": lambda: modinfo.analyze(document),
     }
     print(f"{len(document)} bytes")

@@ -12,7 +12,7 @@ from dataclasses import dataclass
 from pathlib import Path
 from types import FrameType
 
-from sources import ROOT, BuildError, Closure, Crate, set_time
+from sources import PROVED, ROOT, BuildError, Closure, Crate, origin, set_time, stamp_file
 
 # The folder of logs and unfinished files, and the folder of built crates. A built library has its statements without
 # their proofs: the crates above it load nothing else.
@@ -132,25 +132,34 @@ def staged() -> Iterator[None]:
         shutil.rmtree(STAGE, ignore_errors=True)
 
 
-def keep(made: Path, name: str, closure: Closure) -> None:
-    """Puts a built file into build/, with the time at which the build began."""
+def keep(made: Path, name: str, closure: Closure, kind: str = PROVED) -> None:
+    """Puts a built file into build/, with the time at which the build began, and a stamp of this kind beside it."""
     (ROOT / "build" / name).parent.mkdir(exist_ok=True)
     (STAGE / "sources").write_bytes(closure.listing())
     shutil.copy(made, STAGE / "made")
     set_time(STAGE / "made", STAGE / "start")
     os.replace(STAGE / "sources", ROOT / f"build/{name}.sources")
     os.replace(STAGE / "made", ROOT / f"build/{name}")
+    stamp_file(ROOT / "build" / name, kind, closure.checksum())
 
 
 def make_current(
-    script: str, closure: Closure, names: list[str], tools: list[str], make: Callable[[Kit], list[Path]]
+    script: str,
+    closure: Closure,
+    names: list[str],
+    tools: list[str],
+    make: Callable[[Kit], list[Path]],
+    kind: str = PROVED,
 ) -> bool:
     """Makes files of build/ where one is missing or older than the sources of a closure. Returns whether it did. `make`
     returns the files, in the order of the names."""
 
     def is_current() -> bool:
-        return all(closure.is_current(name) for name in names)
+        return all(closure.is_current(name) for name in names) and all(
+            origin(ROOT / "build" / name, sources) in (PROVED, kind) for name in names
+        )
 
+    sources = closure.checksum()
     if is_current():
         return False
     need(*tools)
@@ -161,7 +170,7 @@ def make_current(
             return False
         with staged():
             for name, file in zip(names, make(kit)):
-                keep(file, name, closure)
+                keep(file, name, closure, kind)
     return True
 
 

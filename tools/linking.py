@@ -25,6 +25,13 @@ def link_program(target: Target, kit: Kit, main: Path, program: Path) -> None:
         raise BuildError(f"the program isn't linked: {linked.stdout.rstrip()}")
 
 
+def name_for_loader(folder: Path) -> None:
+    """Gives the shared library in a folder the name that the loader looks for."""
+    name = folder / "libmodinfo.so.0"
+    if not name.is_symlink():
+        name.symlink_to("libmodinfo.so")
+
+
 def link_library(target: Target, kit: Kit, compiled: Path, folder: Path) -> None:
     """Puts libmodinfo.a and libmodinfo.so into a folder. They are one object, in which all but the exported functions
     are local, so that a program may link other libraries of the kit beside it. The section that names symbols by their

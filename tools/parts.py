@@ -74,12 +74,13 @@ QUICK = [
         after("bindings/node/setup", after("bindings/setup python", f"{PYTEST} bindings/tests/test_formats.py")),
         ("modinfo",),
     ),
+    Part("texts", after("bindings/node/setup", f"{NODE} tests/differential/rows.mjs"), ("modinfo",)),
     Part(
         "replay",
         'set -o pipefail; cd crates/test_replay/data && "$TEST_REPLAY" | diff ../stdout -',
         ("test_replay",),
     ),
-    Part("examples", 'exec python3 -B tools/examples.py "$MODINFO"', ("modinfo",)),
+    Part("examples", 'exec examples/run "$MODINFO"', ("modinfo",)),
     Part("files", "tools/copy_examples --check && tools/generate_formats --check && tools/set_version --check"),
     Part("scripts", after("bindings/setup python", f"{PYTEST} tools/tests -m 'not slow'")),
     Part("header", after("bindings/setup python", f"{PYTEST} packaging/tests/test_header.py")),
@@ -89,7 +90,15 @@ QUICK = [
 UNCHECKED_PARTS = [Part("browser", f"{HAS_BROWSER} && {BROWSER}", ("modinfo",)), *QUICK]
 # Other parts take long, or test what is installed and packed, which is the proved program alone.
 PROVED_PARTS = [
-    Part("fail_allocations", "exec tools/fail_allocations", ("test_replay",)),
+    Part("fail_allocations", "exec crates/test_replay/fail_allocations", ("test_replay",)),
+    Part(
+        "parsers",
+        after(
+            "bindings/node/setup",
+            f"{NODE} tests/differential/gaps.mjs tests/differential/machine.mjs tests/differential/mutations.mjs",
+        ),
+        ("modinfo",),
+    ),
     Part("browser", after("bindings/node/setup_report", BROWSER), ("modinfo",)),
     *QUICK,
     Part("fresh_clone", after("bindings/setup python", f"{PYTEST} tools/tests -m slow")),

@@ -1,8 +1,13 @@
 """The crates of the repository, their sources, and whether a built file is as new as its sources.
 
     python3 tools/sources.py is-current CRATE NAME
+    python3 tools/sources.py origin CRATE NAME
+    python3 tools/sources.py below CRATE ..
 
-exits with status 0 where build/NAME was made from the current sources of the crate, and else with 1.
+The first exits with status 0 where build/NAME was made from the current sources of the crate, and else with 1.
+The second prints the stamp beside build/NAME, `proved` or `unchecked` and the hash of the sources. It exits with
+status 1 where there is no stamp of this file and of the current sources. The third prints the lines of crates.txt of
+the crates, and of all crates below them, for a repository that takes copies of them.
 """
 
 import hashlib
@@ -18,6 +23,7 @@ from pathlib import Path
 ROOT = Path(__file__).resolve().parent.parent
 CRATES_FILE = "crates.txt"
 PARTS = ("src", "specs", "proofs")
+PROVED, UNCHECKED = "proved", "unchecked"
 
 
 class BuildError(Exception):
@@ -138,6 +144,11 @@ class Closure:
         ]
         return b"".join(path + b"\0" for path in sorted(map(os.fsencode, paths)))
 
+    def checksum(self) -> str:
+        """A checksum of the sources: of each crate's line of crates.txt, and of its files."""
+        lines = [f"{crate.line} {crate.checksum()}\n" for crate in self.crates]
+        return hashlib.sha256("".join(lines).encode()).hexdigest()
+
     def is_current(self, name: str) -> bool:
         """Whether build/NAME was made from the current sources.
 
@@ -159,6 +170,39 @@ class Closure:
         return any(os.lstat(ROOT / path).st_mtime_ns > time for part in self.parts() for path in walk(part))
 
 
+def stamp_file(file: Path, kind: str, sources: str) -> None:
+    """Writes the stamp of a built file beside it: whether it is proved, the hash of its sources, and its own."""
+    file.with_name(f"{file.name}.origin").write_text(f"{kind}\nsources {sources}\nfile {file_checksum(file)}\n")
+
+
+def file_checksum(file: Path) -> str:
+    return hashlib.sha256(file.read_bytes()).hexdigest()
+
+
+def origin(file: Path, sources: str) -> str | None:
+    """What the stamp of a built file says: `proved` or `unchecked`. None where it has no stamp, or the stamp is of
+    other bytes or sources."""
+    stamp = file.with_name(f"{file.name}.origin")
+    if not file.exists() or not stamp.exists():
+        return None
+    kind, *rest = stamp.read_text().splitlines()
+    is_right = rest == [f"sources {sources}", f"file {file_checksum(file)}"]
+    return kind if kind in (PROVED, UNCHECKED) and is_right else None
+
+
+def print_origin(closure: Closure, name: str) -> int:
+    sources = closure.checksum()
+    kind = origin(ROOT / "build" / name, sources)
+    print(f"{kind} {sources}" if kind else f"build/{name} has no stamp of its bytes and sources")
+    return 0 if kind else 1
+
+
+def print_below(names: list[str]) -> int:
+    lines = [crate.line for name in names for crate in Closure(name).crates]
+    print("\n".join(dict.fromkeys(lines)))
+    return 0
+
+
 def set_time(path: Path, reference: Path) -> None:
     """Sets the time of a file to that of another one."""
     time = reference.stat()
@@ -166,11 +210,17 @@ def set_time(path: Path, reference: Path) -> None:
 
 
 def main() -> int:
-    if len(sys.argv) != 4 or sys.argv[1] != "is-current":
-        print("usage: tools/sources.py is-current CRATE NAME", file=sys.stderr)
-        return 2
     try:
-        return 0 if Closure(sys.argv[2]).is_current(sys.argv[3]) else 1
+        match sys.argv[1:]:
+            case ["is-current", crate, name]:
+                return 0 if Closure(crate).is_current(name) else 1
+            case ["origin", crate, name]:
+                return print_origin(Closure(crate), name)
+            case ["below", _, *_]:
+                return print_below(sys.argv[2:])
+            case _:
+                print("usage: tools/sources.py is-current | origin CRATE NAME, or below CRATE ..", file=sys.stderr)
+                return 2
     except (BuildError, OSError) as error:
         print(f"tools/sources.py: {error}", file=sys.stderr)
         return 1

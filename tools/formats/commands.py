@@ -22,14 +22,17 @@ COLUMN = 12
 Entry = dict[str, Any]
 COMMANDS: Entry = json.loads((ROOT / PATH).read_text())
 
+# The commands whose function for C reads a document. One that reads a source text takes its parts instead.
+OF_DOCUMENTS = [row for row in COMMANDS["commands"] if not row.get("reads_text")]
 
-def functions() -> list[Entry]:
+
+def functions(rows: list[Entry]) -> list[Entry]:
     """The functions for C that run one command: those that answer, and then those that check."""
-    return [row[kind] for kind in ("answer", "check") for row in COMMANDS["commands"]]
+    return [row[kind] for kind in ("answer", "check") for row in rows]
 
 
-def by_number() -> list[Entry]:
-    return sorted(functions(), key=lambda function: int(function["number"]))
+def by_number(rows: list[Entry]) -> list[Entry]:
+    return sorted(functions(rows), key=lambda function: int(function["number"]))
 
 
 def lines_of(name: str, text: str, column: int) -> list[str]:
@@ -51,6 +54,7 @@ def help_text() -> str:
     faults = [lines_of(names, text, 19) for names, text in COMMANDS["faults"].items()]
     parts: list[list[str]] = [
         [COMMANDS["title"]],
+        wrap(COMMANDS["first"], WIDTH),
         usage,
         wrap(COMMANDS["introduction"], WIDTH),
         sum(entries, []),
@@ -76,6 +80,13 @@ def synopsis() -> Iterator[str]:
         yield words.replace("-", r"\-")
 
 
+def first_of_page() -> Iterator[str]:
+    """Each sentence is on a line of its own, and the name of the command is bold."""
+    name, rest = COMMANDS["first"].split(" ", 1)
+    first, *others = re.split(r"(?<=[.]) ", in_troff(rest))
+    yield from (f".B {name}", first, *others)
+
+
 def entries_of_page(entries: list[Entry]) -> Iterator[str]:
     """Each part of a sentence is on a line of its own, as troff has it."""
     for each in entries:
@@ -94,7 +105,7 @@ def prototype(name: str, first: str, document: str) -> list[str]:
 
 
 def in_header() -> Iterator[str]:
-    for function in functions():
+    for function in functions(OF_DOCUMENTS):
         lines = wrap(f"/* {function['text']} */", 110, subsequent_indent=" * ")
         first, second = prototype(f"modinfo_{function['function']}", "", "document")
         yield from ("", *lines, first, f"{second} MODINFO_NONNULL;")
@@ -102,7 +113,7 @@ def in_header() -> Iterator[str]:
 
 def in_manual() -> Iterator[str]:
     parameters = r"\b(document_length|document|answer|room|length)\b"
-    for function in functions():
+    for function in functions(OF_DOCUMENTS):
         for line in prototype(f"modinfo_{function['function']}", "", "document"):
             parts = [part for part in re.split(parameters, line + (";" if line.endswith(")") else "")) if part]
             yield ".BI " + " ".join(f'"{part}"' for part in parts)
@@ -115,33 +126,39 @@ def in_prose(names: list[str]) -> list[str]:
 
 
 def blocks(_document: Format, _info: Format, _report: Format) -> Iterator[Block]:
-    numbers = [f"    MODINFO_{function['function'].upper()} = {function['number']}" for function in by_number()]
+    numbers = [
+        f"    MODINFO_{function['function'].upper()} = {function['number']}"
+        for function in by_number(COMMANDS["commands"])
+    ]
     yield "include/modinfo.h", "commands", ",\n".join(numbers).split("\n")
     yield "include/modinfo.h", "functions", list(in_header())
     yield "packaging/modinfo.3", "functions", list(in_manual())
-    names = [function["function"] for function in functions()]
+    names = [function["function"] for function in functions(OF_DOCUMENTS)]
     yield "packaging/modinfo.3", "names", wrap(", ".join(f"modinfo_{name}" for name in names) + ",", 79)
-    yield "packaging/modinfo.3", "commands", in_prose([f"MODINFO_{each['function'].upper()}" for each in by_number()])
+    yield "packaging/modinfo.3", "commands", in_prose(
+        [f"MODINFO_{each['function'].upper()}" for each in by_number(COMMANDS["commands"])]
+    )
     yield PAGE, "synopsis", list(synopsis())
+    yield PAGE, "first", list(first_of_page())
     yield PAGE, "commands", list(entries_of_page(COMMANDS["names"]))
     yield PAGE, "flags", list(entries_of_page(COMMANDS["flags"]))
     yield "bindings/python/src/modinfo/_library.py", "commands", [
-        f'    "{row["answer"]["function"]}": _command("{row["answer"]["function"]}", {row["answer"]["number"]}, '
-        f'"{row["check"]["function"]}", {row["check"]["number"]}),'
+        f'    "{row["answer"]["function"]}": _command({row["answer"]["number"]}, {row["check"]["number"]}),'
         for row in COMMANDS["commands"]
     ]
-    yield "bindings/rust/src/command.rs", "commands", [
-        line
-        for function in by_number()
-        for line in (
-            f"    /// [`{function['function']}`](crate::{function['function']})",
-            f"    {camel_case(function['function'])} = {function['number']},",
-        )
-    ]
+    yield "bindings/rust/src/command.rs", "commands", list(in_rust(by_number(COMMANDS["commands"])))
     yield "bindings/rust/src/ffi.rs", "functions", [f"    modinfo_{name}" for name in names]
     yield "bindings/rust/src/ffi.rs", "constants", [
-        f"pub const {name.upper()}: Function = Function::Document(modinfo_{name});" for name in names
+        f"pub const {name.upper()}: DocumentFunction = modinfo_{name};" for name in names
     ]
+
+
+def in_rust(functions: list[Entry]) -> Iterator[str]:
+    """The variants of commands, each with the function of the crate that returns the text of its answer."""
+    of_types = {"analyze": "analyze_json", "analyze_source": "module_info_json"}
+    for name, number in ((function["function"], function["number"]) for function in functions):
+        yield f"    /// [`{of_types.get(name, name)}`](crate::{of_types.get(name, name)})"
+        yield f"    {camel_case(name)} = {number},"
 
 
 def camel_case(name: str) -> str:

@@ -24,7 +24,7 @@ _module_info() {{
     fi
     mapfile -t COMPREPLY < <(compgen -W "$words" -- "${{COMP_WORDS[COMP_CWORD]}}")
 }}
-complete -F _module_info module-info
+complete -o bashdefault -o default -F _module_info module-info
 """
 
 
@@ -56,18 +56,22 @@ else
     esac
 fi
 _describe 'word' candidates
+[[ ${{words[2]}} != files ]] || _files
 """
 
 
 def in_fish() -> str:
+    first = "__fish_use_subcommand"
+    rest = {name: f"contains -- {name} (commandline -opc)[2]" for name in (each["name"] for each in COMMANDS["names"])}
+    offered = [(first, word) for word in (*rest, *GLOBAL_FLAGS)]
+    offered += [(f"'{rest[each['name']]}'", word) for each in COMMANDS["names"] for word in (*each["words"], "--help")]
     brief = descriptions()
-    lines = ["# Completion of module-info in fish.", f"# {GENERATED} from {PATH}.", "complete -c module-info -f"]
-    for word in (*(each["name"] for each in COMMANDS["names"]), *GLOBAL_FLAGS):
-        lines.append(f"complete -c module-info -n __fish_use_subcommand -a '{word}' -d '{brief[word]}'")
-    for each in COMMANDS["names"]:
-        for word in (*each["words"], "--help"):
-            condition = f"contains -- {each['name']} (commandline -opc)[2]"
-            lines.append(f"complete -c module-info -n '{condition}' -a '{word}' -d '{brief[word]}'")
+    lines = [
+        "# Completion of module-info in fish.",
+        f"# {GENERATED} from {PATH}.",
+        "complete -c module-info -n 'not contains -- files (commandline -opc)[2]' -f",
+        *(f"complete -c module-info -n {when} -a '{word}' -d '{brief[word]}'" for when, word in offered),
+    ]
     return "\n".join(lines) + "\n"
 
 

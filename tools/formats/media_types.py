@@ -1,5 +1,5 @@
-"""The tables of docs/media-types.json in Rattle, in node and in docs/FORMATS.md: media types of files by the endings of
-their names, and of `data:` URLs by MIME types."""
+"""The tables of docs/media-types.json in Rattle, in Rust, in node and in docs/FORMATS.md: media types of files by the
+endings of their names, and of `data:` URLs by MIME types."""
 
 import json
 from collections.abc import Iterator
@@ -9,7 +9,8 @@ from formats.pages import PAGE, table
 from formats.schema import ROOT, Format
 
 CRATE = "crates/deno_graph_source/src/tree/media_type"
-NODE = "bindings/node/src/document/media_types.mjs"
+RUST = "bindings/rust/src/media_type.rs"
+NODE = "bindings/node/tests/equipment/document/media_types.mjs"
 
 
 def blocks(_: Format, __: Format, ___: Format) -> Iterator[Block]:
@@ -19,8 +20,14 @@ def blocks(_: Format, __: Format, ___: Format) -> Iterator[Block]:
     yield f"{CRATE}/data_url.rt", f"MIME_TYPES: [(&str, MediaType); {len(mime_types)}] =", in_rattle(mime_types)
     for name, found in ("endings", endings), ("declarations", declarations), ("MIME types", mime_types):
         yield NODE, name, [f'  ["{key}", "{found[key]}"],' for key in found if found[key] != "Json"]
+        yield RUST, name, [f"    ({rust_key(key, name)}, MediaType::{found[key]})," for key in found]
     rows = [[f"`{key}`", f"`{endings[key]}`", *declared(endings[key], declarations)] for key in endings]
     yield PAGE, "endings", table("Ending | Media type | Of declarations", rows)
+
+
+def rust_key(key: str, name: str) -> str:
+    """The media type of declarations is looked up by a media type, the others by a text."""
+    return f"MediaType::{key}" if name == "declarations" else f'"{key}"'
 
 
 def in_rattle(found: dict[str, str]) -> list[str]:

@@ -1,9 +1,10 @@
-"""Types in Python."""
+"""Types in Python: those of JSON, and frozen dataclasses with the same names for what `analyze` prints."""
 
+import json
 import re
 
 from formats.language import Language, filled
-from formats.schema import Schema, literals
+from formats.schema import Format, Schema, literals
 
 PACKAGE = "bindings/python/src/modinfo"
 WIDTH = 120
@@ -61,3 +62,59 @@ class Python(Language):
                 lines += ["", *filled(self.format.about(part), "    # ", WIDTH)]
                 lines += [f"    {member}: {value.format(self.value(part))}"]
         return [*lines, ""]
+
+
+class PythonValues(Python):
+    """Dataclasses of modinfo._value, which reads and writes their JSON. A tag is an attribute of the class."""
+
+    FILES = {"module-info": f"{PACKAGE}/values.py"}
+    WORDS = {**Python.WORDS, "array": "tuple[{}, ...]", "object": "Mapping[str, {}]"}
+
+    def __init__(self, of: Format) -> None:
+        super().__init__(of)
+        self.key = "x-python"
+        # Names of texts, which the types of JSON declare too.
+        self.declared |= {self.name(schema) for schema in of.titled() if literals(schema)}
+
+    def module(self) -> str:
+        names = ", ".join(sorted(self.declared))
+        head, _, text = super().module().split("\n", 2)
+        text = text.split("\n", 1)[1]
+        imports = ["", "from collections.abc import Mapping", "from dataclasses import dataclass, field"]
+        imports += ["from typing import ClassVar, Literal", "", "from ._value import Pair, Value"]
+        return "\n".join([head, *imports, f"from .information import {names}", text])
+
+    def declaration(self, name: str, schema: Schema) -> list[str]:
+        if "prefixItems" in schema:
+            fields = [f"    {part['x-name']}: {self.value(part)}" for part in schema["prefixItems"]]
+            return self.dataclass(f"{name}(Pair)", ", order=True", schema, fields)
+        return super().declaration(name, schema)
+
+    def class_of(self, name: str, schema: Schema) -> list[str]:
+        members = schema["properties"].items()
+        required = schema.get("required", [])
+        fields = []
+        for member, part in sorted(members, key=lambda each: ("const" not in each[1], each[0] not in required)):
+            fields += ["", *filled(self.about(part), "    # ", WIDTH)]
+            fields += [f"    {self.field(member, part, is_required=member in required)}"]
+        return self.dataclass(f"{name}(Value)", "", schema, fields[1:])
+
+    def about(self, member: Schema) -> str:
+        return str({**self.format.resolved(member), **member}["description"])
+
+    def field(self, member: str, part: Schema, *, is_required: bool) -> str:
+        name = re.sub(r"([A-Z])", r"_\1", member).lower()
+        value = self.value(part)
+        if "const" in part:
+            return f"{name}: ClassVar[{value}] = {json.dumps(part['const'])}"
+        if is_required:
+            # A dict has no hash.
+            return f"{name}: {value}" + " = field(hash=False)" * value.startswith("Mapping")
+        default = {**self.format.resolved(part), **part}.get("default")
+        if default is None:
+            return f"{name}: {value} | None = None"
+        return f"{name}: {value} = {tuple(default) if isinstance(default, list) else default!r}".replace("'", '"')
+
+    def dataclass(self, name: str, options: str, schema: Schema, fields: list[str]) -> list[str]:
+        head = ["", f"@dataclass(frozen=True, slots=True{options})", f"class {name}:"]
+        return [*head, *filled(f'"""{schema["description"]}"""', "    ", WIDTH), "", *fields, ""]

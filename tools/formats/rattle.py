@@ -20,7 +20,7 @@ def blocks(document: Format, _: Format, __: Format) -> Iterator[Block]:
     literal = dict.fromkeys(kinds, "None")
     for kind, parts in kinds.items():
         literal |= {kind: f'Some("{name}")' for name in parts if '$defs/literal"' in json.dumps(parts[name])}
-    yield f"{CRATE}/report/element.rt", "match kind {", arms(literal)
+    yield f"{CRATE}/report/warnings.rt", "match kind {", arms(literal)
 
 
 def arms(values: dict[str, str]) -> list[str]:

@@ -1,4 +1,4 @@
-"""Types in Rust for serde, and the faults."""
+"""Types in Rust for serde, the faults, and media types."""
 
 import re
 from collections.abc import Iterator
@@ -24,7 +24,16 @@ class Variant:
 
 
 class Rust(Language):
-    FILES = {"module-info": f"{CRATE}/module_info.rs"}
+    FILES = {
+        "document": f"{CRATE}/document.rs",
+        "module-info": f"{CRATE}/module_info.rs",
+        "report": f"{CRATE}/report.rs",
+    }
+    # The types of a format that another file declares, and that file.
+    DECLARED = {
+        "docs/document.schema.json": {"MediaType": "media_type"},
+        "docs/report.schema.json": {"ByteRange": "document", "Fault": "fault"},
+    }
     WORDS = {
         "integer": "usize",
         "string": "String",
@@ -33,13 +42,37 @@ class Rust(Language):
         "object": "HashMap<String, {}>",
         "pair": "{{ {1} }}",
     }
-    IMPORTS = [
-        "use crate::information::{is_default, pair};\n"
-        "use serde::{Deserialize, Serialize};\n"
-        "use std::collections::HashMap;"
-    ]
+
+    def __init__(self, of: Format) -> None:
+        super().__init__(of)
+        self.declared |= {*self.DECLARED.get(of.path, {})}
+
+    def module(self) -> str:
+        """The text with the imports that it needs."""
+        head, text = super().module().split("\n", 1)
+        declared = self.DECLARED.get(self.format.path, {})
+        helpers = [name for name in ("is_default", "pair") if re.search(rf"\b{name}\b", text)]
+        imports = [f"use crate::{declared[name]}::{name};" for name in declared]
+        imports += [f"use crate::information::{self.names(helpers)};", "use serde::{Deserialize, Serialize};"]
+        imports += ["use std::collections::HashMap;"] * ("HashMap<" in text)
+        return "\n".join([head, "", *sorted(imports), text])
+
+    def names(self, names: list[str]) -> str:
+        return names[0] if len(names) == 1 else f"{{{', '.join(names)}}}"
+
+    def name(self, schema: Schema) -> str:
+        """A kind of node is a variant, and no type."""
+        return "" if any(schema is node for node in self.format.nodes) else super().name(schema)
+
+    def alternatives(self, schema: Schema) -> list[str]:
+        return ["bool"] if literals(schema) == [True] else super().alternatives(schema)
+
+    def plain(self, schema: Schema) -> str:
+        return "u16" if schema.get("maximum") == 65535 else super().plain(schema)
 
     def declaration(self, name: str, schema: Schema) -> list[str]:
+        if schema is self.format.node:
+            return self.node(name)
         if "prefixItems" in schema:
             comment = filled(schema["description"], "    /// ", WIDTH)
             return ["pair! {", *comment, f"    {name} {self.plain(schema)}", "}"]
@@ -51,6 +84,23 @@ class Rust(Language):
             traits = "Copy, " * bool(literals(schema)) + TRAITS + ", Default" * ("    #[default]" in body)
         head = [*filled(schema["description"], "/// ", WIDTH), f"#[derive({traits})]"]
         return [*head, f"#[serde({', '.join(options)})]", f"pub {form} {name} {{", *body, "}"]
+
+    def node(self, name: str) -> list[str]:
+        """What all nodes have, and the enum of their kinds."""
+        shared = {key: member for key, member in self.format.shared.items() if key != "kind"}
+        schema = {"required": self.format.node["required"], "properties": shared}
+        about = filled(self.format.node["description"], "/// ", WIDTH)
+        lines = [*about, f"#[derive({TRAITS})]", f"pub struct {name} {{", *self.fields(schema, "    pub ")]
+        lines += ["    /// The kind, with its members.", "    #[serde(flatten)]", "    pub kind: NodeKind,", "}", ""]
+        lines += ["/// The kind of a node, with the members that nodes of this kind have.", f"#[derive({TRAITS})]"]
+        lines += ['#[serde(tag = "kind")]', "pub enum NodeKind {"]
+        for node in self.format.nodes:
+            own = {key: member for key, member in node["properties"].items() if key not in self.format.shared}
+            fields = self.fields({**node, "properties": own}, "        ")
+            lines += filled(node["description"], "    /// ", WIDTH)
+            lines += [f"    #[serde({RENAME})]"] * bool(fields)
+            lines += [f"    {node['title']} {{", *fields, "    },"] if fields else [f"    {node['title']},"]
+        return [*lines, "}"]
 
     def representation(self, schema: Schema) -> list[str]:
         """Serde's options for how an enum is told from its JSON."""
@@ -65,7 +115,7 @@ class Rust(Language):
         required = {extended, *schema.get("required", [])}
         lines = []
         for name, member in {extended: base, **schema["properties"]}.items():
-            if member and name not in base["properties"] and "const" not in member:
+            if member and name not in base["properties"] and not isinstance(member.get("const"), str):
                 options = ["flatten"] * (name == extended)
                 lines += self.field(name, member, before, options, is_optional=name not in required)
         return lines
@@ -73,16 +123,26 @@ class Rust(Language):
     def field(self, name: str, member: Schema, before: str, options: list[str], *, is_optional: bool) -> list[str]:
         snake = re.sub(r"([A-Z])", r"_\1", name).lower()
         field = snake if "title" in member else member.get("x-rust", snake)
-        value = self.value(member)
+        value = self.value(self.without_null(member))
         if is_optional:
             options = ["default", 'skip_serializing_if = "is_default"', *options]
-            has_default = {"default", "x-none"} & {**self.format.resolved(member), **member}.keys()
-            value = value if has_default else f"Option<{value}>"
+            value = value if self.has_default(member) else f"Option<{value}>"
         options += [f'rename = "{name}"'] * (field != snake)
         indent = before.replace("pub ", "")
         lines = filled(self.format.about(member), f"{indent}/// ", WIDTH)
         lines += [f"{indent}#[serde({', '.join(options)})]"] * bool(options)
         return [*lines, f"{before}{field}: {value},"]
+
+    def without_null(self, member: Schema) -> Schema:
+        """The type of a member for which null stands where there is none."""
+        whole = self.format.resolved(member)
+        others = [each for each in choices(whole) if each.get("type") != "null"]
+        return others[0] if len(others) == 1 and "title" not in whole else member
+
+    def has_default(self, member: Schema) -> bool:
+        """Whether a missing member has a value: its default, or no elements."""
+        whole = {**self.format.resolved(member), **member}
+        return bool({"default", "x-none"} & whole.keys() or whole.get("items"))
 
     def variant_lines(self, schema: Schema) -> list[str]:
         lines = []
@@ -103,9 +163,12 @@ class Rust(Language):
             yield from map(self.tagged_object, map(self.format.resolved, choices(schema)))
 
     def named_value(self, name: str, schema: Schema) -> Variant:
-        """A literal and null hold nothing."""
-        [value] = schema.get("properties", {"": schema}).values()
-        holds_nothing = literals(value) or value["type"] == "null"
+        """A literal and null hold nothing, another type is held as a whole."""
+        schema = self.format.resolved(schema)
+        if held := self.name(schema):
+            return Variant(schema["description"], name, f"({held})")
+        [value] = [each for each in schema.get("properties", {"": schema}).values() if each]
+        holds_nothing = literals(value) or value.get("type") == "null"
         return Variant(value["description"], name, "" if holds_nothing else f"({self.value(value)})")
 
     def tagged_object(self, schema: Schema) -> Variant:
@@ -119,7 +182,10 @@ class Rust(Language):
         return Variant(schema["description"], tag, "\n".join([" {", *fields, "    }"]) if fields else "")
 
 
-def blocks(_: Format, __: Format, report: Format) -> Iterator[Block]:
-    """The variants of the faults."""
+def blocks(document: Format, _: Format, report: Format) -> Iterator[Block]:
+    """The variants of the faults and of the media types, with the numbers that these have in C."""
     faults = report.definitions["documentFault"]["x-values"]
     yield f"{CRATE}/fault.rs", "faults", [f"    /// {faults[name]}\n    {name}," for name in faults]
+    names = document.root["properties"]["mediaType"]["enum"]
+    variants = [f"    /// `{name}`\n    {name} = {number}," for number, name in enumerate(names, 1)]
+    yield f"{CRATE}/media_type.rs", "media types", variants

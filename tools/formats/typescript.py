@@ -7,14 +7,15 @@ from formats.language import Language, filled
 from formats.schema import Format, Schema
 
 NODE = "bindings/node/src"
+MEDIA_TYPES = "bindings/node/tests/equipment/document/media_types.mjs"
 WIDTH = 100
 
 
 class TypeScript(Language):
     FILES = {
-        "document": f"{NODE}/document/module_document.d.mts",
-        "module-info": f"{NODE}/document/module_info.d.mts",
-        "report": f"{NODE}/runtime/check_report.d.mts",
+        "document": f"{NODE}/document/module_document.d.cts",
+        "module-info": f"{NODE}/document/module_info.d.cts",
+        "report": f"{NODE}/runtime/check_report.d.cts",
     }
     WORDS = {
         "integer": "number",
@@ -61,7 +62,7 @@ class TypeScript(Language):
 def blocks(document: Format, info: Format, _: Format) -> Iterator[Block]:
     """The names of media types, and of the members that pragmas name."""
     media_types = document.root["properties"]["mediaType"]["enum"]
-    yield f"{NODE}/document/media_types.mjs", "media types", [f'  "{name}",' for name in media_types]
+    yield MEDIA_TYPES, "media types", [f'  "{name}",' for name in media_types]
     members = info.root["properties"]
     pragmas = [name for name in members if members[name].get("$ref") == "#/$defs/specifier"]
     lines = ["const PRAGMAS = [", *(f'  "{name}",' for name in pragmas), "];"]

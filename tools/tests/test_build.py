@@ -172,3 +172,17 @@ def test_another_processor(repository: Repository) -> None:
     assert repository.run("tools/prove_modinfo", *target) == (0, "", step + made)
     assert repository.run("build/aarch64/modinfo", "analyze") == (7, "ran: analyze\n", "modinfo: Tree\n")
     assert not repository.is_proved()
+
+
+def test_stamps_of_the_library(repository: Repository) -> None:
+    """An archive is linked only with a word for what it is, which its stamp repeats. What isn't proved is made anew."""
+    command = "tools/build_library"
+    status, _, errors = repository.run(command, "--link", "some.a")
+    assert status == 2 and "--link needs --proved or --unchecked" in errors
+    stamp = repository.folder / "build/libmodinfo.a.origin"
+    repository.run(command)
+    assert stamp.read_text().startswith("proved\nsources ")
+    assert (repository.folder / "build/libmodinfo.so.0").resolve().name == "libmodinfo.so"
+    stamp.write_text(stamp.read_text().replace("proved", "unchecked", 1))
+    assert "modinfo_c" in repository.run(command)[2]
+    assert stamp.read_text().startswith("proved\nsources ")

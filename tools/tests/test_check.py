@@ -4,26 +4,15 @@ import pytest
 from repository import Repository
 
 
-def words_of_check(repository: Repository) -> list[str]:
-    """The words of the check that ran, without folders."""
-    text = (repository.room / "checked").read_text()
-    return text.replace(f"{repository.folder}/", "").replace(f"{repository.room}/", "").splitlines()
-
-
-@pytest.mark.parametrize(
-    ("options", "wanted"),
-    [
-        (["--only", "a::b"], ["--jobs", "2", "--incremental", "build/checks/short", "--only", "a::b"]),
-        (["--jobs", "4"], ["--incremental", "build/checks/short", "--jobs", "4"]),
-    ],
-)
-def test_a_check(repository: Repository, options: list[str], wanted: list[str]) -> None:
+@pytest.mark.parametrize(("options", "jobs"), [(["--only", "a::b"], ["--jobs", "2"]), (["--jobs", "4"], [])])
+def test_a_check(repository: Repository, options: list[str], jobs: list[str]) -> None:
     repository.prove()
     repository.ask("short", "echo logic=proved")
     assert repository.run("tools/check", "short", *options) == (0, "logic=proved\n", "")
-    words = words_of_check(repository)
+    words = (repository.room / "checked").read_text().splitlines()
+    wanted = [*jobs, "--incremental", f"{repository.folder}/build/checks/short", *options]
     assert words[-len(wanted) :] == wanted
-    assert {"lowest=build/crates/lowest.rlib", "std=kit/rlibs/std.rlib", "src/lib.rt"} <= set(words)
+    assert f"lowest={repository.folder}/build/crates/lowest.rlib" in words
     assert repository.is_proved()
 
 

@@ -22,7 +22,11 @@ def has_help(name: str) -> bool:
     return not re.search(others, name) and (ROOT / name).read_bytes()[:3] == b"#!/"
 
 
-SCRIPTS = [name for name in tracked(".ci", "bench", "bindings", "examples", "packaging", "tools") if has_help(name)]
+SCRIPTS = [
+    name
+    for name in tracked(".ci", "bench", "bindings", "crates/test_replay/fail_*", "examples", "packaging", "tools")
+    if has_help(name)
+]
 
 
 @pytest.mark.parametrize("option", ["-h", "--help"])

@@ -4,23 +4,10 @@ import re
 
 import pytest
 from repository import Repository
+from sources import ROOT
 
-PARTS = """
-from dataclasses import dataclass, field
-
-UNAVAILABLE = 69
-
-@dataclass(frozen=True)
-class Part:
-    name: str
-    command: str
-    builds: tuple = ()
-
-@dataclass(frozen=True)
-class Programs:
-    places: dict
-    builds: dict
-
+# The lists of tools/parts.py, after its classes.
+LISTS = """
 BUILDS = {"sound": "echo built >> $ROOM/runs", "broken": "echo what is wrong; exit 3"}
 UNCHECKED = Programs({"MODINFO": "unchecked"}, BUILDS)
 PROVED = Programs({"MODINFO": "proved"}, BUILDS)
@@ -44,7 +31,8 @@ LINES = {
 
 @pytest.fixture
 def parts(repository: Repository) -> Repository:
-    repository.write("tools/parts.py", PARTS)
+    classes = (ROOT / "tools/parts.py").read_text().split("\nUNCHECKED = ")[0]
+    repository.write("tools/parts.py", classes + LISTS)
     return repository
 
 
@@ -89,14 +77,3 @@ def test_what_a_part_has_started_ends(parts: Repository) -> None:
         process = parts.wait_for("process")
         started.terminate()
     assert parts.ends(process)
-
-
-def test_the_parts_of_the_repository() -> None:
-    """Each name stands once, and each build that a part needs is known."""
-    from parts import PROVED, PROVED_PARTS, UNCHECKED, UNCHECKED_PARTS
-
-    for parts, programs in (UNCHECKED_PARTS, UNCHECKED), (PROVED_PARTS, PROVED):
-        names = [part.name for part in parts]
-        assert len(set(names)) == len(names)
-        assert {build for part in parts for build in part.builds} <= set(programs.builds)
-    assert {part.name for part in UNCHECKED_PARTS} < {part.name for part in PROVED_PARTS}
