@@ -6,7 +6,8 @@
 
 #include "modinfo.h"
 
-/* What a text or a document begins with, repeats and ends with. A %d stands for the number of the repetition. */
+/* What a text or a document begins with, repeats and ends with. A %d stands for the number of the repetition, a %e for
+ * that number and two. */
 struct form {
     const char *first, *repeated, *last;
     const char *specifier;
@@ -53,10 +54,13 @@ static const struct form documents[] = {
     {BODY "{\"kind\":\"ImportType\",\"range\":[0,0],\"arg\":{\"range\":[0,0],\"value\":[", "55296,", "1]}}]}}", NULL},
 };
 
+/* Any two of these characters spell an empty string. */
+#define QUOTES "''''''''''''''''''''''''''"
+#define MANY_QUOTES QUOTES QUOTES QUOTES QUOTES
 static const struct form estree_documents[] = {
-    {MODULE "\"" WIDE "\",\"program\":{\"type\":\"Program\",\"body\":[",
-     "{\"type\":\"ImportDeclaration\",\"start\":%d,\"end\":%d,\"source\":{\"type\":\"Literal\",\"value\":\"\",\"start\":%d,"
-     "\"end\":%d}},",
+    {MODULE "\"" MANY_QUOTES "\",\"program\":{\"type\":\"Program\",\"body\":[",
+     "{\"type\":\"ImportDeclaration\",\"start\":%d,\"end\":%e,\"source\":{\"type\":\"Literal\",\"value\":\"\",\"start\":%d,"
+     "\"end\":%e}},",
      "{\"type\":\"EmptyStatement\",\"start\":0,\"end\":0}],\"comments\":[]}}", NULL},
 };
 
@@ -97,8 +101,8 @@ static uint8_t *made(const struct form *form, int repetitions, size_t *length)
     char *end = text + sprintf(text, "%s", form->first);
     for (int number = 0; number < repetitions; number++)
         for (const char *at = form->repeated; *at != 0; at++)
-            if (at[0] == '%' && at[1] == 'd')
-                end += sprintf(end, "%d", number), at++;
+            if (at[0] == '%' && (at[1] == 'd' || at[1] == 'e'))
+                end += sprintf(end, "%d", at[1] == 'd' ? number : number + 2), at++;
             else
                 *end++ = *at;
     end += sprintf(end, "%s", form->last);
