@@ -1,5 +1,5 @@
 -- Source texts: the faults of each step.
-use Rattle.std.proofs.Common.{◌≡◌, ◌≢◌, ◌⊎◌, ◌∙◌, ap, inl, inr, refl, subst, sym}
+use Rattle.std.proofs.Common.{◌≡◌, ◌⊎◌, ◌∙◌, ap, inl, inr, refl, subst, sym}
 use Rattle.std.proofs.Common.{ℕ, List, Option, Some, None, Result, Ok, Err, IfOk, MatchResult}
 use Rattle.std.proofs.Common.{String, Global, string_bytes}
 use Rattle.url.specs.Parts.{Parts}
@@ -11,13 +11,13 @@ use Rattle.serde_json.specs.Data.{Data}
 use Rattle.serde_json.specs.Read.{read as read_text}
 use Rattle.url.specs.Parser.{IsOutOfRoom, parse_url}
 use Rattle.url.specs.declared.error.ParseError.{ParseError}
-use Rattle.url.specs.declared.error.ParseError.TheVariants as url
 use Rattle.deno_graph_json.specs.Read.Result.{IsReadError}
 use Rattle.deno_graph_json.specs.declared.error.ReadError.{ReadError}
 use Rattle.deno_graph_json.specs.declared.error.ReadError.TheVariants as read
 use Rattle.deno_graph_json.specs.declared.flat.error.TapeError.{TapeError}
 use Rattle.deno_graph_json.specs.declared.flat.error.TapeError.TheVariants as tape
 use Rattle.modinfo_document.specs.Error.{of_read, of_tape, of_url}
+use Rattle.modinfo_document.proofs.Urls.{by_url}
 use Rattle.modinfo.specs.Fault.{fault_of_document}
 use Rattle.modinfo.specs.Source.{
   IsInfoOfText,
@@ -46,70 +46,12 @@ pub no_value : (document : List ℕ) (value : Data) (error : ReadError) → read
 no_value document value (read.Mismatch found) is h = (value, is, h.0)
 no_value document value read.OutOfMemory is h = tt
 
--- Any error but a failed allocation shows that the specifier is no URL.
-no_url : (specifier : List ℕ) (error : ParseError) → error ≢ url.Overflow → error ≢ url.OutOfMemory
-    → ((parse_url None specifier ≡ Err error) ⊎ IsOutOfRoom error)
-    → parse_url None specifier ≡ Err error
-no_url specifier error overflow memory (inl is) = is
-no_url specifier error overflow memory (inr (inl is)) = absurd (memory is)
-no_url specifier error overflow memory (inr (inr is)) = absurd (overflow is)
-
 -- The specifier is no URL, or an allocation failed.
 pub no_info : (text : SourceText) (error : ParseError)
     → ((parse_url None text.specifier ≡ Err error) ⊎ IsOutOfRoom error)
     → IsNoInfoOfText text (fault_of_document (of_url error))
-no_info text url.Overflow h = tt
-no_info text url.OutOfMemory h = tt
-no_info text url.EmptyHost h = (
-  url.EmptyHost,
-  no_url text.specifier url.EmptyHost (λ same. cc (same))
-      (λ same. cc (same)) h,
-)
-no_info text url.IdnaError h = (
-  url.IdnaError,
-  no_url text.specifier url.IdnaError (λ same. cc (same))
-      (λ same. cc (same)) h,
-)
-no_info text url.InvalidPort h = (
-  url.InvalidPort,
-  no_url text.specifier url.InvalidPort (λ same. cc (same))
-      (λ same. cc (same)) h,
-)
-no_info text url.InvalidIpv4Address h = (
-  url.InvalidIpv4Address,
-  no_url text.specifier url.InvalidIpv4Address (λ same. cc (same))
-      (λ same. cc (same)) h,
-)
-no_info text url.InvalidIpv6Address h = (
-  url.InvalidIpv6Address,
-  no_url text.specifier url.InvalidIpv6Address (λ same. cc (same))
-      (λ same. cc (same)) h,
-)
-no_info text url.InvalidDomainCharacter h = (
-  url.InvalidDomainCharacter,
-  no_url text.specifier url.InvalidDomainCharacter (λ same. cc (same))
-      (λ same. cc (same)) h,
-)
-no_info text url.RelativeUrlWithoutBase h = (
-  url.RelativeUrlWithoutBase,
-  no_url text.specifier url.RelativeUrlWithoutBase (λ same. cc (same))
-      (λ same. cc (same)) h,
-)
-no_info text url.RelativeUrlWithCannotBeABaseBase h = (
-  url.RelativeUrlWithCannotBeABaseBase,
-  no_url text.specifier url.RelativeUrlWithCannotBeABaseBase (λ same. cc (same))
-      (λ same. cc (same)) h,
-)
-no_info text url.SetHostOnCannotBeABaseUrl h = (
-  url.SetHostOnCannotBeABaseUrl,
-  no_url text.specifier url.SetHostOnCannotBeABaseUrl (λ same. cc (same))
-      (λ same. cc (same)) h,
-)
-no_info text url.CannotSet h = (
-  url.CannotSet,
-  no_url text.specifier url.CannotSet (λ same. cc (same))
-      (λ same. cc (same)) h,
-)
+no_info text error why =
+    by_url (λ inner. IsNoInfoOfText text (fault_of_document inner)) text.specifier error tt (λ none. none) why
 
 -- The answer to a text is that to its document.
 pub text_answer : (document : List ℕ) (text : SourceText) (answer : Result (String Global) Fault)

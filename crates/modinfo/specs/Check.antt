@@ -10,6 +10,7 @@ use Rattle.deno_graph_info.specs.declared.analysis.fault.InfoFault.TheVariants.{
 use Rattle.deno_graph_info.specs.declared.analysis.module_info.ModuleInfo.{ModuleInfo}
 use Rattle.deno_graph_info.specs.declared.conversion.fault.ConvertFault.{ConvertFault}
 use Rattle.deno_graph_info.specs.declared.conversion.fault.ConvertFault.TheVariants as convert
+use Rattle.modinfo_document.specs.ExpectedJson.{HasJsonPlace}
 use Rattle.modinfo_document.specs.Report.{HasTextPlace, IsNamed, PointsInto}
 use Rattle.modinfo_document.specs.declared.report.FaultReport.{FaultReport}
 use Rattle.modinfo_document.specs.declared.report.Report.{Report}
@@ -34,11 +35,11 @@ CanBeConverted before = (has_float before ≡ false) × ((after : Data) × IsCon
 abbrev pub IsConvertibleText : List ℕ → Type 0
 IsConvertibleText text = (before : Data) × (read_text text ≡ Some before) × CanBeConverted before
 
--- The text isn't JSON, and the report says so, with a place in the text.
+-- The text isn't JSON, and the report says so, with a place in the text and what is expected there.
 pub record ReportsNoJson (text : List ℕ) (report : FaultReport) : Type 0 where
   pub no_json : read_text text ≡ None
   pub name : IsNamed (codes "Json") report
-  pub place : HasTextPlace text report
+  pub place : HasJsonPlace text report
 
 -- The report says that the bytes aren't UTF-8, with a place in them.
 pub record ReportsEncoding (bytes : List ℕ) (report : FaultReport) : Type 0 where

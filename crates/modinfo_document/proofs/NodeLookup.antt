@@ -33,7 +33,7 @@ use Rattle.serde_json.specs.Data.{
   item,
   Members,
 }
-use Rattle.serde_json.specs.Find.{as_array, as_bool, as_object, as_str, get, get_item, get_member}
+use Rattle.serde_json.specs.Find.{as_array, as_bool, as_object, get, get_item, get_member}
 use Rattle.deno_graph_json.specs.Read.Partial.{
   ◌>>=◌,
   member_at,
@@ -49,9 +49,7 @@ use Rattle.deno_graph_source.specs.declared.tree.node.Kind.{Kind}
 use Rattle.deno_graph_source.specs.declared.tree.node.Program.{Program}
 use Rattle.deno_graph_base.specs.declared.text.position.SourceRange.{SourceRange}
 use Rattle.deno_graph_source.specs.Node.{children_of}
-use Rattle.modinfo_document.specs.Kind.{reads_kind, reads_named, media_types}
-use Rattle.modinfo_document.specs.Comments.{reads_sides}
-use Rattle.modinfo_document.specs.Document.{Contents, reads_document}
+use Rattle.modinfo_document.specs.Kind.{reads_kind}
 use Rattle.modinfo_document.specs.Literal.{reads_source_range}
 use Rattle.modinfo_document.specs.Node.{children_in, reads_node, reads_nodes, reads_program, node_with}
 use Rattle.modinfo_document.proofs.Nodes.{children_read, node_read, nodes_read}

@@ -1,6 +1,6 @@
 -- What follows from the report on a text.
 use Rattle.std.proofs.Common.{◌≡◌, ◌≢◌, ℕ, List, Option, Some, None, Result, Ok, Err, IfOk, IsSomeAnd, inl}
-use Rattle.std.proofs.Common.{inr, refl, subst, sym}
+use Rattle.std.proofs.Common.{inr}
 use Rattle.std.specs.declared.alloc.AllocError.{AllocError}
 use Rattle.serde_json.specs.Data.{Data}
 use Rattle.serde_json.specs.Read.{read as read_text}
@@ -22,8 +22,9 @@ use Rattle.modinfo_document.specs.Check.{
 }
 use Rattle.modinfo_document.specs.Document.{Contents, Has, IsDocumentIn, IsNoSource}
 use Rattle.modinfo_document.specs.Error.{error_name}
+use Rattle.modinfo_document.specs.ExpectedJson.{HasJsonPlace}
 use Rattle.modinfo_document.specs.Place.{specifier_path}
-use Rattle.modinfo_document.specs.Report.{HasPath, HasTextPlace, IsNamed, Reports}
+use Rattle.modinfo_document.specs.Report.{HasPath, IsNamed, Reports}
 use Rattle.modinfo_document.specs.declared.document.Document.{Document}
 use Rattle.modinfo_document.specs.declared.error.DocumentError.{DocumentError}
 use Rattle.modinfo_document.specs.declared.error.DocumentError.TheVariants.{
@@ -56,7 +57,7 @@ module _ (reads : Data → Option Contents) (points : Pointers) (text : List ℕ
 
   -- The report on a text that isn't JSON.
   pub json_reported : (offset : ℕ) (report : FaultReport) → read_text text ≡ None
-      → IsNamed (error_name (Json offset)) report → HasTextPlace text report
+      → IsNamed (error_name (Json offset)) report → HasJsonPlace text report
       → IsFaultReport reads points text report
   json_reported offset report none name place =
       record { error = Json offset; has_error = inl none; name = name; place = place }

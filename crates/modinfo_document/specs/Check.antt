@@ -13,8 +13,9 @@ use Rattle.serde_json.specs.Data.{Data}
 use Rattle.serde_json.specs.Read.{read as read_text}
 use Rattle.modinfo_document.specs.Document.{Contents, HasErrorIn, IsDocumentIn, reads_document}
 use Rattle.modinfo_document.specs.Error.{error_name}
+use Rattle.modinfo_document.specs.ExpectedJson.{HasJsonPlace}
 use Rattle.modinfo_document.specs.Place.{PointsToFault, PointsToOther, range_at, specifier_path}
-use Rattle.modinfo_document.specs.Report.{HasPath, HasTextPlace, IsNamed, MatchReport, Reports}
+use Rattle.modinfo_document.specs.Report.{HasPath, IsNamed, MatchReport, Reports}
 use Rattle.modinfo_document.specs.declared.document.Document.{Document}
 use Rattle.modinfo_document.specs.declared.error.DocumentError.{DocumentError}
 use Rattle.modinfo_document.specs.declared.error.DocumentError.TheVariants.{
@@ -70,7 +71,7 @@ module _ (reads : Data → Option Contents) (points : Pointers) where
 
   -- The report has the place of the error: in the text for `Json`, else in the document.
   abbrev pub ReportsPlace : List ℕ → DocumentError → FaultReport → Type 0
-  ReportsPlace text (Json _) report = HasTextPlace text report
+  ReportsPlace text (Json _) report = HasJsonPlace text report
   ReportsPlace text (Tree mismatch) report = Reports mismatch report
   ReportsPlace text Specifier report = HasPath specifier_path report
   ReportsPlace text (Source fault) report = HasPlaceOf text fault report

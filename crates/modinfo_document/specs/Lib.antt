@@ -2,6 +2,7 @@ pub mod Check
 pub mod Comments
 pub mod Document
 pub mod Error
+pub mod ExpectedJson
 pub mod Kind
 pub mod Literal
 pub mod Node

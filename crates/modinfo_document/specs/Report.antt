@@ -1,5 +1,5 @@
 -- Reports on documents.
-use Rattle.std.specs.Prelude.{◌≡◌, ℕ, ◌≤◌, Bool, List, [], length, true, None, IsSomeAnd}
+use Rattle.std.specs.Prelude.{◌≡◌, ℕ, ◌≤◌, Bool, List, [], ◌∷◌, length, true, None, IsSomeAnd}
 use Rattle.std.specs.String.{string_bytes}
 use Rattle.serde_json.specs.Data.{Data}
 use Rattle.deno_graph_json.specs.Read.Error.{IsIn}
@@ -11,6 +11,7 @@ use Rattle.modinfo_document.specs.Pointer.{pointer_text}
 use Rattle.modinfo_document.specs.declared.report.Report.{Report}
 use Rattle.modinfo_document.specs.declared.report.FaultReport.{FaultReport}
 use Rattle.modinfo_document.specs.declared.report.text_place.TextPlace.{TextPlace}
+use Rattle.modinfo_document.specs.declared.report.warning.Warning.{Warning}
 use Rattle.modinfo_document.specs.declared.report.warning.Warnings.{Warnings}
 use Rattle.modinfo_document.specs.declared.report.Report.TheVariants.{Valid, Invalid}
 
@@ -22,6 +23,10 @@ MatchReport WhenValid WhenInvalid (Invalid fault) = WhenInvalid
 -- No warning is kept, and no other is counted.
 abbrev pub HasNone : Warnings → Type 0
 HasNone warnings = (warnings.kept.items ≡ []) × (warnings.more ≡ 0)
+
+-- This warning is kept, and no other.
+abbrev pub HasOnly : Warning → Warnings → Type 0
+HasOnly warning warnings = (warnings.kept.items ≡ warning ∷ []) × (warnings.more ≡ 0)
 
 -- The check passed: the document is valid and, if the check is strict, has no warnings.
 abbrev pub LetsPass : Bool → Report → Type 0

@@ -11,6 +11,7 @@ ghost use Rattle.modinfo_document.specs.ReportText.{json_of_count, json_of_fault
 ghost use Rattle.modinfo_document.specs.internal.ReportText.{member_tokens};
 
 mod comment;
+mod expected_json;
 mod place;
 mod pointer;
 mod source;
@@ -92,6 +93,7 @@ impl FaultReport {
         ensures other { result.other ≡ None }
         ensures range { result.range ≡ None }
         ensures at { result.at ≡ Some at }
+        ensures expected { result.expected ≡ expected }
     {
         FaultReport {
             fault,

@@ -1,3 +1,4 @@
+ghost use Rattle.std.specs.Prelude.{◌≤◌, ℕ, length};
 ghost use Rattle.modinfo_document.specs.Report.{IsPlaceIn};
 
 use deno_graph_source::text::Position;
@@ -13,7 +14,8 @@ impl TextPlace {
     /// Returns the place at an offset, in bytes; the end of the text if the offset is after the end or
     /// inside a character.
     pub fn new(text: &str, offset: usize) -> TextPlace
-        ensures { IsPlaceIn text.now result }
+        ensures inside { IsPlaceIn text.now result }
+        ensures reached { (least : ℕ) → least ≤ offset → least ≤ length text.now → least ≤ result.offset }
     {
         let before = text.get(..offset).unwrap_or(text);
         let mut line = 0usize;

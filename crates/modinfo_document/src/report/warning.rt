@@ -1,5 +1,5 @@
-ghost use Rattle.std.specs.Prelude.{◌↔◌, IsTrue, OnOk};
-ghost use Rattle.modinfo_document.specs.Report.{HasNone};
+ghost use Rattle.std.specs.Prelude.{◌↔◌, IfOk, IsTrue, OnOk};
+ghost use Rattle.modinfo_document.specs.Report.{HasNone, HasOnly};
 
 use crate::report::pointer::pointer_to;
 use deno_graph_json::ReferenceToken;
@@ -28,11 +28,22 @@ pub struct Warnings {
 
 impl Warnings {
     /// No warnings. Allocates nothing.
-    pub fn new(alloc: Global) -> Warnings {
+    pub fn new(alloc: Global) -> Warnings
+        ensures { HasNone result }
+    {
         Warnings {
             kept: Vec::new(alloc),
             more: 0,
         }
+    }
+
+    /// One warning. The only error is a failed allocation.
+    pub fn of_one(alloc: Global, warning: Warning) -> Result<Warnings, AllocError>
+        ensures { IfOk result (HasOnly warning) }
+    {
+        let mut warnings = Warnings::new(alloc);
+        warnings.kept.push(warning)?;
+        Ok(warnings)
     }
 
     /// Whether there are no warnings.

@@ -1,8 +1,6 @@
-use Rattle.std.proofs.Common.{◌≡◌, ◌+◌, ◌-◌, ◌<◌, ◌≤◌, Some, None, arith, codes, slice_get, refl, sym, ap}
+use Rattle.std.proofs.Common.{◌-◌, ◌<◌, ◌≤◌, Some, None, arith, slice_get, refl, sym, ap}
 use Rattle.std.proofs.Common.{subst, ◌∙◌}
-use Rattle.serde_json.specs.Data.{array}
 use Rattle.serde_json.specs.Events.{items_len}
-use Rattle.serde_json.specs.Find.{get, get_item}
 use Rattle.deno_graph_json.specs.Data.{data_of, elements_data}
 use Rattle.deno_graph_json.specs.Read.Partial.{◌>>=◌, reads_items}
 use Rattle.deno_graph_json.proofs.ArrayElements.{elements_counted, elements_next, from_begin, from_here}

@@ -1,6 +1,5 @@
-use Rattle.std.proofs.Common.{◌≡◌, ℕ, List, [], codes, true, false, ◌++◌, None, Some, IsSome, append_assoc}
+use Rattle.std.proofs.Common.{◌≡◌, ℕ, List, [], codes, true, false, ◌++◌, IsSome, append_assoc}
 use Rattle.std.proofs.Common.{append-nil, refl, sym, ap, subst, ◌∙◌}
-use Rattle.deno_graph_json.specs.Data.{data_of}
 use Rattle.deno_graph_json.specs.Pointer.{index, name, part_text}
 use Rattle.deno_graph_json.specs.Read.Partial.{◌>>=◌}
 use Rattle.modinfo_document.specs.Comments.{reads_comment}

@@ -1,8 +1,7 @@
-use Rattle.std.proofs.Common.{◌≡◌, ℕ, ◌+◌, ◌<◌, List, [], ◌∷◌, ◌++◌, add-one, arith, codes, drop, drop-cons}
+use Rattle.std.proofs.Common.{◌≡◌, ℕ, ◌+◌, ◌<◌, List, [], ◌∷◌, ◌++◌, add-one, codes, drop, drop-cons}
 use Rattle.std.proofs.Common.{get_or, length}
-use Rattle.std.proofs.Common.{refl, sym, ap, ◌∙◌}
+use Rattle.std.proofs.Common.{sym, ap, ◌∙◌}
 use Rattle.std.proofs.lemmas.List.{drop_all, nil_from_length}
-use Rattle.std.specs.String.{string_bytes}
 use Rattle.deno_graph_json.specs.Pointer.{index, name, part_text}
 use Rattle.deno_graph_json.specs.declared.error.Step.TheVariants.{Item, Member}
 use Rattle.modinfo_document.specs.Place.{node_path, path_below, program_path}

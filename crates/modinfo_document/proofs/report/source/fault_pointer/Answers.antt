@@ -20,7 +20,8 @@ use Rattle.deno_graph_source.specs.declared.tree.fault.SourceFault.TheVariants.{
 use Rattle.deno_graph_source.specs.declared.tree.fault_place.FaultPlace.TheVariants.{Comment as AtComment}
 use Rattle.modinfo_document.specs.Place.{Points, PointsToFault, comment_part, node_path, part_path, range_in}
 use Rattle.modinfo_document.specs.Pointer.{pointer_text}
-use Rattle.modinfo_document.proofs.Places.{comment_points, is_some, node_leads, part_points, program_points}
+use Rattle.modinfo_document.proofs.PlaceRanges.{comment_points, is_some, part_points, program_points}
+use Rattle.modinfo_document.proofs.Places.{node_leads}
 use Rattle.modinfo_document.proofs.report.source.fault_pointer.Goals as goal
 
 pub returns-in_ok-program_pointer-in-Program : goal.returns-in_ok-program_pointer-in-Program

@@ -1,5 +1,4 @@
-use Rattle.modinfo_document.specs.declared.document.Document.{Document}
-use Rattle.modinfo_document.proofs.Places.{is_some}
+use Rattle.modinfo_document.proofs.PlaceRanges.{is_some}
 use Rattle.modinfo_document.proofs.report.source.other_pointer.Goals as goal
 
 -- The source has an overlap of these two comments.
