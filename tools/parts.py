@@ -85,7 +85,11 @@ QUICK = [
     Part("scripts", after("bindings/setup python", f"{PYTEST} tools/tests -m 'not slow'")),
     Part("header", after("bindings/setup python", f"{PYTEST} packaging/tests/test_header.py")),
     Part("manual", after("bindings/setup python", f"{PYTEST} packaging/tests/test_manual.py"), ("modinfo",)),
-    Part("commands", after("bindings/setup python", f"{PYTEST} packaging/tests/test_commands.py"), ("modinfo",)),
+    Part(
+        "commands",
+        after("bindings/setup python", f"{PYTEST} packaging/tests/test_commands.py packaging/tests/test_program.py"),
+        ("modinfo",),
+    ),
 ]
 UNCHECKED_PARTS = [Part("browser", f"{HAS_BROWSER} && {BROWSER}", ("modinfo",)), *QUICK]
 # Other parts take long, or test what is installed and packed, which is the proved program alone.

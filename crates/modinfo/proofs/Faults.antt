@@ -6,9 +6,8 @@ use Rattle.serde_json.specs.Read.{read as read_text}
 use Rattle.deno_graph_base.specs.TextMap.{entries_of}
 use Rattle.deno_graph_json.specs.declared.flat.error.TapeError.{TapeError}
 use Rattle.deno_graph_json.specs.declared.flat.error.TapeError.TheVariants as tape
-use Rattle.modinfo_document.specs.Document.{Contents, reads_document}
+use Rattle.modinfo_document.specs.declared.error.DocumentError.{DocumentError}
 use Rattle.modinfo_document.specs.declared.error.DocumentError.TheVariants as error
-use Rattle.modinfo_estree.specs.Document.{reads_estree}
 use Rattle.deno_graph_info.specs.Conversion.{IsConvertFault}
 use Rattle.deno_graph_info.specs.declared.analysis.fault.InfoFault.{InfoFault}
 use Rattle.deno_graph_info.specs.declared.analysis.fault.InfoFault.TheVariants as info
@@ -19,14 +18,18 @@ use Rattle.modinfo.specs.Answer.{
   IsDocumentFault,
   IsNoConversion,
   IsNoJson,
-  IsNoModule,
   IsNoReach,
 }
-use Rattle.modinfo.specs.Source.{IsNoTextInfo}
 use Rattle.modinfo.specs.internal.Answer.{IsReadFailure}
 use Rattle.modinfo.specs.internal.Convert.{IsConvertedValue, IsNoConvertedValue}
-use Rattle.modinfo.specs.Run.{IsNoResult, IsRunFault}
-use Rattle.modinfo.specs.Fault.{fault_of_conversion, fault_of_info, fault_of_tape}
+use Rattle.modinfo.specs.Run.{IsFailure, IsNoResult, IsRunFault}
+use Rattle.modinfo.specs.Fault.{
+  IsWriteFault,
+  fault_of_conversion,
+  fault_of_document,
+  fault_of_info,
+  fault_of_tape,
+}
 use Rattle.modinfo.specs.Reach.{Asks, IsFirstFault, IsNoQuestion, IsQuestionFault, Question, reads_question}
 use Rattle.modinfo.specs.internal.Reach.{IsNoInfos, IsQuestionOf}
 use Rattle.modinfo.specs.declared.reach.Question.{Question as Asked}
@@ -43,6 +46,7 @@ use Rattle.modinfo.specs.declared.fault.Fault.TheVariants.{
   Convert,
   Info,
   Output,
+  Closed,
   OutOfMemory,
 }
 use Rattle.modinfo.specs.declared.format.Format.{Format}
@@ -83,6 +87,7 @@ converts_text text before (Err Syntax) read h = absurd h
 converts_text text before (Err (Source inner)) read h = absurd h
 converts_text text before (Err (Info inner)) read h = absurd h
 converts_text text before (Err Output) read h = absurd h
+converts_text text before (Err Closed) read h = absurd h
 
 -- A text that isn't JSON isn't a document of `reach`.
 pub no_reach : (text : List ℕ) (fault : Fault) → IsNoJson text fault → IsNoReach text fault
@@ -95,6 +100,7 @@ no_reach text (Source inner) none = none
 no_reach text (Convert inner) none = none
 no_reach text (Info inner) none = absurd none
 no_reach text Output none = none
+no_reach text Closed none = none
 no_reach text OutOfMemory none = none
 
 pub asks_nothing : (text : List ℕ) (value : Data) (fault : Fault) → read_text text ≡ Some value
@@ -109,6 +115,7 @@ asks_nothing text value Syntax read none = absurd none
 asks_nothing text value (Source inner) read none = absurd none
 asks_nothing text value (Convert inner) read none = absurd none
 asks_nothing text value Output read none = absurd none
+asks_nothing text value Closed read none = absurd none
 
 -- The question of a value is that of its text.
 pub asks_text : (text : List ℕ) (value : Data) (asked : Result Asked Fault) → read_text text ≡ Some value
@@ -155,6 +162,7 @@ no_modules value question Syntax asks none = absurd none
 no_modules value question (Source inner) asks none = absurd none
 no_modules value question (Convert inner) asks none = absurd none
 no_modules value question Output asks none = absurd none
+no_modules value question Closed asks none = absurd none
 
 -- A fault other than a failed allocation is one of the value.
 pub question_fault : (value : Data) (fault : Fault) → fault ≢ OutOfMemory → IsNoQuestion value fault
@@ -169,6 +177,7 @@ question_fault value Syntax apart none = absurd none
 question_fault value (Source inner) apart none = absurd none
 question_fault value (Convert inner) apart none = absurd none
 question_fault value Output apart none = absurd none
+question_fault value Closed apart none = absurd none
 
 -- A document without a result is a fault of the run.
 pub run_fault : (command : Command) (document : List ℕ) (fault : Fault)
@@ -182,6 +191,7 @@ run_fault command document (Source inner) has = has
 run_fault command document (Convert inner) has = has
 run_fault command document (Info inner) has = has
 run_fault command document Output has = tt
+run_fault command document Closed has = tt
 run_fault command document OutOfMemory has = has
 
 -- A failed allocation is a fault of a document, for each format.
@@ -210,38 +220,70 @@ failed_read command document (Source inner) failed = absurd failed
 failed_read command document (Convert inner) failed = absurd failed
 failed_read command document (Info inner) failed = absurd failed
 failed_read command document Output failed = absurd failed
+failed_read command document Closed failed = absurd failed
+
+-- A property of both faults of a failed write is one of each such fault.
+by_write : (P : Fault → Type 0) → P Output → P Closed → (fault : Fault) → IsWriteFault fault → P fault
+by_write P output closed Output wrote = output
+by_write P output closed Closed wrote = closed
+by_write P output closed Input wrote = absurd wrote
+by_write P output closed Json wrote = absurd wrote
+by_write P output closed Tree wrote = absurd wrote
+by_write P output closed Specifier wrote = absurd wrote
+by_write P output closed Syntax wrote = absurd wrote
+by_write P output closed (Source inner) wrote = absurd wrote
+by_write P output closed (Convert inner) wrote = absurd wrote
+by_write P output closed (Info inner) wrote = absurd wrote
+by_write P output closed OutOfMemory wrote = absurd wrote
 
 -- A failed write is a fault of the run.
-pub write_fault : (command : Command) (document : List ℕ) (fault : Fault) → fault ≡ Output
+pub write_fault : (command : Command) (document : List ℕ) (fault : Fault) → IsWriteFault fault
     → IsRunFault command document fault
-write_fault command document fault same = subst (IsRunFault command document) (sym same) tt
+write_fault command document fault wrote = by_write (IsRunFault command document) tt tt fault wrote
+
+-- A failed write is a failure.
+pub write_failure : (fault : Fault) → IsWriteFault fault → IsFailure fault
+write_failure fault wrote = by_write IsFailure tt tt fault wrote
 
 -- A failed read isn't a failed write.
-pub read_apart : (fault : Fault) → IsReadFailure fault → fault ≢ Output
-read_apart fault failed same = subst IsReadFailure same failed
+pub read_apart : (fault : Fault) → IsReadFailure fault → ¬ IsWriteFault fault
+read_apart fault failed wrote =
+    by_write (λ other. ¬ IsReadFailure other) (λ none. none) (λ none. none) fault wrote failed
 
--- No module is missing because a write failed.
-module_apart : (reads : Data → Option Contents) (document : List ℕ) → ¬ IsNoModule reads document Output
-module_apart reads document (error.Json place, is, has) = cc (is)
-module_apart reads document (error.Tree mismatch, is, has) = cc (is)
-module_apart reads document (error.Specifier, is, has) = cc (is)
-module_apart reads document (error.Source inner, is, has) = cc (is)
-module_apart reads document (error.OutOfMemory, is, has) = cc (is)
-
--- No information on a text is missing because a write failed.
-text_apart : (document : List ℕ) → ¬ IsNoTextInfo document Output
-text_apart document (inl none) = none
-text_apart document (inr (text, is, none)) = none
+-- An error of a document isn't a failed write.
+document_apart : (inner : DocumentError) → ¬ IsWriteFault (fault_of_document inner)
+document_apart (error.Json place) wrote = wrote
+document_apart (error.Tree mismatch) wrote = wrote
+document_apart error.Specifier wrote = wrote
+document_apart (error.Source inner) wrote = wrote
+document_apart error.OutOfMemory wrote = wrote
 
 -- No result is missing because a write failed.
+
+output_apart : (command : Command) (document : List ℕ) → ¬ IsNoResult command document Output
+output_apart (Answer Module) document (inner, is, has) =
+    document_apart inner (subst IsWriteFault (sym is) tt)
+output_apart (Answer Estree) document (inner, is, has) =
+    document_apart inner (subst IsWriteFault (sym is) tt)
+output_apart (Answer Source) document (inl none) = none
+output_apart (Answer Source) document (inr (text, is, none)) = none
+output_apart (Answer Stored) document none = none
+output_apart (Answer Modules) document none = none
+output_apart (Check format is_strict) document same = cc (same)
+
+closed_apart : (command : Command) (document : List ℕ) → ¬ IsNoResult command document Closed
+closed_apart (Answer Module) document (inner, is, has) =
+    document_apart inner (subst IsWriteFault (sym is) tt)
+closed_apart (Answer Estree) document (inner, is, has) =
+    document_apart inner (subst IsWriteFault (sym is) tt)
+closed_apart (Answer Source) document (inl none) = none
+closed_apart (Answer Source) document (inr (text, is, none)) = none
+closed_apart (Answer Stored) document none = none
+closed_apart (Answer Modules) document none = none
+closed_apart (Check format is_strict) document same = cc (same)
+
 pub result_apart : (command : Command) (document : List ℕ) (fault : Fault) → IsNoResult command document fault
-    → fault ≢ Output
-result_apart (Answer Module) document fault has same =
-    module_apart reads_document document (subst (IsNoModule reads_document document) same has)
-result_apart (Answer Estree) document fault has same =
-    module_apart reads_estree document (subst (IsNoModule reads_estree document) same has)
-result_apart (Answer Source) document fault has same =
-    text_apart document (subst (IsNoTextInfo document) same has)
-result_apart (Answer Stored) document fault has same = subst (IsNoConversion document) same has
-result_apart (Answer Modules) document fault has same = subst (IsNoReach document) same has
-result_apart (Check format is_strict) document fault has same = cc (sym has ∙ same)
+    → ¬ IsWriteFault fault
+result_apart command document fault none wrote =
+    by_write (λ other. ¬ IsNoResult command document other) (output_apart command document)
+    (closed_apart command document) fault wrote none

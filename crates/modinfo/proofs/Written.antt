@@ -11,14 +11,16 @@ use Rattle.std.proofs.Common.{
   ◌++◌,
   length,
   take,
-  Bool,
-  true,
-  false,
   Option,
   Some,
   None,
   IfSome,
-  MatchBool,
+  MatchResult,
+  Result,
+  Ok,
+  Err,
+  is_ok,
+  true,
   unwrap_or,
   refl,
   sym,
@@ -30,7 +32,9 @@ use Rattle.std.specs.Io.KnownBytes.{Appends}
 use Rattle.std.proofs.KnownBytes.{Appends-trans}
 use Rattle.std.proofs.Math.Seq.{take-append-add}
 use Rattle.std.proofs.lemmas.List.{take_all}
+use Rattle.modinfo.specs.Fault.{IsWriteFault}
 use Rattle.modinfo.specs.Run.{AppendsFront}
+use Rattle.modinfo.specs.declared.fault.Fault.{Fault}
 
 -- A beginning of the first text is a beginning of both.
 front_taken : (n : ℕ) (xs ys : List ℕ) → (m : ℕ) × (take m (xs ++ ys) ≡ take n xs)
@@ -63,10 +67,18 @@ whole_front a b xs whole = (
       (omega arith))) whole,
 )
 
-pub front_of_result : (all : Bool) (a b : Option (List ℕ)) (xs : List ℕ)
-    → MatchBool all (Appends a b xs) (AppendsFront a b xs) → AppendsFront a b xs
-front_of_result true a b xs whole = whole_front a b xs whole
-front_of_result false a b xs front = front
+pub front_of_result : {A : Type 0} (written : Result A Fault) (a b : Option (List ℕ)) (xs : List ℕ)
+    → MatchResult written (λ _. Appends a b xs) (λ fault. IsWriteFault fault × AppendsFront a b xs)
+    → AppendsFront a b xs
+front_of_result (Ok _) a b xs whole = whole_front a b xs whole
+front_of_result (Err fault) a b xs failed = failed.1
+
+pub whole_of_result : {A : Type 0} (written : Result A Fault) (a b : Option (List ℕ)) (xs : List ℕ)
+    → is_ok written ≡ true
+    → MatchResult written (λ _. Appends a b xs) (λ fault. IsWriteFault fault × AppendsFront a b xs)
+    → Appends a b xs
+whole_of_result (Ok _) a b xs is whole = whole
+whole_of_result (Err fault) a b xs is failed = cc (is)
 
 -- The bytes if they are known, else none.
 pub known_or_none : (known : Option (List ℕ)) → IfSome known (λ left. unwrap_or known [] ≡ left)

@@ -1,5 +1,5 @@
 -- The faults of the program: from the errors of the libraries, and to the printed names.
-use Rattle.std.specs.Prelude.{ℕ, List, codes}
+use Rattle.std.specs.Prelude.{ℕ, List, codes, Bool, false, true}
 use Rattle.deno_graph_info.specs.FaultName.{convert_fault_name, info_fault_name}
 use Rattle.deno_graph_source.specs.FaultName.{fault_name}
 use Rattle.deno_graph_source.specs.declared.tree.parse_error.ParseError.{ParseError}
@@ -23,6 +23,7 @@ use Rattle.modinfo.specs.declared.fault.Fault.TheVariants.{
   Convert,
   Info,
   Output,
+  Closed,
   OutOfMemory,
 }
 
@@ -54,6 +55,17 @@ abbrev pub fault_of_info : InfoFault → Fault
 fault_of_info info.OutOfMemory = OutOfMemory
 fault_of_info fault = Info fault
 
+-- A write failed.
+abbrev pub IsWriteFault : Fault → Type 0
+IsWriteFault Output = Unit {0}
+IsWriteFault Closed = Unit {0}
+IsWriteFault fault = ⊥
+
+-- Whether the reader of the output ended.
+abbrev pub is_closed : Fault → Bool
+is_closed Closed = true
+is_closed fault = false
+
 -- The printed name of a fault.
 abbrev pub name_of_fault : Fault → List ℕ
 name_of_fault Input = codes "Input"
@@ -65,4 +77,5 @@ name_of_fault (Source fault) = fault_name fault
 name_of_fault (Convert fault) = convert_fault_name fault
 name_of_fault (Info fault) = info_fault_name fault
 name_of_fault Output = codes "Output"
+name_of_fault Closed = codes "Output"
 name_of_fault OutOfMemory = codes "OutOfMemory"

@@ -1,11 +1,11 @@
 -- The status, the output and the error output of a run of the program.
 use Rattle.std.specs.Prelude.{
   ◌≡◌,
-  ◌≢◌,
   ◌↔◌,
   ◌++◌,
   ℕ,
   List,
+  [],
   codes,
   take,
   Bool,
@@ -19,7 +19,7 @@ use Rattle.modinfo_document.specs.Report.{LetsPass}
 use Rattle.modinfo_document.specs.ReportText.{report_text}
 use Rattle.modinfo_document.specs.declared.report.Report.{Report}
 use Rattle.modinfo.specs.Answer.{IsAnswerText, IsDocumentFault, IsReportOn}
-use Rattle.modinfo.specs.Fault.{name_of_fault}
+use Rattle.modinfo.specs.Fault.{IsWriteFault, is_closed, name_of_fault}
 use Rattle.modinfo.specs.declared.command.Command.{Command}
 use Rattle.modinfo.specs.declared.command.Command.TheVariants.{Answer, Check}
 use Rattle.modinfo.specs.declared.fault.Fault.{Fault}
@@ -33,6 +33,7 @@ use Rattle.modinfo.specs.declared.fault.Fault.TheVariants.{
   Convert,
   Info,
   Output,
+  Closed,
   OutOfMemory,
 }
 use Rattle.modinfo.specs.declared.format.Format.{Format}
@@ -41,9 +42,10 @@ use Rattle.modinfo.specs.declared.format.Format.{Format}
 abbrev pub AppendsFront : Option (List ℕ) → Option (List ℕ) → List ℕ → Type 0
 AppendsFront old new text = (n : ℕ) × Appends old new (take n text)
 
--- The line of a fault on the error output.
+-- The line of a fault on the error output. There is none where the reader of the output ended.
 abbrev pub error_line : Fault → List ℕ
-error_line fault = codes "modinfo: " ++ name_of_fault fault ++ codes "\n"
+error_line fault =
+    if is_closed fault then [] else codes "modinfo: " ++ name_of_fault fault ++ codes "\n"
 
 -- A read, a write or an allocation failed.
 abbrev pub IsFailure : Fault → Type 0
@@ -56,6 +58,7 @@ IsFailure (Source fault) = ⊥
 IsFailure (Convert fault) = ⊥
 IsFailure (Info fault) = ⊥
 IsFailure Output = Unit {0}
+IsFailure Closed = Unit {0}
 IsFailure OutOfMemory = Unit {0}
 
 -- The JSON of a report on a document, and whether the check passes.
@@ -84,13 +87,14 @@ PrintsResult command document passes line = (text : List ℕ) × IsResult comman
 abbrev pub IsRunFault : Command → List ℕ → Fault → Type 0
 IsRunFault command document Input = Unit {0}
 IsRunFault command document Output = Unit {0}
+IsRunFault command document Closed = Unit {0}
 IsRunFault command document fault = IsNoResult command document fault
 
 -- What a fault leaves in the output: nothing; or, if a write failed, a beginning of a line that is printed.
 pub record LeavesFront (Prints : Bool → List ℕ → Type 0) (before after : Option (List ℕ)) (fault : Fault)
     : Type 0 where
-  pub unchanged : fault ≢ Output → Keeps before after
-  pub front : fault ≡ Output → (passes : Bool) × (line : List ℕ) × Prints passes line
+  pub unchanged : ¬ IsWriteFault fault → Keeps before after
+  pub front : IsWriteFault fault → (passes : Bool) × (line : List ℕ) × Prints passes line
       × AppendsFront before after line
 
 -- Either a line was appended to the output, and the error output is unchanged. Or there was a fault: its
@@ -119,7 +123,7 @@ IsDocumentRun command input output_before output_after errors_before errors_afte
 -- A run that prints a text of the program about itself.
 abbrev pub IsTextRun : List ℕ → Option (List ℕ) → Option (List ℕ) → Option (List ℕ) → Option (List ℕ) → ℕ
     → Type 0
-IsTextRun text = IsRun (λ passes line. IsTrue passes × (line ≡ text)) (λ fault. fault ≡ Output)
+IsTextRun text = IsRun (λ passes line. IsTrue passes × (line ≡ text)) IsWriteFault
 
 -- A run with wrong words: only the usage, or a beginning of it, was printed, on the error output.
 pub record IsWrongRun (usage : List ℕ)

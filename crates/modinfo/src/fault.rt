@@ -1,5 +1,7 @@
-ghost use Rattle.std.specs.Prelude.{◌≡◌};
-ghost use Rattle.modinfo.specs.Fault.{name_of_fault};
+ghost use Rattle.std.specs.Prelude.{◌≡◌, ◌↔◌};
+ghost use Rattle.std.specs.IoError.{error_kind};
+ghost use Rattle.std.specs.declared.io.ErrorKind.TheVariants.{BrokenPipe};
+ghost use Rattle.modinfo.specs.Fault.{IsWriteFault, is_closed, name_of_fault};
 
 use deno_graph_info::analysis::{ConvertFault, InfoFault};
 use deno_graph_json::TapeError;
@@ -7,7 +9,8 @@ use deno_graph_source::tree::{ParseError, SourceFault};
 use modinfo_document::DocumentError;
 use std::alloc::{AllocError, AllocFailed};
 use std::error::Error;
-use std::fmt;
+use std::io::ErrorKind;
+use std::{fmt, io};
 
 /// Why the program printed no answer. Displayed by its name; `Source`, `Convert` and `Info` by the name
 /// of the fault inside.
@@ -31,6 +34,9 @@ pub enum Fault {
     Info(InfoFault),
     /// A write failed.
     Output,
+    /// A write failed, since the reader of the output ended. Its name is that of `Output`; the program ends
+    /// without a message.
+    Closed,
     /// An allocation failed.
     OutOfMemory,
 }
@@ -49,9 +55,28 @@ impl Fault {
             Fault::Source(fault) => fault.name(),
             Fault::Convert(fault) => fault.name(),
             Fault::Info(fault) => fault.name(),
-            Fault::Output => "Output",
+            Fault::Output | Fault::Closed => "Output",
             Fault::OutOfMemory => "OutOfMemory",
         }
+    }
+
+    /// The fault of a failed write.
+    pub fn of_write(error: &io::Error) -> Fault
+        ensures write { IsWriteFault result }
+        ensures closed { result ≡ Fault.Closed ↔ error_kind error.now ≡ BrokenPipe }
+    {
+        if error.kind() == ErrorKind::BrokenPipe {
+            Fault::Closed
+        } else {
+            Fault::Output
+        }
+    }
+
+    /// Whether the reader of the output ended.
+    pub fn is_closed(&self) -> bool
+        ensures { result ≡ is_closed self.now }
+    {
+        matches!(self, Fault::Closed)
     }
 }
 

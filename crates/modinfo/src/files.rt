@@ -6,7 +6,7 @@ use crate::file_url::file_url;
 use crate::help::USAGE;
 use crate::input::read_to_end;
 use crate::lines::buffered;
-use crate::output::{print_fault, print_line, write_front};
+use crate::output::{print, print_fault, print_line};
 use deno_graph_info::analysis::ModuleInfo;
 use deno_graph_json::text_of;
 use deno_graph_module_info::module_info;
@@ -150,9 +150,7 @@ fn write_waiting<W: Write>(
     if waiting.len() <= most {
         return Ok(());
     }
-    if !write_front(output, waiting.as_slice()) || output.flush().is_err() {
-        return Err(Fault::Output);
-    }
+    print(output, waiting.as_slice())?;
     waiting.clear();
     Ok(())
 }

@@ -60,7 +60,7 @@ too. Status 2: other words.
   Shape            reach: a value in the JSON isn't what is expected there
   Float            convert, reach: a number isn't held as a whole number
   ColumnOverflow   convert: a column is above 2^64 - 1
-  Output           a write fails
+  Output           a write fails; there is no line if that is because the reader of the output ended
   OutOfMemory      an allocation failed
 
 Example:

@@ -5,6 +5,7 @@ ghost use Rattle.std.specs.Io.Buffered.{reader_remaining};
 ghost use Rattle.std.specs.Io.{StopsAt};
 ghost use Rattle.std.specs.Io.BufRead.{ends_with_byte, strip_last};
 ghost use Rattle.std.specs.Io.KnownBytes.{Appends, Consumes, IsAtEnd};
+ghost use Rattle.modinfo.specs.Fault.{IsWriteFault};
 ghost use Rattle.modinfo.specs.Lines.{IsPrinted, LeavesFirstLines, LeavesLines, PrintsLine, PrintsLines};
 ghost use Rattle.modinfo.specs.Lines.{fault_line, framed, lines_of, passes_without};
 ghost use Rattle.modinfo.specs.internal.Lines.{TakesLines, TakesNext};
@@ -12,7 +13,7 @@ ghost use Rattle.modinfo.specs.Run.{AppendsFront, IsFailure, IsNoResult};
 
 use crate::command::{Command, Printed};
 use crate::fault::Fault;
-use crate::output::write_front;
+use crate::output::print;
 use memchr::memchr;
 use std::alloc::{AllocError, Global};
 use std::io::{BufRead, BufReader, ErrorKind, Read, Write};
@@ -24,7 +25,8 @@ const FAULT_ROOM: usize = 64;
 
 /// Prints a line for each line of the input, in the same order: `{"answer":..}`, a report or
 /// `{"fault":"NAME"}`. Returns whether each check passed. Writes before each read that may wait for
-/// input. `Input` if a read fails, `Output` if a write fails, `OutOfMemory` if an allocation fails.
+/// input. `Input` if a read fails, `Output` or `Closed` if a write fails, `OutOfMemory` if an
+/// allocation fails.
 pub fn run_lines<R: Read, W: Write>(
     alloc: Global,
     command: Command,
@@ -73,15 +75,13 @@ fn write_waiting<W: Write>(output: &mut W, waiting: &mut Vec<u8>, is_due: bool) 
         (λ _. (written : List ℕ) × (waiting.old.items ≡ written ++ waiting.new.items)
         × Appends (W.contents output.old) (W.contents output.new) written
         × (is_due ≡ true → waiting.new.items ≡ []))
-        (λ fault. (fault ≡ Fault.Output)
+        (λ fault. IsWriteFault fault
         × AppendsFront (W.contents output.old) (W.contents output.new) waiting.old.items) }
 {
     if !is_due || waiting.is_empty() {
         return Ok(());
     }
-    if !write_front(output, waiting.as_slice()) || output.flush().is_err() {
-        return Err(Fault::Output);
-    }
+    print(output, waiting.as_slice())?;
     waiting.clear();
     waiting.shrink_to(CHUNK + FAULT_ROOM);
     Ok(())

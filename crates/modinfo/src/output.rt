@@ -1,37 +1,56 @@
 //! Writing bytes, with a known result if a write fails.
 
-ghost use Rattle.std.specs.Prelude.{◌++◌, MatchBool, codes};
+ghost use Rattle.std.specs.Prelude.{◌++◌, MatchResult, codes};
 ghost use Rattle.std.specs.Io.KnownBytes.{Appends};
+ghost use Rattle.modinfo.specs.Fault.{IsWriteFault};
 ghost use Rattle.modinfo.specs.Run.{AppendsFront, error_line};
 
 use crate::fault::Fault;
 use std::io::{ErrorKind, Write};
 
-/// Writes the bytes, or a beginning of them if a write fails. Returns whether all were written.
-pub fn write_front<W: Write>(output: &mut W, bytes: &[u8]) -> bool
-    ensures { MatchBool result (Appends (W.contents output.old) (W.contents output.new) bytes.now)
-        (AppendsFront (W.contents output.old) (W.contents output.new) bytes.now) }
+/// Writes the bytes, or a beginning of them if a write fails. Then the error is `Closed` if the reader of
+/// the output ended, else `Output`.
+pub fn write_front<W: Write>(output: &mut W, bytes: &[u8]) -> Result<(), Fault>
+    ensures { MatchResult result (λ _. Appends (W.contents output.old) (W.contents output.new) bytes.now)
+        (λ fault. IsWriteFault fault
+        × AppendsFront (W.contents output.old) (W.contents output.new) bytes.now) }
 {
     let mut rest = bytes;
     'writes: for _ in 0..u64::MAX {
         if rest.is_empty() {
-            return true;
+            return Ok(());
         }
         match output.write(rest) {
-            Ok(0) => return false,
+            Ok(0) => return Err(Fault::Output),
             Ok(count) => rest = &rest[count..],
             Err(error) if error.kind() == ErrorKind::Interrupted => {}
-            Err(_) => return false,
+            Err(error) => return Err(Fault::of_write(&error)),
         }
     }
-    false
+    Err(Fault::Output)
 }
 
-/// Prints the line of a fault. A failed write ends the line.
+/// Prints bytes, and flushes the output. The error is as that of `write_front`.
+pub fn print<W: Write>(output: &mut W, bytes: &[u8]) -> Result<(), Fault>
+    ensures { MatchResult result (λ _. Appends (W.contents output.old) (W.contents output.new) bytes.now)
+        (λ fault. IsWriteFault fault
+        × AppendsFront (W.contents output.old) (W.contents output.new) bytes.now) }
+{
+    write_front(output, bytes)?;
+    match output.flush() {
+        Ok(()) => Ok(()),
+        Err(error) => Err(Fault::of_write(&error)),
+    }
+}
+
+/// Prints the line of a fault; nothing if the reader of the output ended. A failed write ends the line.
 pub fn print_fault<E: Write>(errors: &mut E, fault: &Fault)
     ensures { AppendsFront (E.contents errors.old) (E.contents errors.new) (error_line fault.now) }
 {
-    if write_front(errors, b"modinfo: ") {
+    if fault.is_closed() {
+        return;
+    }
+    if write_front(errors, b"modinfo: ").is_ok() {
         print_line(errors, fault.name());
     }
 }
@@ -40,7 +59,7 @@ pub fn print_fault<E: Write>(errors: &mut E, fault: &Fault)
 pub fn print_line<E: Write>(errors: &mut E, text: &str)
     ensures { AppendsFront (E.contents errors.old) (E.contents errors.new) (text.now ++ codes "\n") }
 {
-    if write_front(errors, text.as_bytes()) {
+    if write_front(errors, text.as_bytes()).is_ok() {
         let _ = write_front(errors, b"\n");
     }
 }

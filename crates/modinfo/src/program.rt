@@ -2,6 +2,7 @@ ghost use Rattle.std.specs.Prelude.{◌≡◌, ◌++◌, ℕ, Bool, codes, List,
 ghost use Rattle.std.specs.Prelude.{IsSomeAnd, MatchResult, None};
 ghost use Rattle.std.specs.Io.KnownBytes.{Appends, Keeps};
 ghost use Rattle.modinfo.specs.CommandLine.{asks_for};
+ghost use Rattle.modinfo.specs.Fault.{IsWriteFault};
 ghost use Rattle.modinfo.specs.Lines.{IsLinesRun, LeavesFirstLines, LeavesLines};
 ghost use Rattle.modinfo.specs.Run.{AppendsFront, IsDocumentRun, IsRunFault, IsTextRun, IsWrongRun, PrintsResult, error_line};
 ghost use Rattle.modinfo.specs.internal.Run.{Leaves, LeavesFault};
@@ -12,7 +13,7 @@ use crate::fault::Fault;
 use crate::help::{HELP, USAGE, VERSION};
 use crate::input::read_to_end;
 use crate::lines::run_lines;
-use crate::output::{print_fault, print_line, write_front};
+use crate::output::{print, print_fault, print_line};
 use std::alloc::Global;
 use std::io::{Read, Write};
 
@@ -21,8 +22,9 @@ use std::io::{Read, Write};
 ///
 /// - Status 0: the help, the version or the result was printed to `output`.
 /// - Status 1: there was a fault. `errors` gets a line with its name, and `output` nothing, or a
-///   beginning of the line if a write failed. A check whose document has a fault, or with `--strict` a
-///   warning, prints its report and has status 1.
+///   beginning of the line if a write failed. `errors` gets no line if the write failed since the reader
+///   of the output ended. A check whose document has a fault, or with `--strict` a warning, prints its
+///   report and has status 1.
 /// - Status 2: wrong arguments, or those of `files`, which only `serve_files` runs. `errors` gets a line on
 ///   the usage, and `output` nothing.
 ///
@@ -97,11 +99,11 @@ fn run_command_line<R: Read, W: Write>(
 ) -> Option<Result<bool, Fault>>
     ensures help { command_line ≡ CommandLine.Help → IsSomeAnd result (λ ran. MatchResult ran
         (Leaves (λ passes line. IsTrue passes × (line ≡ HELP.now)) (W.contents output.old) (W.contents output.new))
-        (LeavesFault (λ passes line. IsTrue passes × (line ≡ HELP.now)) (λ fault. fault ≡ Fault.Output)
+        (LeavesFault (λ passes line. IsTrue passes × (line ≡ HELP.now)) IsWriteFault
         (W.contents output.old) (W.contents output.new))) }
     ensures version { command_line ≡ CommandLine.Version → IsSomeAnd result (λ ran. MatchResult ran
         (Leaves (λ passes line. IsTrue passes × (line ≡ VERSION.now)) (W.contents output.old) (W.contents output.new))
-        (LeavesFault (λ passes line. IsTrue passes × (line ≡ VERSION.now)) (λ fault. fault ≡ Fault.Output)
+        (LeavesFault (λ passes line. IsTrue passes × (line ≡ VERSION.now)) IsWriteFault
         (W.contents output.old) (W.contents output.new))) }
     ensures document { (command : Command) → command_line ≡ CommandLine.Document command
         → IsSomeAnd result (λ ran. (document : List ℕ)
@@ -154,24 +156,9 @@ fn run_document<R: Read, W: Write>(
 fn print_text<W: Write>(output: &mut W, text: &str) -> Result<bool, Fault>
     ensures { MatchResult result
         (Leaves (λ passes line. IsTrue passes × (line ≡ text.now)) (W.contents output.old) (W.contents output.new))
-        (LeavesFault (λ passes line. IsTrue passes × (line ≡ text.now)) (λ fault. fault ≡ Fault.Output)
+        (LeavesFault (λ passes line. IsTrue passes × (line ≡ text.now)) IsWriteFault
         (W.contents output.old) (W.contents output.new)) }
 {
     print(output, text.as_bytes())?;
     Ok(true)
-}
-
-/// Prints bytes. `Output` if a write fails, after a beginning of the bytes.
-fn print<W: Write>(output: &mut W, bytes: &[u8]) -> Result<(), Fault>
-    ensures { MatchResult result (λ _. Appends (W.contents output.old) (W.contents output.new) bytes.now)
-        (λ fault. (fault ≡ Fault.Output)
-        × AppendsFront (W.contents output.old) (W.contents output.new) bytes.now) }
-{
-    if !write_front(output, bytes) {
-        return Err(Fault::Output);
-    }
-    match output.flush() {
-        Ok(()) => Ok(()),
-        Err(_) => Err(Fault::Output),
-    }
 }

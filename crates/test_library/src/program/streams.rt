@@ -35,17 +35,18 @@ impl Read for FailingReader<'_> {
     }
 }
 
-/// Keeps this number of bytes, one per write, and then fails.
+/// Keeps this number of bytes, one per write, and then fails with an error of this kind.
 #[derive(Drop)]
 struct FailingWriter {
     kept: Vec<u8>,
     room: usize,
+    kind: ErrorKind,
 }
 
 impl Write for FailingWriter {
     fn write(&mut self, buf: &[u8]) -> Result<usize> {
         if self.kept.len() >= self.room {
-            return Err(Error::from(ErrorKind::BrokenPipe));
+            return Err(Error::from(self.kind));
         }
         let Some(first) = buf.first() else {
             return Ok(0);
@@ -56,7 +57,7 @@ impl Write for FailingWriter {
 
     fn flush(&mut self) -> Result<()> {
         if self.kept.len() >= self.room {
-            return Err(Error::from(ErrorKind::BrokenPipe));
+            return Err(Error::from(self.kind));
         }
         Ok(())
     }
@@ -98,24 +99,31 @@ fn a_failed_read_prints_nothing(rt: HostRuntime) {
 #[test]
 fn a_failed_write_leaves_a_beginning(rt: HostRuntime) {
     let whole = PRINTED.as_bytes();
-    for room in 0..=whole.len() {
-        let mut output = FailingWriter {
-            kept: Vec::new(rt.alloc()),
-            room,
-        };
-        let mut errors = Vec::new(rt.alloc());
-        let mut input = DOCUMENT.as_bytes();
-        let status = modinfo::serve(
-            rt.alloc(),
-            &["analyze"],
-            &mut input,
-            &mut output,
-            &mut errors,
-        );
-        assert_eq!(rt; status, 1);
-        assert!(rt; whole.starts_with(output.kept.as_slice()));
-        assert_eq!(rt; output.kept.len(), room);
-        assert_eq!(rt; errors.as_slice(), b"modinfo: Output\n".as_slice());
+    // A reader of the output that ends is no message.
+    for (kind, message) in [
+        (ErrorKind::StorageFull, "modinfo: Output\n"),
+        (ErrorKind::BrokenPipe, ""),
+    ] {
+        for room in 0..=whole.len() {
+            let mut output = FailingWriter {
+                kept: Vec::new(rt.alloc()),
+                room,
+                kind,
+            };
+            let mut errors = Vec::new(rt.alloc());
+            let mut input = DOCUMENT.as_bytes();
+            let status = modinfo::serve(
+                rt.alloc(),
+                &["analyze"],
+                &mut input,
+                &mut output,
+                &mut errors,
+            );
+            assert_eq!(rt; status, 1);
+            assert!(rt; whole.starts_with(output.kept.as_slice()));
+            assert_eq!(rt; output.kept.len(), room);
+            assert_eq!(rt; errors.as_slice(), message.as_bytes());
+        }
     }
 }
 
@@ -129,6 +137,7 @@ fn a_failed_write_to_errors_is_passed_over(rt: HostRuntime) {
             let mut errors = FailingWriter {
                 kept: Vec::new(rt.alloc()),
                 room,
+                kind: ErrorKind::StorageFull,
             };
             let mut output = Vec::new(rt.alloc());
             let mut input = b"".as_slice();

@@ -4,6 +4,7 @@ use Rattle.modinfo.specs.Lines.{PrintsLines}
 use Rattle.modinfo.specs.Lines.PrintsLines.{none}
 use Rattle.modinfo.specs.Run.{IsFailure}
 use Rattle.modinfo.specs.declared.fault.Fault.TheVariants.{Input, OutOfMemory}
+use Rattle.modinfo.proofs.Faults.{write_failure}
 use Rattle.modinfo.proofs.LinesTaken.{
   AppendsFront-more,
   AppendsFront-sent,
@@ -47,7 +48,7 @@ returns-in_err-write_waiting g c =
     let (is_fault, front) = c.in_err-write_waiting.ensures in
     exits _ _ _ c.in_err-write_waiting.field-0.0 c.from_residual-in_err-write_waiting.ensures.1
     (LeavesFirstLines-at c.args.command _ _ _ _ done c.lines.is_passed (sent ++ c.lines.waiting.items)
-    c.in_err-write_waiting.field-0.0 (subst IsFailure (sym is_fault) tt)
+    c.in_err-write_waiting.field-0.0 (write_failure _ is_fault)
     (TakesLines-same _ _ _ done c.in_ok-input.ensures taken) prints
     (AppendsFront-more _ _ _ sent c.lines.waiting.items appended front))
 
@@ -76,7 +77,7 @@ returns-in_err-write_waiting-in-None g c =
     exits _ _ _ c.in_err-write_waiting-in-None.field-0.0
     c.from_residual-in_err-write_waiting-in-None.ensures.1
     (LeavesFirstLines-at c.args.command _ _ _ _ done c.lines.is_passed ((sent ++ written) ++ new)
-    c.in_err-write_waiting-in-None.field-0.0 (subst IsFailure (sym is_fault) tt)
+    c.in_err-write_waiting-in-None.field-0.0 (write_failure _ is_fault)
     (TakesLines-same _ _ _ done c.in_ok-input.ensures taken)
     (PrintsLines-written c.args.command done c.lines.is_passed sent c.lines.waiting.items written new prints
     (split ∙ ap (λ l. written ++ l) (sym same)))

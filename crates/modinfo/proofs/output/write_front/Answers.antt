@@ -48,15 +48,19 @@ returns-in-Ok-eq0 g c =
     let before = g.W.Write.contents c.writes.output in
     let after = g.W.Write.contents c.write.new.self in
     let wrote = subst (λ r. WriteAppends before after r c.writes.rest.now) c.in-Ok-eq0.is
-    c.write.ensures.bytes in
-    subst (AppendsFront _ _) (sym split) (AppendsFront-more _ before after done c.writes.rest.now appended
-    (c.in-Ok-eq0.field-0, wrote))
+    c.write.ensures.bytes in (
+      tt,
+      subst (AppendsFront _ _) (sym split) (AppendsFront-more _ before after done c.writes.rest.now appended
+          (c.in-Ok-eq0.field-0, wrote)),
+    )
 
 pub returns-in-Err-2 : goal.returns-in-Err-2
 returns-in-Err-2 g c =
-    let (done, split, appended) = c.writes.invariant in
-    subst (AppendsFront _ _) (sym split) (AppendsFront-sent _ _ done c.writes.rest.now
-    (Appends-kept _ _ _ done appended c.in-Err-2.ensures.bytes))
+    let (done, split, appended) = c.writes.invariant in (
+      c.of_write.ensures.write,
+      subst (AppendsFront _ _) (sym split) (AppendsFront-sent _ _ done c.writes.rest.now
+          (Appends-kept _ _ _ done appended c.in-Err-2.ensures.bytes)),
+    )
 
 pub writes-preserved : goal.writes-preserved
 writes-preserved g c =
@@ -78,5 +82,7 @@ writes-preserved g c =
 
 pub returns : goal.returns
 returns g c =
-    let (done, split, appended) = c.writes.invariant in
-    subst (AppendsFront _ _) (sym split) (AppendsFront-sent _ _ done c.writes.rest.now appended)
+    let (done, split, appended) = c.writes.invariant in (
+      tt,
+      subst (AppendsFront _ _) (sym split) (AppendsFront-sent _ _ done c.writes.rest.now appended),
+    )

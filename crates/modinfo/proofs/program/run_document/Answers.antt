@@ -55,7 +55,7 @@ returns-in_err-push g c =
       c.in_ok-document.ensures,
       rw (is.1, is.2) (
         run_without_memory c.args.command document,
-        nothing_left (PrintsResult c.args.command document) _ OutOfMemory (λ same. cc (same)),
+        nothing_left (PrintsResult c.args.command document) _ OutOfMemory (λ wrote. wrote),
       ),
     )
 
