@@ -285,6 +285,9 @@ fn info_of_file<R: Files + AllocGlobal>(
 /// Reads a regular file of at most `LIMIT` bytes. Nothing else is opened.
 fn read_file<R: Files + AllocGlobal>(rt: &R, name: &str) -> Result<Vec<u8>, FileFault> {
     check_kind(&fs::metadata(rt, name)?)?;
+    if is_of_system(fs::canonicalize(rt, name)?.as_str()) {
+        return Err(FileFault::input("in /proc or /sys"));
+    }
     let file = fs::open(rt, name)?;
     check_kind(&file.metadata()?)?;
     let bytes = read_to_end(rt.alloc(), &mut file.take(LIMIT + 1))?;
@@ -292,6 +295,12 @@ fn read_file<R: Files + AllocGlobal>(rt: &R, name: &str) -> Result<Vec<u8>, File
         return Err(FileFault::input("larger than 64 MiB"));
     }
     Ok(bytes)
+}
+
+/// Whether the system makes up a file as it is read, by the path without links. Such a file counts as
+/// regular, but a read of it may never return.
+fn is_of_system(path: &str) -> bool {
+    path.starts_with("/proc/") || path.starts_with("/sys/")
 }
 
 /// Checks that a file is regular, and not too large.

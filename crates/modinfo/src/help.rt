@@ -35,8 +35,8 @@ line of JSON. The words after a command come in any order.
   files     reads the files, or those whose names are in the standard input, one on each line;
             prints for each {"specifier":URL,"info":MODULEINFO}, or
             {"specifier":URL,"fault":{"name":NAME,"message":TEXT,"position":[N,N]}}, and has status
-            1 if there was a fault; opens regular files of at most 64 MiB alone, and no folder;
-            write ./-a.ts for a name that begins with -
+            1 if there was a fault; opens regular files of at most 64 MiB alone, no folder, and
+            nothing in /proc or /sys; write ./-a.ts for a name that begins with -
   --estree  of analyze: "program" is the tree of a parser, as ESTree describes it, with its
             "comments"
   --source  of analyze: reads {"specifier":URL,"source":TEXT,"mediaType":NAME}, a source text, with
