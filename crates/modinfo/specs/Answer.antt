@@ -13,6 +13,7 @@ use Rattle.deno_graph_info.specs.declared.conversion.fault.ConvertFault.TheVaria
 use Rattle.deno_graph_module_info.specs.InfoOfModule.{IsInfoOfModule}
 use Rattle.modinfo_document.specs.Check.{IsFaultReport, IsValidIn, points_in_module, points_nowhere}
 use Rattle.modinfo_document.specs.Document.{Contents, HasErrorIn, IsDocumentIn, IsSourceOf, reads_document}
+use Rattle.modinfo_document.specs.Spelling.{WarnsOfLiterals}
 use Rattle.modinfo_estree.specs.Document.{reads_estree}
 use Rattle.modinfo_document.specs.declared.document.Document.{Document}
 use Rattle.modinfo_document.specs.declared.error.DocumentError.{DocumentError}
@@ -26,6 +27,7 @@ use Rattle.modinfo.specs.Check.{
   IsStoredFaultReport,
   OfReport,
   ReportsEncoding,
+  WarnsOfQuestion,
 }
 use Rattle.modinfo.specs.declared.fault.Fault.{Fault}
 use Rattle.modinfo.specs.declared.fault.Fault.TheVariants.{Input, Json, OutOfMemory}
@@ -127,7 +129,16 @@ abbrev pub IsFaultReportOn : Format → List ℕ → FaultReport → Type 0
 IsFaultReportOn format document report = ((¬ IsUtf8 document) × ReportsEncoding document report)
     ⊎ ReportsTextFault format document report
 
+-- The warnings in a report without a fault: of a module document those of its literals, of a document of
+-- `reach` that of its root.
+abbrev pub WarnsOf : Format → List ℕ → Report → Type 0
+WarnsOf Module document report = WarnsOfLiterals document report
+WarnsOf Modules document report = WarnsOfQuestion document report
+WarnsOf format document report = Unit {0}
+
 -- The report on a document is `Valid` only if the document has no fault, `Invalid` only with a fault of the
--- document, its name and its place.
+-- document, its name and its place; and it has these warnings.
 abbrev pub IsReportOn : Format → List ℕ → Report → Type 0
-IsReportOn format document = OfReport (IsValidDocument format document) (IsFaultReportOn format document)
+IsReportOn format document report =
+    OfReport (IsValidDocument format document) (IsFaultReportOn format document) report
+    × WarnsOf format document report

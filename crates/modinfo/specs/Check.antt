@@ -1,8 +1,10 @@
 -- When a report on a document of `convert`, of `reach` or of `analyze --source` is right.
-use Rattle.std.specs.Prelude.{◌≡◌, ◌≢◌, ◌⊎◌, ℕ, List, codes, None, Some, false}
+use Rattle.std.specs.Prelude.{◌≡◌, ◌≢◌, ◌⊎◌, ℕ, List, codes, MatchOption, None, Some, false}
+use Rattle.std.specs.String.{string_bytes}
 use Rattle.serde_json.specs.Data.{Data}
 use Rattle.serde_json.specs.Read.{read as read_text}
 use Rattle.serde_json.specs.Written.{has_float}
+use Rattle.deno_graph_base.specs.TextMap.{value_at}
 use Rattle.deno_graph_info.specs.Conversion.{IsConverted, IsConvertFault}
 use Rattle.deno_graph_info.specs.FaultName.{convert_fault_name, info_fault_name}
 use Rattle.deno_graph_info.specs.declared.analysis.fault.InfoFault.{InfoFault}
@@ -11,10 +13,12 @@ use Rattle.deno_graph_info.specs.declared.analysis.module_info.ModuleInfo.{Modul
 use Rattle.deno_graph_info.specs.declared.conversion.fault.ConvertFault.{ConvertFault}
 use Rattle.deno_graph_info.specs.declared.conversion.fault.ConvertFault.TheVariants as convert
 use Rattle.modinfo_document.specs.ExpectedJson.{HasJsonPlace}
-use Rattle.modinfo_document.specs.Report.{HasTextPlace, IsNamed, PointsInto}
+use Rattle.modinfo_document.specs.Report.{HasNone, HasOnly, HasTextPlace, IsNamed, PointsInto}
 use Rattle.modinfo_document.specs.declared.report.FaultReport.{FaultReport}
 use Rattle.modinfo_document.specs.declared.report.Report.{Report}
 use Rattle.modinfo_document.specs.declared.report.Report.TheVariants.{Valid, Invalid}
+use Rattle.modinfo_document.specs.declared.report.warning.Warning.{Warning}
+use Rattle.modinfo_document.specs.declared.report.warning.Warnings.{Warnings}
 use Rattle.modinfo.specs.Fault.{name_of_fault}
 use Rattle.modinfo.specs.Reach.{Asks, IsQuestionFault}
 use Rattle.modinfo.specs.Source.{CanBeParsed, IsNoInfoOfText, reads_text}
@@ -89,6 +93,24 @@ IsQuestionFaultReport text report = ReportsNoJson text report
 -- `Valid` is returned only for a document of `reach`, `Invalid` only with a fault of the text.
 abbrev pub ReportsOnQuestion : List ℕ → Report → Type 0
 ReportsOnQuestion text = OfReport (IsQuestionText text) (IsQuestionFaultReport text)
+
+-- The warnings on modules and a root: none if a module has the root as its key, else one about the root.
+abbrev pub WarnsOfRoot : List (List ℕ × ModuleInfo) → List ℕ → Warnings → Type 0
+WarnsOfRoot modules root warnings = MatchOption (value_at modules root)
+    ((warning : Warning) × (string_bytes warning.pointer ≡ codes "/root") × HasOnly warning warnings)
+    (λ _. HasNone warnings)
+
+-- A report without a fault has the warnings on the modules and the root of the value.
+abbrev pub WarnsOfModules : Data → Report → Type 0
+WarnsOfModules value (Valid warnings) = (modules : List (List ℕ × ModuleInfo)) × (root : List ℕ)
+    × Asks value modules root × WarnsOfRoot modules root warnings
+WarnsOfModules value (Invalid report) = Unit {0}
+
+-- A report without a fault has the warnings on the modules and the root of the text.
+abbrev pub WarnsOfQuestion : List ℕ → Report → Type 0
+WarnsOfQuestion text (Valid warnings) = (value : Data) × (read_text text ≡ Some value)
+    × WarnsOfModules value (Valid warnings)
+WarnsOfQuestion text (Invalid report) = Unit {0}
 
 -- The text can't be parsed, and the report has the name of its fault.
 pub record ReportsUnparsed (text : SourceText) (report : FaultReport) : Type 0 where

@@ -1,25 +1,32 @@
 //! Checking documents of `reach`.
 
 ghost use Rattle.std.specs.Prelude.{◌≢◌, IfOk};
+ghost use Rattle.deno_graph_base.specs.TextMap.{entries_of};
 ghost use Rattle.deno_graph_json.specs.Data.{data_of};
 ghost use Rattle.deno_graph_info.specs.FaultName.{info_fault_name};
 ghost use Rattle.deno_graph_info.specs.declared.analysis.fault.InfoFault.TheVariants.{OutOfMemory};
 ghost use Rattle.modinfo_document.specs.Report.{IsNamed, PointsInto};
 ghost use Rattle.modinfo.specs.Check.{AsksSome, OfReport, ReportsOnQuestion, ReportsQuestion};
+ghost use Rattle.modinfo.specs.Check.{WarnsOfModules, WarnsOfQuestion, WarnsOfRoot};
 ghost use Rattle.modinfo.specs.Reach.{IsNoQuestion};
 
 use crate::fault::Fault;
-use crate::reach::{read_modules, read_question};
+use crate::reach::{Question, read_modules, read_question};
 use deno_graph_info::analysis::InfoFault;
 use deno_graph_json::{Element, ReadError, Tape, TapeError};
+use deno_graph_source::values::TextMap;
 use json::Scratch;
-use modinfo_document::report::{FaultReport, Report, Warnings, json_report_at};
+use modinfo_document::report::{FaultReport, Report, Warning, Warnings, json_report_at};
 use std::alloc::{AllocError, Global};
 
-/// Checks a text as a document of `reach`: a root, and the information on modules. The only error is a
-/// failed allocation.
+/// The warning about a root that no module has as its key.
+const NO_KEY: &str = "no module has this key, so the answer is []";
+
+/// Checks a text as a document of `reach`: a root, and the information on modules. Warns of a root that is
+/// no key. The only error is a failed allocation.
 pub fn check_modules(alloc: Global, text: &str) -> Result<Report, AllocError>
-    ensures { IfOk result (ReportsOnQuestion text.now) }
+    ensures report { IfOk result (ReportsOnQuestion text.now) }
+    ensures warnings { IfOk result (WarnsOfQuestion text.now) }
 {
     let mut scratch = Scratch::new(alloc);
     match Tape::read(alloc, text, &mut scratch) {
@@ -33,21 +40,39 @@ pub fn check_modules(alloc: Global, text: &str) -> Result<Report, AllocError>
 
 /// Checks the JSON of a document of `reach`.
 fn report_question(alloc: Global, value: Element<'_>) -> Result<Report, AllocError>
-    ensures { IfOk result (OfReport (AsksSome (data_of value.entry)) (ReportsQuestion (data_of value.entry))) }
+    ensures report { IfOk result (OfReport (AsksSome (data_of value.entry)) (ReportsQuestion (data_of value.entry))) }
+    ensures warnings { IfOk result (WarnsOfModules (data_of value.entry)) }
 {
     match read_question(alloc, value) {
-        Ok(question) => {
-            drop(question);
-            Ok(Report::Valid(Warnings::new(alloc)))
-        }
+        Ok(question) => Ok(Report::Valid(root_warnings(alloc, question)?)),
         Err(fault) => report_fault(alloc, value, fault),
     }
 }
 
+/// The warnings about a document: one about a root that is no key. The only error is a failed allocation.
+fn root_warnings(alloc: Global, question: Question) -> Result<Warnings, AllocError>
+    ensures { IfOk result (WarnsOfRoot (entries_of question.infos) question.root) }
+{
+    let Question { infos, root } = question;
+    let modules = TextMap::from_map(infos);
+    if modules.get(root.as_str()).is_some() {
+        return Ok(Warnings::new(alloc));
+    }
+    let pointer = String::from_str(alloc, "/root")?;
+    Warnings::of_one(
+        alloc,
+        Warning {
+            pointer,
+            says: NO_KEY,
+        },
+    )
+}
+
 /// The report on a document with this fault. The only error is a failed allocation.
 fn report_fault(alloc: Global, value: Element<'_>, fault: Fault) -> Result<Report, AllocError>
-    ensures { IsNoQuestion (data_of value.entry) fault
+    ensures report { IsNoQuestion (data_of value.entry) fault
         → IfOk result (OfReport (AsksSome (data_of value.entry)) (ReportsQuestion (data_of value.entry))) }
+    ensures warnings { IfOk result (WarnsOfModules (data_of value.entry)) }
 {
     let Fault::Info(fault) = fault else {
         return Err(AllocError);

@@ -46,6 +46,24 @@ of_text WhenValid WhenFaulty text (Ok (Valid warnings)) h = h
 of_text WhenValid WhenFaulty text (Ok (Invalid report)) h = inr h
 of_text WhenValid WhenFaulty text (Err failed) h = tt
 
+-- No warning is promised of a report with a fault, nor of these formats.
+
+no_warnings : (format : Format) (text : List ℕ) (answer : Result Report AllocError)
+    → IfOk answer (OfReport ⊥ (IsOfEncoding text)) → IfOk answer (WarnsOf format text)
+no_warnings format text (Ok (Valid warnings)) h = absurd h
+no_warnings Module text (Ok (Invalid report)) h = tt
+no_warnings Estree text (Ok (Invalid report)) h = tt
+no_warnings Source text (Ok (Invalid report)) h = tt
+no_warnings Stored text (Ok (Invalid report)) h = tt
+no_warnings Modules text (Ok (Invalid report)) h = tt
+no_warnings format text (Err failed) h = tt
+
+-- Both promises of a report.
+both : (P Q : Report → Type 0) (answer : Result Report AllocError) → IfOk answer P → IfOk answer Q
+    → IfOk answer (λ report. P report × Q report)
+both P Q (Ok report) p q = (p, q)
+both P Q (Err failed) p q = tt
+
 pub returns-in-Module : goal.returns-in-Module
 returns-in-Module c = rw c.in-Module.is (of_document reads_document points_in_module c.args.document.now
     c.check_document.result (rw c.in-Ok.ensures.cases.0 at c.check_document.ensures.report))
