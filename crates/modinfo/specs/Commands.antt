@@ -73,7 +73,7 @@ has_words command name words = bytes_eq name (name_of command)
     && (are_among words (allowed_words command)
     && (are_distinct words && has_strictness command words)))
 
--- The command with a number, if there is one. No number stands for a strict check.
+-- The command with a number, if there is one. A strict check has no number.
 abbrev pub command_at : ℕ → Option Command
 command_at number =
     if number == 0 then Some (Answer Module)

@@ -102,7 +102,7 @@ IsNoTextInfo document fault = IsNoText document fault
 abbrev pub IsSourceDocument : List ℕ → Type 0
 IsSourceDocument document = (text : SourceText) × IsTextIn document text × CanBeParsed text
 
--- The media type that a number stands for: 0 for that of the specifier, else its place among all from 1 on.
+-- The media type with a number: 0 for that of the specifier, else its place among all from 1 on.
 unfoldable pub media_type_at : ℕ → Option (Option MediaType)
 media_type_at number =
     if number == 0 then Some None

@@ -35,7 +35,7 @@ pub struct Printed {
 }
 
 impl Command {
-    /// The command with this number, `None` if there is none. No number stands for a strict check.
+    /// The command with this number, `None` if there is none. A strict check has no number.
     pub fn from_number(number: u8) -> Option<Command>
         ensures { result ≡ command_at number }
     {

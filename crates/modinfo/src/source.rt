@@ -127,7 +127,7 @@ fn source_of_text(alloc: Global, text: SourceText) -> Result<ParsedSource, Fault
     Ok(text.into_source(alloc, specifier)?)
 }
 
-/// The media type that a number stands for. `None` inside for that of the specifier.
+/// The media type with this number. `None` inside for that of the specifier.
 #[tactic(auto, unfolding(crate::specs::Source::media_type_at))]
 fn media_type_at(number: u8) -> Option<Option<MediaType>>
     ensures { result ≡ media_type_at number }

@@ -212,10 +212,7 @@ pub extern "C" fn modinfo_analyze_source(
     ensures { IsAnswered (IsInfoLine text.now specifier.now media_type)
         (IsNoInfoLine text.now specifier.now media_type) answer.old answer.new length.new result }
 {
-    match source_line(alloc, text, specifier, media_type) {
-        Ok(line) => put(line.as_bytes(), ANSWERED, answer, length),
-        Err(fault) => put_name(&fault, answer, length),
-    }
+    write_line(source_line(alloc, text, specifier, media_type), answer, length)
 }
 
 /// The information on the module of a text, as JSON with a line feed.
@@ -248,10 +245,11 @@ pub extern "C" fn modinfo_check_source(
     ensures { IsAnswered (IsReportLine text.now specifier.now media_type)
         (AreNoParts text.now specifier.now media_type) answer.old answer.new length.new result }
 {
-    match source_report_line(alloc, text, specifier, media_type) {
-        Ok(line) => put(line.as_bytes(), ANSWERED, answer, length),
-        Err(fault) => put_name(&fault, answer, length),
-    }
+    write_line(
+        source_report_line(alloc, text, specifier, media_type),
+        answer,
+        length,
+    )
 }
 
 /// The report on a text, as JSON with a line feed.
@@ -300,7 +298,16 @@ fn write_result(
     ensures { IsAnswered (IsResultLine command document.now) (IsNoResult command document.now)
         answer.old answer.new length.new result }
 {
-    match command.print_line(alloc, document) {
+    write_line(command.print_line(alloc, document), answer, length)
+}
+
+/// Writes a line, or the name of a fault.
+fn write_line(line: Result<String, Fault>, answer: &mut [u8], length: &mut usize) -> u8
+    ensures { MatchResult line
+        (λ line. IsLeft (string_bytes line) 0 answer.old answer.new length.new result)
+        (λ fault. IsLeft (name_of_fault fault) 1 answer.old answer.new length.new result) }
+{
+    match line {
         Ok(line) => put(line.as_bytes(), ANSWERED, answer, length),
         Err(fault) => put_name(&fault, answer, length),
     }

@@ -1,10 +1,10 @@
-use Rattle.modinfo_c.specs.Call.{answered, faulted}
+use Rattle.modinfo_c.specs.Call.{IsInfoLine, IsNoInfoLine}
+use Rattle.modinfo_c.proofs.LinesWritten.{answer_of}
 use Rattle.modinfo_c.proofs.modinfo_analyze_source.Goals as goal
 
--- The line was written.
-pub returns-in-Ok : goal.returns-in-Ok
-returns-in-Ok c = answered _ c.in-Ok.ensures (rw c.as_bytes.ensures.value at c.put.ensures)
-
--- The name of the fault was written.
-pub returns-in-Err : goal.returns-in-Err
-returns-in-Err c = faulted c.in-Err.fault c.in-Err.ensures c.put_name.ensures
+-- The line is the information.
+pub returns : goal.returns
+returns c =
+    answer_of (IsInfoLine c.args.text.now c.args.specifier.now c.args.media_type)
+    (IsNoInfoLine c.args.text.now c.args.specifier.now c.args.media_type) c.source_line.result _ _ _ _
+    c.source_line.ensures c.write_line.ensures

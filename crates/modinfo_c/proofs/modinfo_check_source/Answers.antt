@@ -1,10 +1,11 @@
-use Rattle.modinfo_c.specs.Call.{answered, faulted}
+use Rattle.modinfo.specs.Source.{AreNoParts}
+use Rattle.modinfo_c.specs.Call.{IsReportLine}
+use Rattle.modinfo_c.proofs.LinesWritten.{answer_of}
 use Rattle.modinfo_c.proofs.modinfo_check_source.Goals as goal
 
--- The line was written.
-pub returns-in-Ok : goal.returns-in-Ok
-returns-in-Ok c = answered _ c.in-Ok.ensures (rw c.as_bytes.ensures.value at c.put.ensures)
-
--- The name of the fault was written.
-pub returns-in-Err : goal.returns-in-Err
-returns-in-Err c = faulted c.in-Err.fault c.in-Err.ensures c.put_name.ensures
+-- The line is the report.
+pub returns : goal.returns
+returns c =
+    answer_of (IsReportLine c.args.text.now c.args.specifier.now c.args.media_type)
+    (AreNoParts c.args.text.now c.args.specifier.now c.args.media_type) c.source_report_line.result _ _ _ _
+    c.source_report_line.ensures c.write_line.ensures

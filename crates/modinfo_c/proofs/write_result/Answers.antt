@@ -1,10 +1,10 @@
-use Rattle.modinfo_c.specs.Call.{answered, faulted}
+use Rattle.modinfo.specs.Run.{IsNoResult}
+use Rattle.modinfo_c.specs.Call.{IsResultLine}
+use Rattle.modinfo_c.proofs.LinesWritten.{answer_of}
 use Rattle.modinfo_c.proofs.write_result.Goals as goal
 
--- The result was written.
-pub returns-in-Ok : goal.returns-in-Ok
-returns-in-Ok c = answered _ c.in-Ok.ensures (rw c.as_bytes.ensures.value at c.put.ensures)
-
--- The name of the fault was written.
-pub returns-in-Err : goal.returns-in-Err
-returns-in-Err c = faulted c.in-Err.fault c.in-Err.ensures c.put_name.ensures
+-- The line is the result.
+pub returns : goal.returns
+returns c =
+    answer_of (IsResultLine c.args.command c.args.document.now) (IsNoResult c.args.command c.args.document.now)
+    c.print_line.result _ _ _ _ c.print_line.ensures c.write_line.ensures
