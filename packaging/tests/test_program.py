@@ -52,9 +52,7 @@ def test_files_that_the_system_makes_up(tmp_path: Path) -> None:
     (tmp_path / "log.js").symlink_to("/proc/kmsg")
     (tmp_path / "a.js").write_text("f();")
     names = ["log.js", "/proc/version", "/proc/self/cwd/a.js", "a.js"]
-    ended = subprocess.run(
-        [PROGRAM, "files", *names], cwd=tmp_path, capture_output=True, timeout=SECONDS, check=False
-    )
+    ended = subprocess.run([PROGRAM, "files", *names], cwd=tmp_path, capture_output=True, timeout=SECONDS, check=False)
     found = [json.loads(line) for line in ended.stdout.splitlines()]
     assert [each.get("fault", {}).get("message") for each in found] == ["in /proc or /sys"] * 2 + [None] * 2
     assert (ended.returncode, ended.stderr) == (1, b"")

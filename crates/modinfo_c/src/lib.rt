@@ -212,7 +212,11 @@ pub extern "C" fn modinfo_analyze_source(
     ensures { IsAnswered (IsInfoLine text.now specifier.now media_type)
         (IsNoInfoLine text.now specifier.now media_type) answer.old answer.new length.new result }
 {
-    write_line(source_line(alloc, text, specifier, media_type), answer, length)
+    write_line(
+        source_line(alloc, text, specifier, media_type),
+        answer,
+        length,
+    )
 }
 
 /// The information on the module of a text, as JSON with a line feed.
