@@ -21,6 +21,9 @@ use Rattle.std.proofs.Common.{
   Err,
   is_ok,
   true,
+  false,
+  codes,
+  if◌then◌else◌,
   unwrap_or,
   refl,
   sym,
@@ -32,8 +35,8 @@ use Rattle.std.specs.Io.KnownBytes.{Appends}
 use Rattle.std.proofs.KnownBytes.{Appends-trans}
 use Rattle.std.proofs.Math.Seq.{take-append-add}
 use Rattle.std.proofs.lemmas.List.{take_all}
-use Rattle.modinfo.specs.Fault.{IsWriteFault}
-use Rattle.modinfo.specs.Run.{AppendsFront}
+use Rattle.modinfo.specs.Fault.{IsWriteFault, is_closed, name_of_fault}
+use Rattle.modinfo.specs.Run.{AppendsFront, error_line}
 use Rattle.modinfo.specs.declared.fault.Fault.{Fault}
 
 -- A beginning of the first text is a beginning of both.
@@ -79,6 +82,17 @@ pub whole_of_result : {A : Type 0} (written : Result A Fault) (a b : Option (Lis
     → Appends a b xs
 whole_of_result (Ok _) a b xs is whole = whole
 whole_of_result (Err fault) a b xs is failed = cc (is)
+
+-- The line of a fault, by whether the reader of the output ended.
+
+pub line_of_closed : (fault : Fault) → is_closed fault ≡ true → error_line fault ≡ []
+line_of_closed fault closed =
+    ap (λ is. if is then [] else codes "modinfo: " ++ name_of_fault fault ++ codes "\n") closed
+
+pub line_of_fault : (fault : Fault) → is_closed fault ≡ false
+    → error_line fault ≡ codes "modinfo: " ++ name_of_fault fault ++ codes "\n"
+line_of_fault fault apart =
+    ap (λ is. if is then [] else codes "modinfo: " ++ name_of_fault fault ++ codes "\n") apart
 
 -- The bytes if they are known, else none.
 pub known_or_none : (known : Option (List ℕ)) → IfSome known (λ left. unwrap_or known [] ≡ left)

@@ -1,9 +1,23 @@
 -- When a report on a document of `convert`, of `reach` or of `analyze --source` is right.
-use Rattle.std.specs.Prelude.{◌≡◌, ◌≢◌, ◌⊎◌, ℕ, List, codes, MatchOption, None, Some, false}
+use Rattle.std.specs.Prelude.{
+  ◌≡◌,
+  ◌≢◌,
+  ◌⊎◌,
+  ℕ,
+  List,
+  codes,
+  IfSome,
+  IsSomeAnd,
+  MatchOption,
+  None,
+  Some,
+  false,
+}
 use Rattle.std.specs.String.{string_bytes}
 use Rattle.serde_json.specs.Data.{Data}
 use Rattle.serde_json.specs.Read.{read as read_text}
 use Rattle.serde_json.specs.Written.{has_float}
+use Rattle.deno_graph_base.specs.Position.{IsAt}
 use Rattle.deno_graph_base.specs.TextMap.{value_at}
 use Rattle.deno_graph_info.specs.Conversion.{IsConverted, IsConvertFault}
 use Rattle.deno_graph_info.specs.FaultName.{convert_fault_name, info_fault_name}
@@ -13,7 +27,8 @@ use Rattle.deno_graph_info.specs.declared.analysis.module_info.ModuleInfo.{Modul
 use Rattle.deno_graph_info.specs.declared.conversion.fault.ConvertFault.{ConvertFault}
 use Rattle.deno_graph_info.specs.declared.conversion.fault.ConvertFault.TheVariants as convert
 use Rattle.modinfo_document.specs.ExpectedJson.{HasJsonPlace}
-use Rattle.modinfo_document.specs.Report.{HasNone, HasOnly, HasTextPlace, IsNamed, PointsInto}
+use Rattle.modinfo_document.specs.Place.{specifier_path}
+use Rattle.modinfo_document.specs.Report.{HasNone, HasOnly, HasPath, HasTextPlace, IsNamed, PointsInto}
 use Rattle.modinfo_document.specs.declared.report.FaultReport.{FaultReport}
 use Rattle.modinfo_document.specs.declared.report.Report.{Report}
 use Rattle.modinfo_document.specs.declared.report.Report.TheVariants.{Valid, Invalid}
@@ -23,7 +38,7 @@ use Rattle.modinfo.specs.Fault.{name_of_fault}
 use Rattle.modinfo.specs.Reach.{Asks, IsQuestionFault}
 use Rattle.modinfo.specs.Source.{CanBeParsed, IsNoInfoOfText, reads_text}
 use Rattle.modinfo.specs.declared.fault.Fault.{Fault}
-use Rattle.modinfo.specs.declared.fault.Fault.TheVariants.{OutOfMemory}
+use Rattle.modinfo.specs.declared.fault.Fault.TheVariants.{OutOfMemory, Specifier, Syntax}
 use Rattle.modinfo.specs.declared.source.SourceText.{SourceText}
 
 -- The first holds where the report is `Valid`, the second of the report on a fault.
@@ -112,12 +127,26 @@ WarnsOfQuestion text (Valid warnings) = (value : Data) × (read_text text ≡ So
     × WarnsOfModules value (Valid warnings)
 WarnsOfQuestion text (Invalid report) = Unit {0}
 
--- The text can't be parsed, and the report has the name of its fault.
+-- The report has the pointer of the source of a document, no range, and only a place that the text has.
+pub record HasSyntaxPlace (text : List ℕ) (report : FaultReport) : Type 0 where
+  pub pointer : IsSomeAnd report.pointer (λ pointer. string_bytes pointer ≡ codes "/source")
+  pub other : report.other ≡ None
+  pub range : report.range ≡ None
+  pub at : IfSome report.at (λ at. IsAt text at.position at.offset)
+
+-- The report has the place of the fault: of a bad specifier the specifier, of a syntax error the source.
+abbrev pub HasUnparsedPlace : SourceText → Fault → FaultReport → Type 0
+HasUnparsedPlace text Specifier report = HasPath specifier_path report
+HasUnparsedPlace text Syntax report = HasSyntaxPlace text.source report
+HasUnparsedPlace text fault report = Unit {0}
+
+-- The text can't be parsed, and the report has the name and the place of its fault.
 pub record ReportsUnparsed (text : SourceText) (report : FaultReport) : Type 0 where
   pub fault : Fault
   pub no_memory : fault ≢ OutOfMemory
   pub has_fault : IsNoInfoOfText text fault
   pub name : IsNamed (name_of_fault fault) report
+  pub place : HasUnparsedPlace text fault report
 
 -- `Valid` is returned only for a text that can be parsed, `Invalid` only with a fault of the text.
 abbrev pub ReportsOnText : SourceText → Report → Type 0

@@ -1,9 +1,10 @@
 //! Checking documents of `analyze --source`.
 
 ghost use Rattle.std.specs.Prelude.{IfOk};
+ghost use Rattle.std.specs.Rc.{rc_str_bytes};
 ghost use Rattle.deno_graph_json.specs.Data.{data_of};
 ghost use Rattle.modinfo_document.specs.Report.{IsNamed};
-ghost use Rattle.modinfo.specs.Check.{HasParsedText, IsSourceFaultReport, IsTextFaultReport, OfReport, ReportsOnText};
+ghost use Rattle.modinfo.specs.Check.{HasParsedText, HasSyntaxPlace, IsSourceFaultReport, IsTextFaultReport, OfReport, ReportsOnText};
 ghost use Rattle.modinfo.specs.Fault.{name_of_fault};
 ghost use Rattle.modinfo.specs.Source.{IsSourceDocument};
 
@@ -74,7 +75,8 @@ fn syntax_report(
     source: RcStr,
     diagnostic: &ParseDiagnostic,
 ) -> Result<FaultReport, AllocError>
-    ensures { IfOk result (IsNamed (name_of_fault Fault.Syntax)) }
+    ensures name { IfOk result (IsNamed (name_of_fault Fault.Syntax)) }
+    ensures place { IfOk result (HasSyntaxPlace (rc_str_bytes source)) }
 {
     let fault = String::from_str(alloc, Fault::Syntax.name())?;
     let pointer = String::from_str(alloc, "/source")?;

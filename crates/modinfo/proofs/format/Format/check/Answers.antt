@@ -1,4 +1,4 @@
-use Rattle.std.proofs.Common.{ℕ, List, Option, Result, Ok, Err, IfOk, IsUtf8, inr, ◌⊎◌}
+use Rattle.std.proofs.Common.{ℕ, List, Option, Result, Ok, Err, IfOk, IsUtf8, inl, inr, ◌⊎◌}
 use Rattle.serde_json.specs.Data.{Data}
 use Rattle.std.specs.declared.alloc.AllocError.{AllocError}
 use Rattle.modinfo_document.specs.declared.report.FaultReport.{FaultReport}
@@ -13,7 +13,9 @@ use Rattle.modinfo_document.specs.Check.{
   points_nowhere,
 }
 use Rattle.modinfo_document.specs.Document.{Contents, reads_document}
+use Rattle.modinfo_document.specs.Spelling.{WarnsOfLiterals}
 use Rattle.modinfo_estree.specs.Document.{reads_estree}
+use Rattle.modinfo.specs.Answer.{IsReportOn, WarnsOf}
 use Rattle.modinfo.specs.Check.{
   IsConvertibleText,
   IsQuestionFaultReport,
@@ -22,8 +24,11 @@ use Rattle.modinfo.specs.Check.{
   IsStoredFaultReport,
   OfReport,
   ReportsEncoding,
+  WarnsOfQuestion,
 }
 use Rattle.modinfo.specs.Source.{IsSourceDocument}
+use Rattle.modinfo.specs.declared.format.Format.{Format}
+use Rattle.modinfo.specs.declared.format.Format.TheVariants.{Module, Estree, Source, Stored, Modules}
 use Rattle.modinfo.proofs.format.Format.check.Goals as goal
 
 -- The report says that the bytes aren't UTF-8.
@@ -46,17 +51,20 @@ of_text WhenValid WhenFaulty text (Ok (Valid warnings)) h = h
 of_text WhenValid WhenFaulty text (Ok (Invalid report)) h = inr h
 of_text WhenValid WhenFaulty text (Err failed) h = tt
 
--- No warning is promised of a report with a fault, nor of these formats.
+-- No warning is promised of a report with a fault.
+no_warnings : (format : Format) (text : List ℕ) (report : FaultReport) → WarnsOf format text (Invalid report)
+no_warnings Module text report = tt
+no_warnings Estree text report = tt
+no_warnings Source text report = tt
+no_warnings Stored text report = tt
+no_warnings Modules text report = tt
 
-no_warnings : (format : Format) (text : List ℕ) (answer : Result Report AllocError)
-    → IfOk answer (OfReport ⊥ (IsOfEncoding text)) → IfOk answer (WarnsOf format text)
-no_warnings format text (Ok (Valid warnings)) h = absurd h
-no_warnings Module text (Ok (Invalid report)) h = tt
-no_warnings Estree text (Ok (Invalid report)) h = tt
-no_warnings Source text (Ok (Invalid report)) h = tt
-no_warnings Stored text (Ok (Invalid report)) h = tt
-no_warnings Modules text (Ok (Invalid report)) h = tt
-no_warnings format text (Err failed) h = tt
+-- Bytes that aren't UTF-8 have the report on that.
+of_encoding : (format : Format) (text : List ℕ) (answer : Result Report AllocError) → ¬ IsUtf8 text
+    → IfOk answer (OfReport ⊥ (ReportsEncoding text)) → IfOk answer (IsReportOn format text)
+of_encoding format text (Ok (Valid warnings)) other h = absurd h
+of_encoding format text (Ok (Invalid report)) other h = (inl (other, h), no_warnings format text report)
+of_encoding format text (Err failed) other h = tt
 
 -- Both promises of a report.
 both : (P Q : Report → Type 0) (answer : Result Report AllocError) → IfOk answer P → IfOk answer Q
@@ -64,28 +72,50 @@ both : (P Q : Report → Type 0) (answer : Result Report AllocError) → IfOk an
 both P Q (Ok report) p q = (p, q)
 both P Q (Err failed) p q = tt
 
+-- A report of which no warning is promised.
+alone : (P : Report → Type 0) (answer : Result Report AllocError) → IfOk answer P
+    → IfOk answer (λ report. P report × Unit {0})
+alone P (Ok report) p = (p, tt)
+alone P (Err failed) p = tt
+
+pub returns-in-Err : goal.returns-in-Err
+returns-in-Err c =
+    of_encoding c.args.self c.args.document.now c.report_invalid_utf8.result c.in-Err.ensures.cases.0
+    c.report_invalid_utf8.ensures
+
 pub returns-in-Module : goal.returns-in-Module
-returns-in-Module c = rw c.in-Module.is (of_document reads_document points_in_module c.args.document.now
-    c.check_document.result (rw c.in-Ok.ensures.cases.0 at c.check_document.ensures.report))
+returns-in-Module c =
+    let text = c.args.document.now in
+    rw c.in-Module.is (both _ (WarnsOfLiterals text) c.check_document.result
+    (of_document reads_document points_in_module text c.check_document.result
+    (rw c.in-Ok.ensures.cases.0 at c.check_document.ensures.report))
+    (rw c.in-Ok.ensures.cases.0 at c.check_document.ensures.warnings))
 
 pub returns-in-Estree : goal.returns-in-Estree
-returns-in-Estree c = rw c.in-Estree.is (of_document reads_estree points_nowhere c.args.document.now
-    c.check_estree.result (rw c.in-Ok.ensures.cases.0 at c.check_estree.ensures.report))
+returns-in-Estree c =
+    let text = c.args.document.now in
+    rw c.in-Estree.is (alone _ c.check_estree.result
+    (of_document reads_estree points_nowhere text c.check_estree.result
+    (rw c.in-Ok.ensures.cases.0 at c.check_estree.ensures.report)))
 
 pub returns-in-Source : goal.returns-in-Source
 returns-in-Source c =
     let text = c.args.document.now in
-    rw c.in-Source.is (of_text (IsSourceDocument text) (IsSourceFaultReport text) text c.check_source.result
-    (rw c.in-Ok.ensures.cases.0 at c.check_source.ensures))
+    rw c.in-Source.is (alone _ c.check_source.result
+    (of_text (IsSourceDocument text) (IsSourceFaultReport text) text c.check_source.result
+    (rw c.in-Ok.ensures.cases.0 at c.check_source.ensures)))
 
 pub returns-in-Stored : goal.returns-in-Stored
 returns-in-Stored c =
     let text = c.args.document.now in
-    rw c.in-Stored.is (of_text (IsConvertibleText text) (IsStoredFaultReport text) text c.check_stored.result
-    (rw c.in-Ok.ensures.cases.0 at c.check_stored.ensures))
+    rw c.in-Stored.is (alone _ c.check_stored.result
+    (of_text (IsConvertibleText text) (IsStoredFaultReport text) text c.check_stored.result
+    (rw c.in-Ok.ensures.cases.0 at c.check_stored.ensures)))
 
 pub returns-in-Modules : goal.returns-in-Modules
 returns-in-Modules c =
     let text = c.args.document.now in
-    rw c.in-Modules.is (of_text (IsQuestionText text) (IsQuestionFaultReport text) text c.check_modules.result
-    (rw c.in-Ok.ensures.cases.0 at c.check_modules.ensures))
+    rw c.in-Modules.is (both _ (WarnsOfQuestion text) c.check_modules.result
+    (of_text (IsQuestionText text) (IsQuestionFaultReport text) text c.check_modules.result
+    (rw c.in-Ok.ensures.cases.0 at c.check_modules.ensures.report))
+    (rw c.in-Ok.ensures.cases.0 at c.check_modules.ensures.warnings))
