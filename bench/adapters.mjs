@@ -10,7 +10,10 @@
  *   --rounds N     how often each tool runs, of which the fastest counts; else 3
  *   --folder PATH  the folder of the files; else /usr/share/nodejs, where Debian's packages are
  *
- * The environment variable MODINFO names the program; else it is build/modinfo.
+ * The environment variable MODINFO names the program; else it is build/modinfo. Times are from the
+ * start of a process to its end: of TypeScript's parser alone, with the adapter's options; of
+ * files.mjs; of ts.preProcessFile, TypeScript's scanner; of es-module-lexer; and of esbuild with
+ * --bundle=false --metafile, in as many threads as it likes.
  */
 
 import { spawnSync } from "node:child_process";

@@ -7,7 +7,13 @@ example: bench/adapters_setup && ./modinfo --prove && bench/modules.py --files 5
   --files N   files of Debian's node packages, evenly spread over all in the order of their paths; else all
   --sample N  how many modules of each class of sizes are measured; else 1000
 
-Prints a table with a row for each class of sizes and one for the mix.
+Makes a document of each file by TypeScript's parser (bindings/node/tests/equipment). Prints a table of means,
+with a row for each class of sizes and one for the mix. Needs valgrind, /usr/bin/time and Python 3.11.
+
+  instructions  of `modinfo analyze --lines` by callgrind, less those for no lines
+  analysis      its processor time, the fastest of five runs
+  MB held       the most memory at once, for all lines
+  parser        processor time in a warm process: two passes over the files less one
 """
 
 import argparse

@@ -9,6 +9,16 @@
  *   --program FILE  another report.mjs, as that of an older clone
  *   FOLDER          a folder, or a page that is made already, whose name ends in .html, with an
  *                   address in it after `#`
+ *
+ * Opens each page five times in a new headless Chromium, moves the pointer over 20 nodes and types
+ * nine keys into the filter.
+ *
+ *   made in, memory  of the command, without the processes of modinfo
+ *   opens in         from the address to the drawn graph; longest task: the page's, in processor
+ *                    time until then
+ *   key              from a key to the picture that it changes, the longest of nine, in steps of
+ *                    8 ms; its script: the part in the page's script
+ *   at the nodes     processor time of the longest task while the pointer moves
  */
 
 import { spawn } from "node:child_process";
