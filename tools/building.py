@@ -115,6 +115,20 @@ def end_at_signals() -> None:
             signal.signal(number, end)
 
 
+def let_signals_through() -> None:
+    signal.pthread_sigmask(signal.SIG_UNBLOCK, ENDING_SIGNALS)
+
+
+@contextmanager
+def signals_held() -> Iterator[None]:
+    """Holds signals back until the end of the block. A process that is started in it needs `let_signals_through`."""
+    try:
+        signal.pthread_sigmask(signal.SIG_BLOCK, ENDING_SIGNALS)
+        yield
+    finally:
+        let_signals_through()
+
+
 @contextmanager
 def staged() -> Iterator[None]:
     """A folder for what isn't finished. It is removed at the end, also where a signal ends the script."""
@@ -278,9 +292,17 @@ class Build:
         print(f"{self._script}: building {step}", file=sys.stderr, flush=True)
         stamp_of(crate).unlink(missing_ok=True)
         command = ["nice", "-n", str(niceness), *prover(self._kit, self._closure, crate, jobs, target=self._target)]
-        with open(log_of(crate), "wb") as log:
-            process = subprocess.Popen(command, cwd=crate.folder, stdin=subprocess.DEVNULL, stdout=log, stderr=log)
-        self._running[process.pid] = (crate, process, jobs)
+        # A signal between the two steps would leave a process that `_end_all` doesn't know.
+        with open(log_of(crate), "wb") as log, signals_held():
+            process = subprocess.Popen(
+                command,
+                cwd=crate.folder,
+                stdin=subprocess.DEVNULL,
+                stdout=log,
+                stderr=log,
+                preexec_fn=let_signals_through,
+            )
+            self._running[process.pid] = (crate, process, jobs)
         self._idle -= jobs
 
     def _end_crate(self) -> None:
