@@ -67,10 +67,12 @@ class Machine:
         return run(*command, folder=folder, **self.environment)
 
     def run_sh(self, source: Path) -> str:
+        """Runs it beside a program ./modinfo, as a clone has it."""
         if "acorn" in source.read_text():
             need("node")
             if not ACORN.exists():
                 pytest.skip(f"{ACORN} isn't installed")
+        (source.parent / "modinfo").symlink_to(self.environment["MODINFO"])
         return self.run("sh", "-eu", source, folder=source.parent)
 
     def run_c(self, source: Path) -> str:
