@@ -117,14 +117,18 @@ fn stored_information() {
     assert!(count > 10, "{count}");
 }
 
-#[test]
-fn a_column_that_is_too_large() {
-    let range = json!([[0, u64::MAX], [0, 25]]);
+/// Asserts that a dependency stays as it is where its comment has this range.
+fn expect_no_conversion(range: Value) {
     let comment = json!({"text": " @deno-types=\"./a.d.ts\"", "range": range});
     let mut value = json!({"dependencies": [{"leadingComments": [comment]}]});
     let before = value.clone();
     module_graph_1_to_2(&mut value);
     assert_eq!(value, before);
+}
+
+#[test]
+fn a_column_that_is_too_large() {
+    expect_no_conversion(json!([[0, u64::MAX], [0, 25]]));
 }
 
 /// Numbers that aren't whole are of no consequence outside the positions.
@@ -137,11 +141,7 @@ fn stored_information_with_floats() {
     let types = json!({"text": "./a.d.ts", "range": [[0, 15], [0, 25]]});
     let wanted = json!({"y": 0.5, "dependencies": [{"z": 0.5, "typesSpecifier": types}]});
     assert_eq!(value, wanted);
-    let comment = json!({"text": " @deno-types=\"./a.d.ts\"", "range": [[0, 0.5], [0, 25]]});
-    let mut value = json!({"dependencies": [{"leadingComments": [comment]}]});
-    let before = value.clone();
-    module_graph_1_to_2(&mut value);
-    assert_eq!(value, before);
+    expect_no_conversion(json!([[0, 0.5], [0, 25]]));
 }
 
 #[test]
