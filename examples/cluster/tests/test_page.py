@@ -19,7 +19,7 @@ def test_the_page_s_commands(tmp_path: Path) -> None:
     (tmp_path / "build").mkdir()
     for name in "examples", "build/cluster":
         (tmp_path / name).symlink_to(ROOT / name)
-    (tmp_path / "build/modinfo").symlink_to(MODINFO)
+    (tmp_path / "modinfo").symlink_to(MODINFO)
     (tmp_path / "src").mkdir()
     for path in (ROOT / "examples").glob("*.*s"):
         shutil.copy(path, tmp_path / "src")
