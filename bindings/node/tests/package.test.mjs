@@ -2,6 +2,7 @@
 
 import assert from "node:assert/strict";
 import { spawnSync } from "node:child_process";
+import { createHash } from "node:crypto";
 import {
   chmodSync, existsSync, mkdirSync, readFileSync, readdirSync, symlinkSync, writeFileSync,
 } from "node:fs";
@@ -357,6 +358,43 @@ describe("the package and that of its program", { skip: noNpm && "npm isn't ther
     assert.deepEqual([String(stderr), String(stdout)], ["", block("text")]);
     const files = run(join(folder, "node_modules/.bin/modinfo-files"), ["src"], "");
     assert.deepEqual(linesOf(String(files.stdout)).map(({ info }) => info), [INFO]);
+  });
+
+  test("the package of the program has the stamp beside the program, and no stamp of other bytes", () => {
+    const program = standInWithVersion();
+    const stamp = `${program}.origin`;
+    const inPackage = (/** @type {string} */ folder, /** @type {string} */ name) => {
+      const [, tarball] = pack(program, folder);
+      const path = outputOf("tar", ["--list", "--gzip", "--file", tarball], { cwd: folder }).split("\n")
+        .find((each) => each === `package/${name}`);
+      return path && outputOf("tar", ["--extract", "--to-stdout", "--file", tarball, path], { cwd: folder });
+    };
+    assert.equal(inPackage(folderOf(), "modinfo"), readFileSync(program, "utf8"));
+    assert.equal(inPackage(folderOf(), "modinfo.origin"), undefined);
+    const bytes = createHash("sha256").update(readFileSync(program)).digest("hex");
+    for (const kind of ["proved", "unchecked"]) {
+      writeFileSync(stamp, `${kind}\nsources 0\nfile ${bytes}\n`);
+      assert.equal(inPackage(folderOf(), "modinfo.origin"), `${kind}\nsources 0\nfile ${bytes}\n`);
+    }
+    writeFileSync(stamp, `proved\nsources 0\nfile ${"0".repeat(64)}\n`);
+    const folder = folderOf();
+    const { stderr, status } = spawnSync(join(PACKAGE, "pack"), ["--program", program, folder]);
+    assert.deepEqual([String(stderr), status], [`bindings/node/pack: ${stamp} is the stamp of another program\n`, 1]);
+    assert.deepEqual(readdirSync(folder), []);
+  });
+
+  const stampOf = `${MODINFO}.origin`;
+  const notStamped = (!existsSync(stampOf) && `${MODINFO} has no stamp`) || notBuilt;
+
+  test("the installed program has the stamp of the build, which is of its bytes", { skip: notStamped }, () => {
+    const folder = folderOf();
+    npm(["install", ...pack(MODINFO, folder)], folder);
+    const installed = join(folder, "node_modules/modinfo-linux-x64");
+    const [kind, sources, file] = readFileSync(join(installed, "modinfo.origin"), "utf8").split("\n");
+    assert.match(kind, /^(?:proved|unchecked)$/);
+    assert.match(sources, /^sources [0-9a-f]{64}$/);
+    const bytes = createHash("sha256").update(readFileSync(join(installed, "modinfo"))).digest("hex");
+    assert.equal(file, `file ${bytes}`);
   });
 
   test("a program of another version, and none, are refused", () => {
