@@ -113,10 +113,11 @@ test("the position of a syntax error is the character there, or the end of its l
   };
   assert.deepEqual(markAt("let a = ;", 1, 9), [[8, ";"]]);
   assert.deepEqual(markAt("a;\r\n😀 b\n", 2, 1), [[4, "😀"]]);
-  assert.deepEqual(markAt("a;\u2028b )", 2, 3), [[5, ")"]]);
+  assert.deepEqual(markAt("a;\u2028b )", 1, 6), [[5, ")"]]);
+  assert.deepEqual(markAt("a;\rb;\n😀 )", 2, 3), [[9, ")"]]);
   assert.deepEqual(markAt("a;\n(", 2, 2), [[4, ""]]);
   assert.deepEqual(markAt("(\r\nb", 1, 2), [[1, ""]]);
-  assert.deepEqual(faultMarks("a", { fault: "Depth", message: "" }), []);
+  assert.deepEqual(faultMarks("a", { fault: "Input", message: "" }), []);
 });
 
 /**

@@ -9,7 +9,7 @@
  *   position of a syntax error, which has the row -1
  */
 
-import { Offsets, faultRange } from "./offsets.mjs";
+import { Offsets } from "./offsets.mjs";
 
 /**
  * @param {string} text
@@ -34,9 +34,15 @@ export function marksOf(text, rows) {
 /**
  * @param {string} text
  * @param {import("../runtime/faults.mjs").Fault} fault
- * @returns {Mark[]} the position of a syntax error; none for other faults
+ * @returns {Mark[]} the character at the position of a syntax error, nothing at the end of a line; none for other
+ *   faults
+ * @throws {RangeError} the text has no such position
  */
-export function faultMarks(text, fault) {
-  const range = faultRange(text, fault);
-  return range ? [{ from: range[0], to: range[1], row: -1, kind: "fault" }] : [];
+export function faultMarks(text, { line, column = 1 }) {
+  if (line === undefined) {
+    return [];
+  }
+  const from = new Offsets(text).find([line - 1, column - 1]);
+  const [character] = /^.?/u.exec(text.slice(from, from + 2)) ?? [""];
+  return [{ from, to: from + character.length, row: -1, kind: "fault" }];
 }

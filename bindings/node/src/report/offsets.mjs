@@ -1,8 +1,5 @@
 /** Offsets of positions in a text. */
 
-/** How TypeScript and the faults of the adapters count lines. */
-const LINE_BREAK = /\r\n|[\n\r\u2028\u2029]/gu;
-
 /**
  * Finds the offset of a position, as a `ModuleInfo` has it: lines end at U+000A, and characters are
  * Unicode code points. Ascending positions are found quickest.
@@ -51,23 +48,4 @@ export class Offsets {
     const isAfter = this.#last.line === line && this.#last.character <= character;
     return isAfter ? this.#last : { line, character: 0, offset: this.#starts[line] };
   }
-}
-
-/**
- * Returns the range of the character at a fault's position.
- * @param {string} text
- * @param {{ line?: number, column?: number }} fault counted from one, its characters code points
- * @returns {[number, number] | undefined} offsets, equal at the end of a line; none without a position
- */
-export function faultRange(text, { line, column = 1 }) {
-  if (!line) {
-    return undefined;
-  }
-  const breaks = [...text.matchAll(LINE_BREAK)];
-  const before = breaks[line - 2];
-  const start = before ? Number(before.index) + before[0].length : 0;
-  const end = breaks[line - 1]?.index ?? text.length;
-  const characters = [...text.slice(start, end)];
-  const from = start + characters.slice(0, column - 1).join("").length;
-  return [from, from + (characters[column - 1]?.length ?? 0)];
 }
