@@ -1,7 +1,7 @@
 /** Which files paths name. */
 
 import assert from "node:assert/strict";
-import { chmodSync, symlinkSync } from "node:fs";
+import { chmodSync, realpathSync, symlinkSync } from "node:fs";
 import { join, relative } from "node:path";
 import { Readable } from "node:stream";
 import { test } from "node:test";
@@ -58,7 +58,17 @@ test("other paths are taken as they are, in their order", async () => {
   const [none, ...found] = await all(findFiles(paths, {}));
   const file = join(folder, "a.js");
   assert.deepEqual([none.path, none.error?.message], [paths[0], "no such file or folder"]);
-  assert.deepEqual(found, [{ path: file }, { path: file }]);
+  assert.deepEqual(found, [{ path: file, real: realpathSync(file) }, { path: file }]);
+});
+
+test("a file of a folder has its path without links, a link has none", async () => {
+  const folder = folderOf({ "a/b.js": "" });
+  symlinkSync("a", join(folder, "link"));
+  symlinkSync("b.js", join(folder, "a/c.js"));
+  const found = await all(findFiles([join(folder, "link")], {}));
+  assert.deepEqual(found.map(({ path, real }) => [path, real]), [
+    [join(folder, "link/b.js"), join(realpathSync(folder), "a/b.js")], [join(folder, "link/c.js"), undefined],
+  ]);
 });
 
 test("a folder that can't be read is reported, and the others are read", async () => {

@@ -195,9 +195,11 @@ test("--why prints a shortest way, --dependents who leads to a file", () => {
 
 test("--dot and --mermaid draw the graph", () => {
   const folder = folderOf({ 'a "b".js': `import "./c.js"; import("./c.js");`, "c.js": "" });
-  assert.deepEqual(lines(["--dot", "."], folder), [
-    "digraph modules {", "  rankdir=LR;", "  node [shape=box];", String.raw`  "a \"b\".js";`, `  "c.js";`,
-    String.raw`  "a \"b\".js" -> "c.js";`, String.raw`  "a \"b\".js" -> "c.js" [style=dashed, label=dynamic];`, "}",
+  const [first, second, ...others] = lines(["--dot", "."], folder);
+  assert.deepEqual([first, second], ["digraph modules {", "  rankdir=LR;"]);
+  assert.deepEqual(others.slice(-5), [
+    String.raw`  m0 [label="a \"b\".js"];`, `  m1 [label="c.js"];`, `  m0 -> m1 [color="#0b5fb4", style=solid];`,
+    `  m0 -> m1 [color="#b33f00", style=dashed, label=dynamic];`, "}",
   ]);
   assert.deepEqual(lines(["--mermaid", "."], folder), [
     "flowchart LR", `  m0["a #34;b#34;.js"]`, `  m1["c.js"]`, "  m0 --> m1", "  m0 -. dynamic .-> m1",

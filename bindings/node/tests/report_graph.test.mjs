@@ -5,7 +5,7 @@ import { spawnSync } from "node:child_process";
 import { test } from "node:test";
 
 import { cyclesOf } from "../src/graph/cycles.mjs";
-import { dotOf, quoted } from "../src/report/dot.mjs";
+import { dotText, quoted } from "../src/graph/pictures.mjs";
 import { Links, countEdges, edgesOf } from "../src/report/links.mjs";
 import { listsOf } from "../src/report/lists.mjs";
 import { outsideOf } from "../src/report/outside.mjs";
@@ -168,6 +168,15 @@ test("a cycle has the lines that make it, those that run rather than those of ty
   ]]);
 });
 
+/**
+ * The text for Graphviz.
+ * @param {string[]} names of modules
+ * @param {Edge[]} between
+ */
+function dotOf(names, between) {
+  return dotText([...names.keys()], between, (module) => names[module]);
+}
+
 test("labels are texts to Graphviz, whatever they have in them", () => {
   assert.equal(quoted(`a"b\\N&lt;\n`), `"a\\"b\\\\N&amp;lt;\ufffd"`);
   assert.ok(dotOf([`"] ; evil [label="`], []).includes(`m0 [label="\\"] ; evil [label=\\""];`));
@@ -178,7 +187,7 @@ test("the text for Graphviz has each node and each edge once", () => {
   assert.equal(lines[0], "digraph modules {");
   assert.ok(lines.includes(`m0 [label="a.js"];`));
   assert.equal(lines.filter((line) => /^m0 -> m1 \[color="#[0-9a-f]{6}", style=solid\];$/.test(line)).length, 1);
-  assert.ok(lines.some((line) => /^m1 -> m0 \[color="#[0-9a-f]{6}", style=dashed\];$/.test(line)));
+  assert.ok(lines.some((line) => /^m1 -> m0 \[color="#[0-9a-f]{6}", style=dashed, label=dynamic\];$/.test(line)));
 });
 
 const hasDot = spawnSync("dot", ["-V"]).status === 0;

@@ -13,9 +13,9 @@ import { createResolver } from "../graph/resolver.mjs";
 import { PROGRAM_HELP, checkProgram, modinfoPath } from "../runtime/program.mjs";
 import { UsageFault, runProgram, usageOf } from "./common/command_line.mjs";
 import { QUESTIONS, answerQuestion } from "./common/graph_questions.mjs";
-import { CACHE_HELP, ENTRY_HELP, GRAPH_OPTIONS, RESOLUTION_HELP } from "./common/graph_run.mjs";
+import { CACHE_HELP, ENTRY_HELP, GRAPH_OPTIONS, RESOLUTION_HELP, resolverOptions } from "./common/graph_run.mjs";
 import { LINE_HELP, LINE_OPTIONS, runLines } from "./common/read_files.mjs";
-import { writeOutput } from "./common/standard_output.mjs";
+import { OutputLines } from "./common/standard_output.mjs";
 
 /**
  * @typedef {import("./common/read_files.mjs").FileResult} FileResult
@@ -60,17 +60,15 @@ async function main({ values, positionals }) {
   checkWords(values, positionals, question);
   const program = modinfoPath();
   await checkProgram(program);
-  const resolve = {
-    types: Boolean(values.types),
-    tsconfig: values.tsconfig && absolute(values.tsconfig),
-    conditions: values.conditions,
-  };
-  const run = { name: NAME, values, paths: positionals, program, resolve };
+  const run = { name: NAME, values, paths: positionals, program };
   if (question || values.entry || values.json) {
     return answerQuestion(question, run);
   }
-  const resolver = values.resolve ? createResolver(resolve) : undefined;
-  return runLines(run, (result, reporter) => writeInfo(result, reporter, resolver));
+  const resolver = values.resolve ? createResolver(resolverOptions(values)) : undefined;
+  const output = new OutputLines();
+  const status = await runLines(run, (result, reporter) => output.write(lineOf(result, reporter, resolver)));
+  await output.end();
+  return status;
 }
 
 /** @param {any} values @returns {string | undefined} the question that the words ask */
@@ -111,12 +109,12 @@ function checkWords(values, paths, question) {
  * @param {FileResult} result
  * @param {import("./common/read_files.mjs").FileReporter} reporter
  * @param {import("../graph/resolver.mjs").Resolver} [resolver]
+ * @returns {string}
  */
-async function writeInfo({ path, info, fault }, reporter, resolver) {
+function lineOf({ path, info, fault }, reporter, resolver) {
   const specifier = pathToFileURL(path);
   if (info === undefined) {
-    await writeOutput(`${JSON.stringify({ specifier, ...fault })}\n`);
-    return;
+    return `${JSON.stringify({ specifier, ...fault })}\n`;
   }
   let json = String(info);
   if (resolver) {
@@ -125,7 +123,7 @@ async function writeInfo({ path, info, fault }, reporter, resolver) {
     reporter.notice(resolver.takeNotices());
     json = JSON.stringify(value);
   }
-  await writeOutput(`{"specifier":${JSON.stringify(specifier)},"info":${json}}\n`);
+  return `{"specifier":${JSON.stringify(specifier)},"info":${json}}\n`;
 }
 
 await runProgram({

@@ -5,13 +5,13 @@
  *     node bindings/node/src/cli/report.mjs --entry src/main.ts src
  */
 
-import { basename, resolve as absolute } from "node:path";
+import { basename } from "node:path";
 
 import { isReplaceable, placeOf, replaceFile } from "../files/replace_file.mjs";
 import { isReport } from "../files/report_pages.mjs";
+import { dotText, isDot } from "../graph/pictures.mjs";
 import { unledOf, unreachedOf } from "../graph/unreached.mjs";
 import { indexOf, partsOf } from "../report/data.mjs";
-import { dotOf, isDot } from "../report/dot.mjs";
 import { readLibraries } from "../report/libraries.mjs";
 import { Links, edgesOf } from "../report/links.mjs";
 import { listsOf, shownCycles, shownUnreached } from "../report/lists.mjs";
@@ -72,7 +72,8 @@ async function main({ values, positionals }) {
   const links = new Links(project.folder, project.modules);
   const edges = edgesOf(project.modules, links);
   if (dot !== undefined) {
-    await write(dot, dotOf(project.modules.map(({ path }) => path), edges));
+    const numbers = [...project.modules.keys()];
+    await write(dot, dotText(numbers, edges, (module) => project.modules[module].path));
   }
   const found = await listsFor(project, { links, edges, read });
   const libraries = readLibraries();
@@ -130,15 +131,13 @@ function checkInputs(outputs, modules) {
  * @returns {Promise<{ project: { folder: string, modules: Module[] }, read: GraphRun }>}
  */
 async function readProject({ values, program, paths }) {
-  const { types = false, tsconfig, conditions } = values;
-  const resolve = { types, tsconfig: tsconfig && absolute(tsconfig), conditions };
   const project = new Project();
   const onRead = (/** @type {import("../graph/read_graph.mjs").ReadFile} */ result) => {
     if (!result.isLeft) {
       project.add(result);
     }
   };
-  const read = await readRun({ name: NAME, values, paths, program, resolve }, { hasPages: true, onRead });
+  const read = await readRun({ name: NAME, values, paths, program }, { hasPages: true, onRead });
   const isListed = (/** @type {string} */ key) => read.graph.module(key)?.isExcluded !== true;
   return { project: project.finish(paths, isListed), read };
 }

@@ -11,7 +11,7 @@
  * @property {boolean} isSettled whether a later change would have another time
  */
 
-import { createHash } from "node:crypto";
+import crypto from "node:crypto";
 import { mkdirSync, readFileSync, rmdirSync, statSync } from "node:fs";
 import { resolve as absolute } from "node:path";
 import { setTimeout as wait } from "node:timers/promises";
@@ -161,7 +161,10 @@ function stateOf(path) {
 
 /** @param {string | Buffer} content */
 function hashOf(content) {
-  return createHash("sha256").update(content).digest("base64url").slice(0, CHECKSUM_LENGTH);
+  // Node 20.12 and later have a function for it, which takes half the time for a line.
+  const { hash } = /** @type {any} */ (crypto);
+  const sum = hash?.("sha256", content, "base64url") ?? crypto.createHash("sha256").update(content).digest("base64url");
+  return sum.slice(0, CHECKSUM_LENGTH);
 }
 
 /**

@@ -4,6 +4,7 @@ import { execFile } from "node:child_process";
 import { dirname, join, relative, sep } from "node:path";
 import { promisify } from "node:util";
 
+import { foldersOf } from "./find_files.mjs";
 import { globMatcher } from "./globs.mjs";
 
 /** git can't list what it ignores. */
@@ -17,22 +18,27 @@ export class GitFault extends Error {}
  * @property {IsOut} isExcluded whether a file isn't listed
  * @property {IsOut} isIgnored whether it isn't read either
  * @property {IsOut} isKept whether it isn't listed by `exclude` alone
+ * @property {IsOut} isLeftOut whether it is excluded or ignored
  */
 
 /**
  * @param {object} options
  * @param {string[]} [options.exclude] globs of files that aren't listed, as `globMatcher` takes them
  * @param {string[]} [options.ignore] globs of files that aren't read
- * @param {string[]} [options.ignoredIn] folders in whose repositories git decides what isn't listed
+ * @param {boolean} [options.gitignore] whether git decides what isn't listed
+ * @param {string[]} paths in whose repositories git decides
  * @returns {Promise<Exclusions>} rejected with a `GlobFault` or a `GitFault`
  */
-export async function exclusionsOf({ exclude = [], ignore = [], ignoredIn = [] }) {
+export async function exclusionsOf({ exclude = [], ignore = [], gitignore = false }, paths) {
+  const ignoredIn = gitignore ? foldersOf(paths) : [];
   const byGit = new Set((await Promise.all(ignoredIn.map(ignoredBelow))).flat());
   const isOfGit = withFolders((path) => byGit.has(path), byGit.size > 0);
   const [isNamed, isIgnored] = [exclude, ignore].map(matcherOf);
+  const isExcluded = (/** @type {string} */ path) => isNamed(path) || isOfGit(path);
   return {
-    isExcluded: (path) => isNamed(path) || isOfGit(path), isIgnored,
+    isExcluded, isIgnored,
     isKept: (path) => isNamed(path) && !isOfGit(path) && !isIgnored(path),
+    isLeftOut: (path) => isExcluded(path) || isIgnored(path),
   };
 }
 

@@ -1,7 +1,6 @@
 /** Finds the files that paths name. */
 
-import { statSync } from "node:fs";
-import { readdir } from "node:fs/promises";
+import { readdirSync, statSync } from "node:fs";
 import { dirname, join, resolve as absolute, sep } from "node:path";
 
 import { isModule } from "../graph/file_kinds.mjs";
@@ -13,6 +12,7 @@ import { realPath } from "./urls.mjs";
  *
  * @typedef {object} Found
  * @property {string} path
+ * @property {string} [real] the path without links in it, where it was found in a folder
  * @property {Error} [error] why the path can't be read
  * @property {boolean} [isLeft] whether it is a link that is not followed
  * @property {boolean} [isExcluded] whether it is among those that are left out
@@ -100,7 +100,7 @@ async function* filesBelow(folder, options, roots) {
       continue;
     }
     try {
-      todo.push(...await entriesOf(found.path, options, roots));
+      todo.push(...entriesOf(found.path, options, roots));
     } catch (/** @type {any} */ error) {
       yield { path: found.path, error };
     }
@@ -113,10 +113,11 @@ async function* filesBelow(folder, options, roots) {
  * @param {Options} options
  * @param {string[]} roots
  */
-async function entriesOf(folder, options, roots) {
+function entriesOf(folder, options, roots) {
   const { all, follow, isExcluded = () => false, isKept = () => false, pages } = options;
-  const entries = await readdir(folder, { withFileTypes: true });
+  const entries = readdirSync(folder, { withFileTypes: true });
   entries.sort((one, other) => (one.name < other.name ? 1 : -1));
+  const realFolder = realPath(folder);
   const taken = [];
   for (const entry of entries) {
     const path = join(folder, entry.name);
@@ -131,8 +132,10 @@ async function entriesOf(folder, options, roots) {
     } else if (pages && isPage(entry.name) && entry.isFile()) {
       taken.push({ path, isFolder: false, isPage: true });
     } else if (isModule(entry.name) && isRegular(entry, path)) {
-      const isLeft = entry.isSymbolicLink() && !follow && leadsOut(path, roots);
-      taken.push({ path, isFolder: false, ...(isLeft && { isLeft }), ...(isOut && { isExcluded: true }) });
+      const isLink = entry.isSymbolicLink();
+      const isLeft = isLink && !follow && leadsOut(path, roots);
+      const real = isLink || realFolder === undefined ? undefined : join(realFolder, entry.name);
+      taken.push({ path, real, isFolder: false, ...(isLeft && { isLeft }), ...(isOut && { isExcluded: true }) });
     }
   }
   return taken;
@@ -195,6 +198,5 @@ export function isFolder(path) {
  * @returns {string[]} each once
  */
 export function foldersOf(paths) {
-  const named = paths.filter((path) => path !== "-");
-  return [...new Set(named.map((path) => (isFolder(path) ? path : dirname(path))))];
+  return [...new Set(paths.map((path) => (isFolder(path) ? path : dirname(path))))];
 }

@@ -8,8 +8,12 @@ import { matchesPath } from "./wildcards.mjs";
 /** The most globs that the braces of one stand for. */
 const MOST_GLOBS = 1000;
 
-/** A glob that can't be read. */
-export class GlobFault extends Error {}
+export class GlobFault extends Error {
+  /** @param {string} why */
+  constructor(why) {
+    super(`a glob can't be read: ${why}`);
+  }
+}
 
 /**
  * @param {string} glob without a slash it matches a name in any folder, with one a path from the current folder

@@ -1,18 +1,13 @@
 /** Reads files into a graph, for the service. */
 
 import { AnalysisCache } from "../files/analysis_cache.mjs";
-import { exclusionsOf } from "../files/exclusions.mjs";
-import { findFiles, foldersOf } from "../files/find_files.mjs";
 import { checkKnown, readJobs } from "../runtime/call_options.mjs";
 import { ProgramEnd } from "../runtime/errors.cjs";
 import { checkProgram } from "../runtime/program.mjs";
-import { entryPoints } from "./entry_points.mjs";
-import { NamedFiles } from "./named_files.mjs";
+import { readProject } from "./project_graph.mjs";
 import { canonicalUrl } from "./reach.mjs";
-import { readGraph } from "./read_graph.mjs";
 import { RESOLVER_OPTIONS, pathOf, readResolverOptions } from "./resolve_service.mjs";
-import { createResolver } from "./resolver.mjs";
-import { finderOf, unledOf, unreachedOf } from "./unreached.mjs";
+import { unledOf, unreachedOf } from "./unreached.mjs";
 
 /**
  * @typedef {import("./graph.cjs").Graph} Graph
@@ -76,32 +71,17 @@ export function readGraphOptions(options, standard) {
  * @param {import("../index.cjs").Signal} [signal] ends the reading
  * @returns {Promise<Graph>} rejected with an `EntryFault`, a `GlobFault` or a `GitFault`
  */
-export async function graphOf(task, signal) {
-  const { paths, entries, types, dynamic, all, jobs, resolve, program } = task;
+export async function graphOf({ cache: place, ...task }, signal) {
+  const { paths, program } = task;
   await checkProgram(program).catch(({ message }) => {
     throw new ProgramEnd(message);
   });
-  const { exclude, ignore, gitignore } = task;
-  const ignoredIn = gitignore ? foldersOf([...paths, ...entries]) : [];
-  const exclusions = await exclusionsOf({ exclude, ignore, ignoredIn });
-  const resolver = createResolver(task.resolver);
-  const find = finderOf(resolver);
-  const { files } = await entryPoints(entries, find);
-  const { isExcluded, isIgnored, isKept } = exclusions;
-  const isLeft = (/** @type {string} */ path) => isExcluded(path) || isIgnored(path);
-  const search = { all, roots: paths };
-  const named = new NamedFiles(
-    findFiles(paths, { ...search, isExcluded: isLeft, isKept, pages: true }), findFiles(files, search),
-  );
-  const cache = task.cache === undefined ? undefined : new AnalysisCache(task.cache, program);
-  const onRead = async () => signal?.throwIfAborted();
-  const graph = await readGraph(named, {
-    program, signal, resolver, jobs, types, dynamic, all, cache, resolve, onRead, isExcluded, isIgnored,
-    follow: files.length > 0,
+  const cache = place === undefined ? undefined : new AnalysisCache(place, program);
+  const { graph, named, ...project } = await readProject({
+    ...task, roots: paths, pages: true, cache, signal, onRead: () => signal?.throwIfAborted(),
   });
   await cache?.save();
-  const { keys, pages } = named;
-  return new FileGraph(graph, keys, { entries: files.map(canonicalUrl), pages, isIgnored, find, program });
+  return new FileGraph(graph, named, project);
 }
 
 /**

@@ -17,12 +17,13 @@ const canonical = new Map();
 /**
  * The URL of a file without symbolic links in it.
  * @param {string} path absolute
+ * @param {string} [real] the path without links, where it is known
  * @returns {string}
  */
-export function canonicalUrl(path) {
+export function canonicalUrl(path, real) {
   let url = canonical.get(path);
   if (url === undefined) {
-    url = pathToFileURL(realPath(path) ?? path).href;
+    url = pathToFileURL(real ?? realPath(path) ?? path).href;
     canonical.set(path, url);
   }
   return url;

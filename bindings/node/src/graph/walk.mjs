@@ -55,7 +55,7 @@ export class Walk {
   /** @param {Found} file */
   *#first(file) {
     // A link that isn't followed is reported, and its file may have another path.
-    const key = file.isLeft ? undefined : canonicalUrl(absolute(file.path));
+    const key = file.isLeft ? undefined : canonicalUrl(absolute(file.path), file.real);
     if (!this.#passed.has(key)) {
       this.#underWay++;
       if (key !== undefined) {

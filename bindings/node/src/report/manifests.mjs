@@ -1,15 +1,22 @@
 /** The versions of packages, from their package.json. */
 
-import { dirname, join } from "node:path";
+import { dirname } from "node:path";
 
-import { readRegularFile } from "../files/regular_file.mjs";
+import { RegularFiles } from "../files/regular_files.mjs";
+import { realPath } from "../files/urls.mjs";
+import { PackageManifests } from "../graph/package_manifests.mjs";
 
 /** The members of a package.json that name other packages. */
 const MEMBERS = ["dependencies", "peerDependencies", "optionalDependencies", "devDependencies"];
 
 export class Manifests {
-  /** @type {Map<string, any>} By folders. */
-  #nearest = new Map();
+  #manifests;
+
+  constructor() {
+    const files = new RegularFiles();
+    files.addAllWithoutLinks();
+    this.#manifests = new PackageManifests(files);
+  }
 
   /**
    * @param {string} name of a package
@@ -22,35 +29,19 @@ export class Manifests {
     if (installed) {
       return String(installed);
     }
-    const manifest = this.#of(dirname(user));
+    const manifest = this.#of(dirname(realPath(user) ?? user));
     const range = MEMBERS.map((member) => manifest[member]?.[name]).find((each) => each !== undefined);
     return range === undefined ? undefined : String(range);
   }
 
   /**
-   * Returns the nearest package.json of a folder that has a name.
+   * Returns the members of the nearest package.json of a folder that has a name.
    * @param {string} folder
    * @returns {any} an empty object if there is none
    */
   #of(folder) {
-    let manifest = this.#nearest.get(folder);
-    if (manifest === undefined) {
-      const own = read(join(folder, "package.json"));
-      const parent = dirname(folder);
-      manifest = own?.name || parent === folder ? own ?? {} : this.#of(parent);
-      this.#nearest.set(folder, manifest);
-    }
-    return manifest;
-  }
-}
-
-/** @param {string} path */
-function read(path) {
-  try {
-    const value = JSON.parse(String(readRegularFile(path)));
-    return typeof value === "object" ? value : undefined;
-  } catch {
-    // The file is absent, or isn't JSON.
-    return undefined;
+    const manifest = this.#manifests.of(folder);
+    const parent = dirname(folder);
+    return manifest?.name || parent === folder ? manifest?.members ?? {} : this.#of(parent);
   }
 }

@@ -115,7 +115,7 @@ function hash(text) {
 }
 
 /** @param {string} text @returns {string} HTML */
-export function escapeText(text) {
+function escapeText(text) {
   return text.replace(/&/g, "&amp;").replace(/</g, "&lt;").replace(/>/g, "&gt;");
 }
 
@@ -124,6 +124,6 @@ export function escapeText(text) {
  * @param {unknown} value
  * @returns {string}
  */
-export function escapeJson(value) {
+function escapeJson(value) {
   return JSON.stringify(value).replace(/</g, "\\u003c");
 }

@@ -82,7 +82,7 @@ function changed(error) {
  * @param {string[]} folders absolute
  * @returns {string} the deepest folder around them; the current one if there are none
  */
-export function commonFolder(folders) {
+function commonFolder(folders) {
   const [first = process.cwd(), ...others] = folders;
   let common = first;
   const isIn = (/** @type {string} */ folder) => `${folder}/`.startsWith(common === "/" ? "/" : `${common}/`);

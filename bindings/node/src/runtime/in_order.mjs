@@ -10,45 +10,51 @@
  */
 export async function* inOrder(tasks, most, run) {
   const iterator = tasks[Symbol.asyncIterator]();
-  const next = () => handledLater(iterator.next().then((item) => ({ item })));
-  /** @typedef {{ item: IteratorResult<Task, any> } | { result: Awaited<Result> }} Event */
-  /** @type {Promise<{ result: Awaited<Result> }>[]} */
+  let wake = () => {};
+  const onSettled = () => wake();
+  /** @type {Settling<Result>[]} */
   const results = [];
-  /** @type {Promise<Event> | undefined} */
-  let coming = next();
+  /** @type {Settling<IteratorResult<Task, any>> | undefined} */
+  let coming = settling(iterator.next(), onSettled);
   while (coming !== undefined || results.length > 0) {
-    /** @type {Event} */
-    const event = await Promise.race([
-      ...results.slice(0, 1),
-      ...(coming !== undefined && results.length < most ? [coming] : []),
-    ]);
-    if ("result" in event) {
+    if (results[0]?.end) {
+      yield results[0].end();
       results.shift();
-      yield event.result;
-    } else if (event.item.done) {
-      coming = undefined;
+    } else if (coming?.end && results.length < most) {
+      const { done, value } = coming.end();
+      coming = done ? undefined : settling(iterator.next(), onSettled);
+      if (!done) {
+        results.push(settling(run(value), onSettled));
+      }
     } else {
-      results.push(handledLater(resultOf(run(event.item.value))));
-      coming = next();
+      await new Promise((resolve) => {
+        wake = () => resolve(undefined);
+      });
     }
   }
 }
 
 /**
- * @template Result
- * @param {Promise<Result>} promise
+ * @template T
+ * @typedef {{ end?: () => T }} Settling what a promise ends with, once that is known: `end` returns its value, or
+ *   throws its error
  */
-async function resultOf(promise) {
-  return { result: await promise };
-}
 
 /**
- * A promise whose error is handled where it is waited for, which may be later.
  * @template T
  * @param {Promise<T>} promise
- * @returns {Promise<T>}
+ * @param {() => void} onSettled
+ * @returns {Settling<T>}
  */
-function handledLater(promise) {
-  promise.catch(() => {});
-  return promise;
+function settling(promise, onSettled) {
+  /** @type {Settling<T>} */
+  const state = {};
+  const settle = (/** @type {() => T} */ end) => {
+    state.end = end;
+    onSettled();
+  };
+  promise.then((value) => settle(() => value), (error) => settle(() => {
+    throw error;
+  }));
+  return state;
 }

@@ -55,7 +55,7 @@ export async function* readFiles(files, { program, jobs, cache, signal }) {
  * @param {AnalysisCache} [cache]
  * @returns {Promise<FileResult>}
  */
-async function readFile({ path, error, isLeft }, pool, cache) {
+async function readFile({ path, real, error, isLeft }, pool, cache) {
   if (isLeft) {
     return { path, isLeft };
   }
@@ -64,21 +64,20 @@ async function readFile({ path, error, isLeft }, pool, cache) {
       throw error ?? new FileFault("MediaType", "files with this ending are not read");
     }
     const { state, info, value } = cache?.find(path) ?? {};
-    return { path, value, info: info ?? await analyzed(path, state, pool, cache) };
+    return { path, value, info: info ?? await analyzed({ path, real }, state, pool, cache) };
   } catch (fault) {
     return { path, fault: faultOf(fault) };
   }
 }
 
 /**
- * @param {string} path
+ * @param {Pick<Found, "path" | "real">} file
  * @param {import("../files/analysis_cache.mjs").State | undefined} state before the file is read
  * @param {Pool} pool
  * @param {AnalysisCache} [cache]
  * @returns {Promise<Buffer>}
  */
-async function analyzed(path, state, pool, cache) {
-  const real = realPath(path) ?? path;
+async function analyzed({ path, real = realPath(path) ?? path }, state, pool, cache) {
   if (ENDLESS.test(real)) {
     throw new FileFault("Input", "a file of the system");
   }

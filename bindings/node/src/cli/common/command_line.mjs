@@ -2,9 +2,11 @@
 
 import { parseArgs } from "node:util";
 
+import { GlobFault } from "../../files/globs.mjs";
 import { readOwnFile } from "../../files/own_files.mjs";
+import { EntryFault } from "../../graph/entry_points.mjs";
 import { readJobs as processors } from "../../runtime/call_options.mjs";
-import { printableLines } from "../../runtime/printable.mjs";
+import { printable, printableLines } from "../../runtime/printable.mjs";
 import { OutputFault, writeOutput } from "./standard_output.mjs";
 
 const MOST_JOBS = 9999;
@@ -40,8 +42,10 @@ export async function runProgram(program) {
     process.exitCode = await main(words);
   } catch (/** @type {any} */ error) {
     if (!(error instanceof OutputFault && error.isClosed)) {
-      process.stderr.write(`${name}: ${printableLines(error.message)}\n`);
-      process.exitCode = error instanceof UsageFault ? 2 : 1;
+      const isOfWord = error instanceof EntryFault || error instanceof GlobFault;
+      const message = isOfWord ? printable(error.message) : printableLines(error.message);
+      process.stderr.write(`${name}: ${message}\n`);
+      process.exitCode = isOfWord || error instanceof UsageFault ? 2 : 1;
     }
     // There may be processes that have something to do.
     process.exit();

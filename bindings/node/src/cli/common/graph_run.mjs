@@ -2,29 +2,15 @@
 
 import { resolve as absolute } from "node:path";
 
-import { EntryFault, entryPoints } from "../../graph/entry_points.mjs";
-import { NamedFiles } from "../../graph/named_files.mjs";
-import { canonicalUrl } from "../../graph/reach.mjs";
-import { readGraph } from "../../graph/read_graph.mjs";
-import { createResolver } from "../../graph/resolver.mjs";
-import { finderOf } from "../../graph/unreached.mjs";
-import { printable } from "../../runtime/printable.mjs";
-import { UsageFault } from "./command_line.mjs";
-import { FileReporter, ahead, exclusionsFor, findNamed, readOptions, saveCache } from "./read_files.mjs";
+import { readProject } from "../../graph/project_graph.mjs";
+import { FileReporter, ahead, namedPaths, readOptions, saveCache } from "./read_files.mjs";
 
 /**
  * @typedef {import("../../graph/read_graph.mjs").ReadFile} ReadFile
- * @typedef {import("./read_files.mjs").Run & { resolve: import("../../graph/resolver.mjs").ResolverOptions }} Run
+ * @typedef {import("./read_files.mjs").Run} Run
  *
- * @typedef {object} GraphRun
- * @property {import("../../graph/module_graph.mjs").ModuleGraph} graph
- * @property {string[]} entries keys
- * @property {string[]} named the keys of the files of PATH
- * @property {string[]} pages the paths of the pages of PATH
- * @property {(path: string) => boolean} isIgnored
- * @property {import("../../graph/entry_points.mjs").Find} find
- * @property {string} program the path of `modinfo`
- * @property {number} status 1 if a file can't be read, or an entry isn't there
+ * @typedef {import("../../graph/project_graph.mjs").ProjectGraph & { status: number }} GraphRun `status` is 1 if a
+ *   file can't be read, or an entry isn't there
  */
 
 /** The options of a command that reads a graph, as node's `parseArgs` has them. */
@@ -58,57 +44,38 @@ export const CACHE_HELP = `  --cache FILE       keeps results in FILE, and reads
 `;
 
 /**
+ * How names are resolved, by the words.
+ * @param {any} values
+ * @returns {import("../../graph/resolver.mjs").ResolverOptions}
+ */
+export function resolverOptions({ types = false, tsconfig, conditions }) {
+  return { types, tsconfig: tsconfig && absolute(tsconfig), conditions };
+}
+
+/**
  * @param {Run} run
  * @param {{ hasPages: boolean, onRead?: (result: ReadFile) => void }} options `hasPages`: whether pages and
  *   components are looked for too, and excluded files are read
  * @returns {Promise<GraphRun>}
  */
 export async function readRun(run, { hasPages, onRead }) {
-  const { name, paths, values, program, resolve } = run;
-  const { types, all, entry = [], "no-dynamic": noDynamic } = values;
+  const { name, paths, values } = run;
+  const { all, types, exclude, ignore, gitignore, follow: links, entry: entries = [] } = values;
   const reporter = new FileReporter(name, { isShown: true });
-  const resolver = createResolver(resolve);
-  const find = finderOf(resolver);
-  const points = await pointsOf(entry, find);
-  points.absent.forEach((each) => reporter.warn(`${each}: an entry that isn't there`));
-  const exclusions = await exclusionsFor(run);
-  const { isExcluded, isIgnored } = exclusions;
-  const fromEntries = await findNamed({ ...run, paths: points.files }, exclusions);
-  const named = new NamedFiles(await findNamed(run, { ...exclusions, hasPages }), fromEntries);
   const options = readOptions(run);
-  const graph = await readGraph(named, {
-    ...options, resolver, types, all, dynamic: !noDynamic,
-    isExcluded, isIgnored, follow: points.files.length > 0,
+  const read = await readProject({
+    ...options, ...namedPaths(run), entries, all, types, dynamic: !values["no-dynamic"],
+    exclude, ignore, gitignore, links, pages: hasPages, resolver: resolverOptions(values),
     ahead: (walked) => ahead(walked, reporter),
-    onRead: async (result) => {
+    onRead: (result, isExcluded) => {
       reporter.notice(result.notices ?? []);
       // What is wrong with an excluded file counts where it is reached alone.
-      reporter.report(isExcluded(absolute(result.path)) ? { path: result.path } : result);
+      reporter.report(isExcluded ? { path: result.path } : result);
       onRead?.(result);
     },
   });
+  read.absent.forEach((each) => reporter.warn(`${each}: an entry that isn't there`));
   reporter.end(paths);
   await saveCache(run, options.cache);
-  return {
-    graph, named: named.keys, pages: named.pages, isIgnored, find,
-    entries: points.files.map(keyOf), program,
-    status: points.absent.length > 0 ? 1 : reporter.status,
-  };
-}
-
-/**
- * @param {string[]} paths
- * @param {import("../../graph/entry_points.mjs").Find} find
- */
-async function pointsOf(paths, find) {
-  try {
-    return await entryPoints(paths, find);
-  } catch (/** @type {any} */ error) {
-    throw error instanceof EntryFault ? new UsageFault(printable(error.message)) : error;
-  }
-}
-
-/** @param {string} path */
-function keyOf(path) {
-  return canonicalUrl(absolute(path));
+  return { ...read, status: read.absent.length > 0 ? 1 : reporter.status };
 }

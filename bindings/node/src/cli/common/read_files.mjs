@@ -5,8 +5,7 @@ import { Readable } from "node:stream";
 import { describeFault, systemMessage } from "../../runtime/faults.mjs";
 import { AnalysisCache } from "../../files/analysis_cache.mjs";
 import { exclusionsOf } from "../../files/exclusions.mjs";
-import { findFiles, foldersOf, readPaths } from "../../files/find_files.mjs";
-import { GlobFault } from "../../files/globs.mjs";
+import { findFiles, readPaths } from "../../files/find_files.mjs";
 import { readRegularFile } from "../../files/regular_file.mjs";
 import { printable } from "../../runtime/printable.mjs";
 import { readFiles } from "../../runtime/read_files.mjs";
@@ -15,7 +14,6 @@ import { Progress } from "./progress.mjs";
 
 /**
  * @typedef {import("../../runtime/read_files.mjs").FileResult} FileResult
- * @typedef {import("../../files/exclusions.mjs").Exclusions} Exclusions
  * @typedef {import("../../files/find_files.mjs").Found} Found
  */
 
@@ -55,13 +53,18 @@ const AROUND = 70;
 /**
  * Reads the files of some paths, and prints what is wrong with them.
  * @param {Run} run
- * @param {(result: FileResult, reporter: FileReporter) => Promise<void>} write is called for each file in turn
+ * @param {(result: FileResult, reporter: FileReporter) => Promise<void> | undefined} write is called for each file in
+ *   turn
  * @returns {Promise<number>} the status
  */
 export async function runLines(run, write) {
   const reporter = new FileReporter(run.name, { isShown: !process.stdout.isTTY });
   const options = readOptions(run);
-  for await (const result of readFiles(ahead(await findNamed(run), reporter), options)) {
+  const { paths, roots } = namedPaths(run);
+  const { all, follow } = run.values;
+  const { isLeftOut: isExcluded } = await exclusionsOf(run.values, roots);
+  const files = findFiles(paths, { all, follow, roots, isExcluded });
+  for await (const result of readFiles(ahead(files, reporter), options)) {
     reporter.report(result);
     if (!result.isLeft) {
       await write(result, reporter);
@@ -110,38 +113,6 @@ function openCache(path, program) {
 }
 
 /**
- * The files of the paths of a run.
- * @param {Run} run
- * @param {Exclusions & { hasPages?: boolean }} [exclusions] `hasPages`: whether pages and components are taken
- *   too, and what globs exclude
- * @returns {Promise<AsyncGenerator<Found, void>>}
- */
-export async function findNamed({ paths, values }, exclusions) {
-  const { all, follow } = values;
-  const { isExcluded, isIgnored, isKept } = exclusions ?? await exclusionsFor({ paths, values });
-  const hasPages = exclusions?.hasPages ?? false;
-  return findFiles(named(paths, values), {
-    all, follow, pages: hasPages,
-    roots: paths.filter((path) => path !== "-"),
-    isExcluded: (path) => isExcluded(path) || isIgnored(path),
-    isKept: hasPages ? isKept : undefined,
-  });
-}
-
-/**
- * What the words `--exclude`, `--ignore` and `--gitignore` leave out.
- * @param {{ paths: string[], values: any }} run
- * @returns {Promise<Exclusions>} rejected with a `UsageFault` where a glob can't be read
- */
-export async function exclusionsFor({ paths, values: { exclude, ignore, gitignore, entry = [] } }) {
-  try {
-    return await exclusionsOf({ exclude, ignore, ignoredIn: gitignore ? foldersOf([...paths, ...entry]) : [] });
-  } catch (/** @type {any} */ error) {
-    throw error instanceof GlobFault ? new UsageFault(`a glob can't be read: ${printable(error.message)}`) : error;
-  }
-}
-
-/**
  * The same files, looked up long before they are read, so that the progress knows how many they are.
  * @param {AsyncIterable<Found>} files
  * @param {FileReporter} reporter
@@ -152,14 +123,22 @@ export function ahead(files, reporter) {
 }
 
 /**
- * The paths that are named, by the words or on the standard input.
- * @param {string[]} paths
- * @param {{ null?: boolean }} values
+ * @param {Run} run
+ * @returns {{ paths: AsyncIterable<string>, roots: string[] }} the paths that are named by the words or on the
+ *   standard input, and those of the words
  */
-async function* named(paths, values) {
-  for (const path of paths) {
+export function namedPaths({ paths, values }) {
+  return { paths: each(paths, values.null ? "\0" : "\n"), roots: paths.filter((path) => path !== "-") };
+}
+
+/**
+ * @param {string[]} words
+ * @param {"\0" | "\n"} separator
+ */
+async function* each(words, separator) {
+  for (const path of words) {
     if (path === "-") {
-      yield* readPaths(process.stdin, values.null ? "\0" : "\n");
+      yield* readPaths(process.stdin, separator);
     } else {
       yield path;
     }

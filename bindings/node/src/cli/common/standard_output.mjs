@@ -12,6 +12,43 @@ export class OutputFault extends Error {
   }
 }
 
+/** How many characters wait for others at most. */
+const PIECE = 1 << 16;
+
+/** Lines, of which those that come in one turn are written at once. */
+export class OutputLines {
+  #waiting = "";
+  /** @type {Promise<void>} */
+  #written = Promise.resolve();
+
+  /**
+   * @param {string} line with its end
+   * @returns {Promise<void> | undefined} where it has to be waited for: rejected with an `OutputFault`
+   */
+  write(line) {
+    if (this.#waiting === "") {
+      setImmediate(() => this.#flush());
+    }
+    this.#waiting += line;
+    return this.#waiting.length < PIECE ? undefined : this.end();
+  }
+
+  /** @returns {Promise<void>} once all lines are written; rejected with an `OutputFault` */
+  end() {
+    this.#flush();
+    return this.#written;
+  }
+
+  #flush() {
+    const text = this.#waiting;
+    this.#waiting = "";
+    if (text !== "") {
+      this.#written = Promise.all([this.#written, writeOutput(text)]).then(() => {});
+      this.#written.catch(() => {});
+    }
+  }
+}
+
 /**
  * @param {string | Uint8Array} text
  * @returns {Promise<void>} once it is written; rejected with an `OutputFault`
