@@ -1,8 +1,7 @@
 /** A cycle in the graph, with the lines that make it. */
 
 import { element } from "./elements.js";
-import { eachPair } from "./graph_edges.js";
-import { countKind } from "./graph_kinds.js";
+import { drawnEdge, eachPair } from "./graph_edges.js";
 import { askLayout, sizeOfLabel } from "./graph_layout.js";
 import { moduleLook } from "./graph_nodes.js";
 import { graphFrame, roomIn, showFault, showPlan } from "./graph_view.js";
@@ -11,7 +10,7 @@ import { labelsOf } from "./labels.js";
 import { report } from "./report.js";
 
 /** What isn't known of some cycles. */
-export const OF_TYPES = "It has imports of TypeScript files; a compiler removes those that name types alone, and then " +
+const OF_TYPES = "It has imports of TypeScript files; a compiler removes those that name types alone, and then " +
   "it may be no cycle of what runs.";
 
 /** The most modules of a cycle that are drawn; of a larger cycle, the modules of its shortest path. */
@@ -60,6 +59,7 @@ async function drawCycle(frame, modules, path) {
   const leaves = [];
   modules.forEach((module) => (leaves[module] = { id: `m${module}`, type: "module", module }));
   showPlan(frame, { ...layout, nodes, frames: [], edges: placed }, { leaves });
+  frame.view.mover.show(frame.box.querySelector(".edge.marked"));
 }
 
 /** Returns the edges between modules; the edges of the path are marked. */
@@ -70,12 +70,8 @@ function edgesAmong(modules, path) {
   for (const module of modules) {
     eachPair(module, (to, kind) => {
       if (inside.has(to)) {
-        const [from, end] = [`m${module}`, `m${to}`];
-        const key = `${from} ${end}`;
-        const isMarked = steps.has(key);
-        const edge = edges.get(key) ?? { from, to: end, kinds: new Map(), count: 1, isMarked };
-        edges.set(key, edge);
-        countKind(edge.kinds, kind);
+        const edge = drawnEdge(edges, `m${module}`, `m${to}`, { kind });
+        edge.isMarked = steps.has(`${edge.from} ${edge.to}`);
       }
     });
   }

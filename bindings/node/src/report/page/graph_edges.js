@@ -84,12 +84,25 @@ function addEdge(byBox, [from, to], kind, cycle) {
   const [box, first, second] = ends;
   const edges = byBox.get(box) ?? new Map();
   byBox.set(box, edges);
-  const key = `${first.id} ${second.id}`;
-  const edge = edges.get(key) ?? { from: first.id, to: second.id, kinds: new Map(), count: 0 };
+  drawnEdge(edges, first.id, second.id, { kind, cycle });
+}
+
+/**
+ * Counts an edge between modules in the edge that is drawn between their items.
+ * @param {Map<string, DrawnEdge>} edges by their ends, to which a new one is added
+ * @param {string} from the id of an item
+ * @param {string} to
+ * @param {{ kind: number, cycle?: "run" | "types" }} edge
+ * @returns {DrawnEdge}
+ */
+export function drawnEdge(edges, from, to, { kind, cycle }) {
+  const key = `${from} ${to}`;
+  const edge = edges.get(key) ?? { from, to, kinds: new Map(), count: 0 };
   edges.set(key, edge);
   countKind(edge.kinds, kind);
   edge.count++;
   edge.cycle = strongerCycle(edge.cycle, cycle);
+  return edge;
 }
 
 /**

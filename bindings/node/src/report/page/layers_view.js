@@ -1,10 +1,9 @@
 /** The graph of one module: the layers of what it leads to, and of what leads to it. */
 
 import { element } from "./elements.js";
-import { cycleOfEdge, strongerCycle } from "./cycles.js";
+import { cycleOfEdge } from "./cycles.js";
 import { folderOf } from "./folders.js";
-import { eachPair } from "./graph_edges.js";
-import { countKind } from "./graph_kinds.js";
+import { drawnEdge, eachPair } from "./graph_edges.js";
 import { layersOf, orderedLayers } from "./graph_layers.js";
 import { LONGEST, NODE_HEIGHT, shortLabel, sizeOfLabel } from "./graph_layout.js";
 import { moduleLook } from "./graph_nodes.js";
@@ -140,13 +139,8 @@ function layerEdges(ordered, nodes) {
   for (const [module, layer] of layerOfModule) {
     eachPair(module, (to, kind) => {
       if (layerOfModule.get(to) === layer + 1) {
-        const key = `${module} ${to}`;
-        const [from, end] = [`m${module}`, `m${to}`];
-        const path = across(rectangles.get(from), rectangles.get(end));
-        const edge = edges.get(key) ?? { from, to: end, kinds: new Map(), count: 1, path };
-        edges.set(key, edge);
-        edge.cycle = strongerCycle(edge.cycle, cycleOfEdge(module, to, kind));
-        countKind(edge.kinds, kind);
+        const edge = drawnEdge(edges, `m${module}`, `m${to}`, { kind, cycle: cycleOfEdge(module, to, kind) });
+        edge.path = across(rectangles.get(edge.from), rectangles.get(edge.to));
       }
     });
   }
