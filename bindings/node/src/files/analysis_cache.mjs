@@ -163,7 +163,8 @@ function stateOf(path) {
 function hashOf(content) {
   // Node 20.12 and later have a function for it, which takes half the time for a line.
   const { hash } = /** @type {any} */ (crypto);
-  const sum = hash?.("sha256", content, "base64url") ?? crypto.createHash("sha256").update(content).digest("base64url");
+  const sum = hash?.("sha256", content, "base64url") ??
+    crypto.createHash("sha256").update(content).digest("base64url");
   return sum.slice(0, CHECKSUM_LENGTH);
 }
 

@@ -18,6 +18,14 @@ const TEXTS_OUT = `
   });
 `;
 
+/** Counts of edges that overlap. */
+const COUNTS_OVER = `
+  const counts = [...document.querySelectorAll(".edge-count rect")].map((each) => each.getBoundingClientRect());
+  return counts.flatMap((one, at) => counts.slice(at + 1).filter((other) => {
+    return one.left < other.right - 0.5 && other.left < one.right - 0.5 && one.top < other.bottom - 0.5 && other.top < one.bottom - 0.5;
+  }).map(({ left, top }) => [left, top]));
+`;
+
 /** Nodes that aren't whole in the box of the drawing. */
 const NODES_OUT = `
   const outer = document.querySelector(".drawing").getBoundingClientRect();
@@ -122,6 +130,25 @@ shown("no text is out of its box, in small graphs and in large ones, while the f
     await browser.until(`return document.querySelector(".shown").textContent.includes(" of ")`);
     assert.deepEqual(await browser.run(TEXTS_OUT), []);
   }
+});
+
+shown("counts of edges don't overlap", async () => {
+  for (const count of [140, 600]) {
+    await open(madeReport(count));
+    assert.ok((await texts(".edge-count")).length > 5);
+    assert.deepEqual(await browser.run(COUNTS_OVER), []);
+  }
+});
+
+shown("of a large cycle the path that is marked is seen when the cycle opens", async () => {
+  await open(`${madeReport(140)}#cycle-0`);
+  assert.ok((await browser.run(NODES_OUT)).length > 0);
+  const far = await browser.run(`
+    const outer = document.querySelector(".drawing").getBoundingClientRect();
+    const { left, right, top, bottom } = document.querySelector(".edge.marked").getBoundingClientRect();
+    return Math.min(left - outer.left, outer.right - right, top - outer.top, outer.bottom - bottom);
+  `);
+  assert.ok(far >= 0, String(far));
 });
 
 shown("a word is there while a graph is drawn", async () => {

@@ -53,8 +53,8 @@ const AROUND = 70;
 /**
  * Reads the files of some paths, and prints what is wrong with them.
  * @param {Run} run
- * @param {(result: FileResult, reporter: FileReporter) => Promise<void> | undefined} write is called for each file in
- *   turn
+ * @param {(result: FileResult, reporter: FileReporter) => Promise<void> | undefined} write is called for each
+ *   file in turn
  * @returns {Promise<number>} the status
  */
 export async function runLines(run, write) {
