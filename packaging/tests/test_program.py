@@ -1,5 +1,5 @@
-"""Tests the program with a reader of its output that ends, and with files that never end. The program is the one that
-MODINFO names, else that in build/."""
+"""Tests the program with a reader of its output that ends, with files that never end, and with two documents where one
+belongs. The program is the one that MODINFO names, else that in build/."""
 
 import json
 import os
@@ -56,3 +56,10 @@ def test_files_that_the_system_makes_up(tmp_path: Path) -> None:
     found = [json.loads(line) for line in ended.stdout.splitlines()]
     assert [each.get("fault", {}).get("message") for each in found] == ["in /proc or /sys"] * 2 + [None] * 2
     assert (ended.returncode, ended.stderr) == (1, b"")
+
+
+def test_second_document_on_a_line_of_its_own() -> None:
+    ended = subprocess.run([PROGRAM, "check"], input=b"{}\n{}\n", capture_output=True, timeout=SECONDS, check=False)
+    report = json.loads(ended.stdout)
+    assert (ended.returncode, report["fault"], report["at"]) == (1, "Json", {"line": 1, "column": 0, "offset": 3})
+    assert report["expected"].startswith("the end of the document")
