@@ -33,6 +33,7 @@ use Rattle.modinfo_document.specs.declared.report.FaultReport.{FaultReport}
 use Rattle.modinfo_document.specs.declared.report.Report.{Report}
 use Rattle.modinfo_document.specs.declared.report.Report.TheVariants.{Valid, Invalid}
 use Rattle.modinfo_document.specs.declared.report.warning.Warning.{Warning}
+use Rattle.modinfo_document.specs.declared.report.warning.WarningKind.TheVariants.{UnknownRoot}
 use Rattle.modinfo_document.specs.declared.report.warning.Warnings.{Warnings}
 use Rattle.modinfo.specs.Fault.{name_of_fault}
 use Rattle.modinfo.specs.Reach.{Asks, IsQuestionFault}
@@ -112,7 +113,8 @@ ReportsOnQuestion text = OfReport (IsQuestionText text) (IsQuestionFaultReport t
 -- The warnings on modules and a root: none if a module has the root as its key, else one about the root.
 abbrev pub WarnsOfRoot : List (List ℕ × ModuleInfo) → List ℕ → Warnings → Type 0
 WarnsOfRoot modules root warnings = MatchOption (value_at modules root)
-    ((warning : Warning) × (string_bytes warning.pointer ≡ codes "/root") × HasOnly warning warnings)
+    ((warning : Warning) × (string_bytes warning.pointer ≡ codes "/root") × (warning.kind ≡ UnknownRoot)
+    × HasOnly warning warnings)
     (λ _. HasNone warnings)
 
 -- A report without a fault has the warnings on the modules and the root of the value.

@@ -11,3 +11,4 @@ pub mod PlaceRanges
 pub mod Reported
 pub mod ReportTexts
 pub mod Urls
+mod Warned

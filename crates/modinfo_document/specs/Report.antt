@@ -1,5 +1,5 @@
 -- Reports on documents.
-use Rattle.std.specs.Prelude.{◌≡◌, ℕ, ◌≤◌, Bool, List, [], ◌∷◌, length, true, None, IsSomeAnd}
+use Rattle.std.specs.Prelude.{◌≡◌, ◌≢◌, ℕ, ◌≤◌, ◌<◌, ◌⊎◌, Bool, List, [], ◌∷◌, ◌++◌, length, true, None, IsSomeAnd}
 use Rattle.std.specs.String.{string_bytes}
 use Rattle.serde_json.specs.Data.{Data}
 use Rattle.deno_graph_json.specs.Read.Error.{IsIn}
@@ -27,6 +27,13 @@ HasNone warnings = (warnings.kept.items ≡ []) × (warnings.more ≡ 0)
 -- This warning is kept, and no other.
 abbrev pub HasOnly : Warning → Warnings → Type 0
 HasOnly warning warnings = (warnings.kept.items ≡ warning ∷ []) × (warnings.more ≡ 0)
+
+-- The warning is added at the end; if 100 are kept, it is only counted.
+abbrev pub Adds : Warning → Warnings → Warnings → Type 0
+Adds warning before after = ((length before.kept.items < 100)
+    × (after.kept.items ≡ before.kept.items ++ warning ∷ []) × (after.more ≡ before.more))
+    ⊎ ((100 ≤ length before.kept.items) × (after.kept.items ≡ before.kept.items) × (before.more ≤ after.more)
+    × (after.more ≢ 0))
 
 -- The check passed: the document is valid and, if the check is strict, has no warnings.
 abbrev pub LetsPass : Bool → Report → Type 0

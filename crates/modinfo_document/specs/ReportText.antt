@@ -37,7 +37,21 @@ use Rattle.modinfo_document.specs.declared.report.FaultReport.{FaultReport}
 use Rattle.modinfo_document.specs.declared.report.Report.{Report}
 use Rattle.modinfo_document.specs.declared.report.Report.TheVariants.{Valid, Invalid}
 use Rattle.modinfo_document.specs.declared.report.text_place.TextPlace.{TextPlace}
+use Rattle.modinfo_document.specs.declared.report.warning.ValueWarning.{ValueWarning}
+use Rattle.modinfo_document.specs.declared.report.warning.ValueWarning.TheVariants.{
+  PositionBeyond,
+  PositionInside,
+  RangeEarlier,
+  RangeOutside,
+  UnreadMember,
+}
 use Rattle.modinfo_document.specs.declared.report.warning.Warning.{Warning}
+use Rattle.modinfo_document.specs.declared.report.warning.WarningKind.{WarningKind}
+use Rattle.modinfo_document.specs.declared.report.warning.WarningKind.TheVariants.{
+  UnknownRoot,
+  UnspelledLiteral,
+  Value,
+}
 use Rattle.modinfo_document.specs.declared.report.warning.Warnings.{Warnings}
 
 -- A name, and its value or none if the object lacks the member.
@@ -85,10 +99,24 @@ fault_entries report =
     ∷ (codes "expected", Some (string (string_bytes report.expected)))
     ∷ []
 
+-- A warning about a value, in words.
+abbrev pub value_words : ValueWarning → List ℕ
+value_words UnreadMember = codes "nothing reads a member of this name here"
+value_words PositionBeyond = codes "no comment is looked for here: the position is beyond the source"
+value_words PositionInside = codes "no comment is looked for here: the position is inside a character"
+value_words RangeOutside = codes "the range isn't inside that of the node above"
+value_words RangeEarlier = codes "the range starts before that of the child in front of it"
+
+-- A warning in words.
+abbrev pub warning_words : WarningKind → List ℕ
+warning_words (Value value) = value_words value
+warning_words UnspelledLiteral = codes "the source doesn't spell this value at the literal's range"
+warning_words UnknownRoot = codes "no module has this key, so the answer is []"
+
 abbrev pub json_of_warning : Warning → Json
 json_of_warning warning = object_of
     ((codes "pointer", Some (string (string_bytes warning.pointer)))
-    ∷ (codes "says", Some (string warning.says.now))
+    ∷ (codes "says", Some (string (warning_words warning.kind)))
     ∷ [])
 
 abbrev pub json_of_warnings : List Warning → Json

@@ -3,3 +3,4 @@ pub mod Comments
 pub mod Document
 pub mod Lookup
 pub mod ReportText
+pub mod Warned

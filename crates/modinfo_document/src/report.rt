@@ -32,7 +32,7 @@ use std::alloc::{AllocError, Global};
 pub use syntax::json_report_at;
 pub use text_place::TextPlace;
 pub use tree::{specifier_report, tree_report};
-pub use warning::{Warning, Warnings};
+pub use warning::{ValueWarning, Warning, WarningKind, Warnings};
 pub(crate) use warnings::find_warnings;
 
 /// The fault of a document.
@@ -233,7 +233,7 @@ fn write_warning(line: &mut Writer, warning: &Warning) -> Result<(), AllocError>
 {
     line.begin_object()?;
     write_member(line, "pointer", warning.pointer.as_str())?;
-    write_member(line, "says", warning.says)?;
+    write_member(line, "says", warning.kind.words())?;
     line.end_object()
 }
 

@@ -16,11 +16,10 @@ use deno_graph_info::analysis::InfoFault;
 use deno_graph_json::{Element, ReadError, Tape, TapeError};
 use deno_graph_source::values::TextMap;
 use json::Scratch;
-use modinfo_document::report::{FaultReport, Report, Warning, Warnings, json_report_at};
+use modinfo_document::report::{
+    FaultReport, Report, Warning, WarningKind, Warnings, json_report_at,
+};
 use std::alloc::{AllocError, Global};
-
-/// The warning about a root that no module has as its key.
-const NO_KEY: &str = "no module has this key, so the answer is []";
 
 /// Checks a text as a document of `reach`: a root, and the information on modules. Warns of a root that is
 /// no key. The only error is a failed allocation.
@@ -63,7 +62,7 @@ fn root_warnings(alloc: Global, question: Question) -> Result<Warnings, AllocErr
         alloc,
         Warning {
             pointer,
-            says: NO_KEY,
+            kind: WarningKind::UnknownRoot,
         },
     )
 }

@@ -1,19 +1,22 @@
 //! Warnings about string literals that the source doesn't spell.
 
-ghost use Rattle.std.specs.Prelude.{◌≡◌, All, IfOk, IsTrue, OnOk};
-ghost use Rattle.deno_graph_source.specs.Node.{nodes_in};
+ghost use Rattle.std.specs.Prelude.{◌≡◌, ◌↔◌, All, IfOk, IsTrue, OnOk, Some};
+ghost use Rattle.std.specs.String.{string_bytes};
+ghost use Rattle.deno_graph_source.specs.Node.{kind_of, nodes_in};
+ghost use Rattle.deno_graph_source.specs.NodePath.{node_below};
+ghost use Rattle.modinfo_document.specs.Pointer.{pointer_text};
 ghost use Rattle.modinfo_document.specs.Report.{HasNone};
 ghost use Rattle.modinfo_document.specs.Spelling.{AreSpelled, IsLiteralSpelled, IsSpelledAt, is_code};
+ghost use Rattle.modinfo_document.specs.Spelling.{HasNoLiteral, WarnsOfEach, literal_path};
+ghost use Rattle.modinfo_document.specs.internal.Warned.{AddsBelow, Covers, WarnsOfNode};
 
 use crate::document::Document;
 use crate::report::place::{literal_member, node_pointer};
-use crate::report::warning::{Warning, Warnings};
+use crate::report::warning::{Warning, WarningKind, Warnings};
 use deno_graph_json::{ReferenceToken, push_token};
 use deno_graph_source::tree::{MediaType, Node, StrLit};
 use modinfo_literals::spells;
 use std::alloc::{AllocError, Global};
-
-const UNSPELLED: &str = "the source doesn't spell this value at the literal's range";
 
 /// Adds a warning about each string literal of a document of code whose value isn't what the source spells
 /// at the literal's range. The only error is a failed allocation.
@@ -22,7 +25,8 @@ pub fn warn_of_literals(
     document: &Document,
     warnings: &mut Warnings,
 ) -> Result<(), AllocError>
-    ensures { OnOk result (HasNone warnings.new → HasNone warnings.old × AreSpelled document.now) }
+    ensures none { OnOk result (HasNone warnings.new → HasNone warnings.old × AreSpelled document.now) }
+    ensures each { OnOk result (HasNoLiteral warnings.old → WarnsOfEach document.now warnings.new) }
 {
     if !is_code(document.media_type) {
         return Ok(());
@@ -52,8 +56,13 @@ fn warn_below(
     path: &mut Vec<usize>,
     warnings: &mut Warnings,
 ) -> Result<(), AllocError>
-    ensures { OnOk result (HasNone warnings.new
+    ensures none { OnOk result (HasNone warnings.new
         → HasNone warnings.old × All (IsLiteralSpelled source.now) (nodes_in node.now)) }
+    ensures path { OnOk result (path.new.items ≡ path.old.items) }
+    ensures adds { OnOk result
+        (AddsBelow source.now (node_below (Some node.now)) path.old.items warnings.old warnings.new) }
+    ensures covers { OnOk result
+        (Covers source.now (node_below (Some node.now)) path.old.items warnings.new) }
 {
     warn_of_node(alloc, source, node, path.as_slice(), warnings)?;
     for (number, child) in node.children.as_slice().iter().enumerate() {
@@ -73,8 +82,7 @@ fn warn_of_node(
     path: &[usize],
     warnings: &mut Warnings,
 ) -> Result<(), AllocError>
-    ensures { OnOk result (HasNone warnings.new
-        → HasNone warnings.old × IsLiteralSpelled source.now node.now) }
+    ensures { OnOk result (WarnsOfNode source.now node.now path.now warnings.old warnings.new) }
 {
     let Some(literal) = node.kind.literal() else {
         return Ok(());
@@ -82,24 +90,39 @@ fn warn_of_node(
     if is_spelled(alloc, source, literal)? {
         return Ok(());
     }
+    let pointer = literal_pointer(alloc, node, path)?;
+    warnings.push(Warning {
+        pointer,
+        kind: WarningKind::UnspelledLiteral,
+    })
+}
+
+/// The JSON Pointer of the string literal of the node at a path. The only error is a failed allocation.
+#[tactic(auto, unfolding(deno_graph_source::specs::Node::kind_of))]
+fn literal_pointer(alloc: Global, node: &Node, path: &[usize]) -> Result<String, AllocError>
+    ensures { IfOk result
+        (λ pointer. string_bytes pointer ≡ pointer_text (literal_path (kind_of node.now) path.now)) }
+{
     let mut pointer = node_pointer(alloc, path)?;
     push_token(
         &mut pointer,
         ReferenceToken::Name(literal_member(&node.kind)),
     )?;
-    warnings.push(Warning {
-        pointer,
-        says: UNSPELLED,
-    })
+    Ok(pointer)
 }
 
 /// Whether the source spells the value of a literal at the literal's range. The only error is a failed
 /// allocation.
 fn is_spelled(alloc: Global, source: &str, literal: &StrLit) -> Result<bool, AllocError>
-    ensures { IfOk result (λ is. IsTrue is → IsSpelledAt source.now literal.now) }
+    ensures { IfOk result (λ is. IsTrue is ↔ IsSpelledAt source.now literal.now) }
 {
-    match source.get(literal.range.start..literal.range.end) {
-        Some(slice) => spells(alloc, slice, &literal.value),
-        None => Ok(false),
+    let range = literal.range;
+    let is_inside = range.start <= range.end
+        && source.is_char_boundary(range.start)
+        && source.is_char_boundary(range.end);
+    if is_inside {
+        spells(alloc, &source[range.start..range.end], &literal.value)
+    } else {
+        Ok(false)
     }
 }

@@ -1,20 +1,83 @@
-ghost use Rattle.std.specs.Prelude.{◌↔◌, IfOk, IsTrue, OnOk};
-ghost use Rattle.modinfo_document.specs.Report.{HasNone, HasOnly};
+//! Warnings about the values of a document.
 
-use crate::report::pointer::pointer_to;
-use deno_graph_json::ReferenceToken;
+ghost use Rattle.std.specs.Prelude.{◌≡◌, ◌↔◌, IfOk, IsTrue, OnOk};
+ghost use Rattle.modinfo_document.specs.Report.{Adds, HasNone, HasOnly};
+ghost use Rattle.modinfo_document.specs.ReportText.{value_words, warning_words};
+
 use std::alloc::{AllocError, Global};
 
 /// The number of warnings that are kept for a document.
-const MAX_KEPT: usize = 100;
+pub(super) const MAX_KEPT: usize = 100;
+
+/// What a value of a module document is that its author may not have meant.
+#[derive(Debug, Clone, Copy, PartialEq, Eq)]
+pub enum ValueWarning {
+    /// A member that nothing reads.
+    UnreadMember,
+    /// A position beyond the source, where no comment is looked for.
+    PositionBeyond,
+    /// A position inside a character, where no comment is looked for.
+    PositionInside,
+    /// A node whose range isn't inside that of the node above.
+    RangeOutside,
+    /// A node whose range starts before that of the child in front of it.
+    RangeEarlier,
+}
+
+impl ValueWarning {
+    /// The warning in words.
+    fn words(self) -> &'static str
+        ensures { result.now ≡ value_words self }
+    {
+        match self {
+            ValueWarning::UnreadMember => "nothing reads a member of this name here",
+            ValueWarning::PositionBeyond => {
+                "no comment is looked for here: the position is beyond the source"
+            }
+            ValueWarning::PositionInside => {
+                "no comment is looked for here: the position is inside a character"
+            }
+            ValueWarning::RangeOutside => "the range isn't inside that of the node above",
+            ValueWarning::RangeEarlier => {
+                "the range starts before that of the child in front of it"
+            }
+        }
+    }
+}
+
+/// What a warning is about.
+#[derive(Debug, Clone, Copy, PartialEq, Eq)]
+pub enum WarningKind {
+    /// A value of a module document.
+    Value(ValueWarning),
+    /// A string literal whose value the source doesn't spell at the literal's range.
+    UnspelledLiteral,
+    /// The root of a document of `reach`, which is no module's key.
+    UnknownRoot,
+}
+
+impl WarningKind {
+    /// The warning in words.
+    pub fn words(self) -> &'static str
+        ensures { result.now ≡ warning_words self }
+    {
+        match self {
+            WarningKind::Value(value) => value.words(),
+            WarningKind::UnspelledLiteral => {
+                "the source doesn't spell this value at the literal's range"
+            }
+            WarningKind::UnknownRoot => "no module has this key, so the answer is []",
+        }
+    }
+}
 
 /// A warning about a value that the author of the document may not have meant.
 #[derive(Debug, PartialEq, Eq, Drop)]
 pub struct Warning {
     /// The JSON Pointer of the value.
     pub pointer: String,
-    /// The warning, in words.
-    pub says: &'static str,
+    /// What the warning is about.
+    pub kind: WarningKind,
 }
 
 /// The warnings about a document, in the order of reading.
@@ -53,26 +116,9 @@ impl Warnings {
         self.kept.is_empty() && self.more == 0
     }
 
-    /// Adds a warning about the value at this path, from the outermost token on. The only error is a
-    /// failed allocation.
-    pub fn add(
-        &mut self,
-        alloc: Global,
-        path: &[ReferenceToken<'_>],
-        says: &'static str,
-    ) -> Result<(), AllocError> {
-        if self.kept.len() >= MAX_KEPT {
-            self.more = self.more.saturating_add(1);
-            return Ok(());
-        }
-        let pointer = pointer_to(alloc, path)?;
-        self.kept.push(Warning { pointer, says })?;
-        Ok(())
-    }
-
-    /// Adds a warning. The only error is a failed allocation.
+    /// Adds a warning: counts it if 100 are kept, else keeps it. The only error is a failed allocation.
     pub fn push(&mut self, warning: Warning) -> Result<(), AllocError>
-        ensures { OnOk result (HasNone self.new → ⊥) }
+        ensures { OnOk result (Adds warning self.old self.new) }
     {
         if self.kept.len() >= MAX_KEPT {
             self.more = self.more.saturating_add(1);

@@ -2,33 +2,35 @@
 
 ghost use Rattle.std.specs.Prelude.{IfOk};
 ghost use Rattle.modinfo_document.specs.Report.{HasNone};
-ghost use Rattle.modinfo_document.specs.Spelling.{AreSpelled};
+ghost use Rattle.modinfo_document.specs.Spelling.{AreSpelled, HasNoLiteral, WarnsOfEach};
 
 use crate::lookup::{elements, member};
+use crate::report::pointer::pointer_to;
 use crate::report::spelling::warn_of_literals;
-use crate::report::warning::Warnings;
+use crate::report::warning::{MAX_KEPT, ValueWarning, Warning, WarningKind, Warnings};
 use crate::{Document, Role, member_names};
 use deno_graph_json::{Element, ReferenceToken};
 use std::alloc::{AllocError, Global};
 
-const UNREAD: &str = "nothing reads a member of this name here";
+/// A value to warn about.
+#[derive(Drop)]
+struct FoundValue {
+    /// The JSON Pointer of the value.
+    pointer: String,
+    warning: ValueWarning,
+}
 
-const BEYOND: &str = "no comment is looked for here: the position is beyond the source";
-
-const INSIDE: &str = "no comment is looked for here: the position is inside a character";
-
-const OUTSIDE: &str = "the range isn't inside that of the node above";
-
-const EARLIER: &str = "the range starts before that of the child in front of it";
-
-/// A search for warnings.
+/// A search for values to warn about.
 #[derive(Drop)]
 struct Survey<'a> {
     alloc: Global,
     source: &'a str,
     /// The steps to the value that is looked at, from the outermost on.
     path: Vec<ReferenceToken<'a>>,
-    warnings: Warnings,
+    /// The first 100 values, in the order of reading.
+    found: Vec<FoundValue>,
+    /// The number of other values.
+    more: usize,
 }
 
 /// Finds the warnings about a valid document, which was read from the value `root`. The only error is a
@@ -38,27 +40,46 @@ pub fn find_warnings(
     root: Element<'_>,
     document: &Document,
 ) -> Result<Warnings, AllocError>
-    ensures { IfOk result (λ warnings. HasNone warnings → AreSpelled document.now) }
+    ensures none { IfOk result (λ warnings. HasNone warnings → AreSpelled document.now) }
+    ensures each { IfOk result (WarnsOfEach document.now) }
 {
-    let mut warnings = survey_values(alloc, root, document)?;
+    let mut warnings = warn_of_values(alloc, root, document)?;
     warn_of_literals(alloc, document, &mut warnings)?;
     Ok(warnings)
 }
 
-/// Finds the warnings about the values from which a document was read.
-fn survey_values<'a>(
+/// Finds the warnings about the values from which a document was read, but for the values of its string
+/// literals.
+fn warn_of_values(
     alloc: Global,
-    root: Element<'a>,
-    document: &'a Document,
-) -> Result<Warnings, AllocError> {
+    root: Element<'_>,
+    document: &Document,
+) -> Result<Warnings, AllocError>
+    ensures { IfOk result HasNoLiteral }
+{
     let mut survey = Survey {
         alloc,
         source: document.source.as_str(),
         path: Vec::new(alloc),
-        warnings: Warnings::new(alloc),
+        found: Vec::new(alloc),
+        more: 0,
     };
     survey.document(root)?;
-    Ok(survey.warnings)
+    warnings_of(alloc, survey.found, survey.more)
+}
+
+/// The warnings about these values, and about as many more. The only error is a failed allocation.
+fn warnings_of(alloc: Global, found: Vec<FoundValue>, more: usize) -> Result<Warnings, AllocError>
+    ensures { IfOk result HasNoLiteral }
+{
+    let mut kept = Vec::with_capacity(alloc, found.len())?;
+    for value in found {
+        kept.push(Warning {
+            pointer: value.pointer,
+            kind: WarningKind::Value(value.warning),
+        })?;
+    }
+    Ok(Warnings { kept, more })
 }
 
 impl<'a> Survey<'a> {
@@ -94,14 +115,19 @@ impl<'a> Survey<'a> {
     }
 
     /// Warns about the value that is looked at.
-    fn warn(&mut self, says: &'static str) -> Result<(), AllocError> {
-        self.warnings.add(self.alloc, self.path.as_slice(), says)
+    fn warn(&mut self, warning: ValueWarning) -> Result<(), AllocError> {
+        if self.found.len() >= MAX_KEPT {
+            self.more = self.more.saturating_add(1);
+            return Ok(());
+        }
+        let pointer = pointer_to(self.alloc, self.path.as_slice())?;
+        Ok(self.found.push(FoundValue { pointer, warning })?)
     }
 
     /// Warns about the member of this name.
-    fn warn_at(&mut self, name: &'a str, says: &'static str) -> Result<(), AllocError> {
+    fn warn_at(&mut self, name: &'a str, warning: ValueWarning) -> Result<(), AllocError> {
         self.enter(name)?;
-        self.warn(says)?;
+        self.warn(warning)?;
         self.leave();
         Ok(())
     }
@@ -113,7 +139,7 @@ impl<'a> Survey<'a> {
         };
         for (name, _) in members {
             if !is_read(role, name) {
-                self.warn_at(name, UNREAD)?;
+                self.warn_at(name, ValueWarning::UnreadMember)?;
             }
         }
         Ok(())
@@ -163,8 +189,14 @@ impl<'a> Survey<'a> {
     /// Warns about a position at which no comment is looked for.
     fn position(&mut self, entry: Element<'a>) -> Result<(), AllocError> {
         match member(entry, "pos").and_then(|pos| pos.as_u64()) {
-            Some(at) if at as usize > self.source.len() => self.warn_at("pos", BEYOND),
-            Some(at) if !self.source.is_char_boundary(at as usize) => self.warn_at("pos", INSIDE),
+            Some(at) if at as usize > self.source.len() => self.warn_at(
+                "pos",
+                ValueWarning::PositionBeyond,
+            ),
+            Some(at) if !self.source.is_char_boundary(at as usize) => self.warn_at(
+                "pos",
+                ValueWarning::PositionInside,
+            ),
             _ => Ok(()),
         }
     }
@@ -183,9 +215,9 @@ impl<'a> Survey<'a> {
             self.enter_item(number)?;
             let (start, end) = offsets_of(node);
             if start < first || end > last {
-                self.warn(OUTSIDE)?;
+                self.warn(ValueWarning::RangeOutside)?;
             } else if start < before {
-                self.warn(EARLIER)?;
+                self.warn(ValueWarning::RangeEarlier)?;
             } else {
                 before = start;
             }

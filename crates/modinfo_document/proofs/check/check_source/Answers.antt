@@ -28,5 +28,6 @@ returns-in_ok-find_warnings-in-None-clause-report c text is has url has_url = re
 
 pub returns-in_ok-find_warnings-in-None-clause-warnings :
     goal.returns-in_ok-find_warnings-in-None-clause-warnings
-returns-in_ok-find_warnings-in-None-clause-warnings c text is has none =
-    (c.args.document.now, (data_of c.args.root, is, has), c.in_ok-find_warnings-in-None.ensures none)
+returns-in_ok-find_warnings-in-None-clause-warnings c text is has =
+    let found = c.in_ok-find_warnings-in-None.ensures in
+    (c.args.document.now, (data_of c.args.root, is, has), found.none, found.each)
