@@ -2,19 +2,18 @@
 use Rattle.std.proofs.Common.{
   ◌≡◌,
   ℕ,
+  zero,
+  suc,
   ◌+◌,
   ◌<◌,
   ◌≤◌,
   Bool,
   true,
   false,
-  ◌&&◌,
   ◌||◌,
   ◌==◌,
-  ltb,
-  leb,
   max,
-  ◌⊎◌,
+  min,
   inl,
   inr,
   List,
@@ -22,6 +21,7 @@ use Rattle.std.proofs.Common.{
   ◌∷◌,
   ◌++◌,
   length,
+  map,
   take,
   get_or,
   set,
@@ -32,31 +32,36 @@ use Rattle.std.proofs.Common.{
   ◌∙◌,
   arith,
 }
-use Rattle.std.proofs.lemmas.Bool.{cases_eq, cases_lt, eq-eqb, le-ltb, lt-ltb, ne_eqb}
+use Rattle.std.proofs.lemmas.Bool.{cases_eq, eq-eqb, ne_eqb}
 use Rattle.std.proofs.lemmas.Bool.Decides.{nat_tests}
 use Rattle.std.proofs.lemmas.List.{
   append-nil,
   append_assoc,
   ext_get_or,
   get_or-map,
-  get_or-replicate,
   get_or-set_other,
   get_or-set_same,
   length-append,
   length-map,
   length-replicate,
   length-set,
+  map-append,
+  map-set,
+  set-get_or,
 }
-use Rattle.std.proofs.lemmas.List.Folds.{list_any_more}
+use Rattle.std.proofs.lemmas.List.Folds.{list_any_kept, list_any_more}
 use Rattle.std.proofs.lemmas.List.FromFn.{get_or-enumerate_from, length-enumerate_from}
+use Rattle.std.proofs.lemmas.List.Sorted.{list_any-IsPermutation}
 use Rattle.std.proofs.lemmas.Str.{IsUtf8-past_char, chars-nil, chars_past_char, encodes-chars, length-encode}
 use Rattle.std.specs.Char.{encode_utf8, len_utf8}
 use lib.Utf8.{encodes}
 use Rattle.std.specs.List.{enumerate_from, flat_map, list_any}
+use Rattle.std.specs.List.Sorted.{IsPermutation}
 use Rattle.std.specs.Str.{IsUtf8, chars}
 use Rattle.deno_graph_base.specs.declared.text.position.SourceRange.{SourceRange}
-use Rattle.modinfo_estree.specs.Tokens.{bytes_of, gaps, has_byte, is_space}
-use Rattle.modinfo_estree.specs.internal.Tokens.{AreReaches, reaches_from, with_ranges}
+use Rattle.modinfo_estree.specs.Tokens.{bytes_of, gaps, has_byte, is_line_break, is_space}
+use Rattle.modinfo_estree.specs.declared.marks.Mark.{Mark}
+use Rattle.modinfo_estree.specs.internal.Marks.{AreMarked, breaks_of, gaps_of, is_break, is_gap}
 
 -- ---- Characters
 
@@ -84,7 +89,22 @@ pub all_pushed : (test : ℕ → Bool) (bytes : List Bool) (rest : List ℕ) (wh
 all_pushed test bytes rest whole none kept =
     sym (append-nil bytes) ∙ ap (λ l. bytes ++ l) (sym (no_bytes test rest none)) ∙ kept
 
--- ---- Ranges by their starts
+map-replicate : (f : Mark → Bool) (n : ℕ) (mark : Mark) → map f (replicate n mark) ≡ replicate n (f mark)
+map-replicate f zero mark = refl
+map-replicate f (suc n) mark = ap (λ l. f mark ∷ l) (map-replicate f n mark)
+
+-- The marks of one more character, as a test of marks sees them.
+pub push_seen : (f : Mark → Bool) (old new : List Mark) (n : ℕ) (mark : Mark)
+    → new ≡ old ++ replicate n mark → map f new ≡ map f old ++ replicate n (f mark)
+push_seen f old new n mark pushed =
+    ap (map f) pushed ∙ map-append f old (replicate n mark)
+    ∙ ap (λ l. map f old ++ l) (map-replicate f n mark)
+
+-- A line terminator is white space.
+pub break_is_space : (c : ℕ) → is_line_break c ≡ true → is_space c ≡ true
+break_is_space c is = grind (arith, nat_tests)
+
+-- ---- Ranges
 
 or_false : (t : Bool) → (t || false) ≡ t
 or_false true = refl
@@ -94,252 +114,156 @@ or_true : (t : Bool) → (t || true) ≡ true
 or_true true = refl
 or_true false = refl
 
--- Below the larger of two numbers is below one of them.
-lt_max : (n a b : ℕ) → ltb n (max a b) ≡ (ltb n a || ltb n b)
-lt_max n a b = elim (cases_lt n a) [
-  | inl less ↦
-      lt-ltb n (max a b) (omega arith) ∙ ap (λ t. t || ltb n b) (sym (lt-ltb n a less))
-  | inr more ↦ elim (cases_lt n b) [
-    | inl less ↦
-        lt-ltb n (max a b) (omega arith) ∙ sym (lt-ltb n b less)
-        ∙ ap (λ t. t || ltb n b) (sym (le-ltb n a more))
-    | inr also ↦
-        le-ltb n (max a b) (omega arith) ∙ sym (le-ltb n b also)
-        ∙ ap (λ t. t || ltb n b) (sym (le-ltb n a more))
-  ]
-]
+or_assoc : (a b c : Bool) → ((a || b) || c) ≡ (a || (b || c))
+or_assoc true b c = refl
+or_assoc false b c = refl
 
-pub no_reaches : (ranges : List SourceRange) (count : ℕ) (reaches : List ℕ) → reaches ≡ replicate count 0
-    → AreReaches (take 0 ranges) count reaches
-no_reaches ranges count reaches all = record {
-  size = ap length all ∙ length-replicate count 0;
-  each = λ start at below.
-      ap (λ l. ltb at (get_or l start 0)) all
-      ∙ ap (ltb at) (get_or-replicate count start 0 0 below) ∙ le-ltb at 0 (omega arith);
-}
-
--- One more range, whose start is in the table.
-pub reach_inside : (ranges : List SourceRange) (count : ℕ) (reaches : List ℕ) (i new : ℕ) (r : SourceRange)
-    → AreReaches (take i ranges) count reaches → i < length ranges → r ≡ get_or ranges i r → r.start < count
-    → new ≡ max (get_or reaches r.start 0) r.end
-    → AreReaches (take (i + 1) ranges) count (set reaches r.start new)
-reach_inside ranges count reaches i new r so_far within is inside larger = record {
-  size = length-set reaches r.start new ∙ so_far.size;
-  each = λ start at below.
-      let passes : SourceRange → Bool = λ range. (range.start == start) && ltb at range.end in
-      let one_more : reaches_from (take (i + 1) ranges) start at
-      ≡ (reaches_from (take i ranges) start at || passes r) =
-      list_any_more passes ranges i r within
-      ∙ ap (λ x. list_any passes (take i ranges) || passes x) (sym is) in
-      elim (cases_eq start r.start) [
-        | inl here ↦
-            let room : r.start < length reaches = omega (arith, so_far.size) in
-            let same : passes r ≡ ltb at r.end =
-            ap (λ t. t && ltb at r.end) (eq-eqb r.start start (sym here)) in
-            ap (λ n. ltb at (get_or (set reaches r.start new) n 0)) here
-            ∙ ap (ltb at) (get_or-set_same reaches r.start new 0 room ∙ larger)
-            ∙ lt_max at (get_or reaches r.start 0) r.end
-            ∙ ap (λ n. ltb at (get_or reaches n 0) || ltb at r.end) (sym here)
-            ∙ ap (λ t. t || ltb at r.end) (so_far.each start at below)
-            ∙ ap (λ t. reaches_from (take i ranges) start at || t) (sym same) ∙ sym one_more
-        | inr other ↦
-            let none : passes r ≡ false =
-            ap (λ t. t && ltb at r.end) (ne_eqb r.start start (λ e. other (sym e))) in
-            ap (ltb at) (get_or-set_other reaches r.start start new 0 other) ∙ so_far.each start at below
-            ∙ sym (or_false (reaches_from (take i ranges) start at))
-            ∙ ap (λ t. reaches_from (take i ranges) start at || t) (sym none) ∙ sym one_more
-      ];
-}
-
--- One more range, whose start is not in the table.
-pub reach_outside : (ranges : List SourceRange) (count : ℕ) (reaches : List ℕ) (i : ℕ) (r : SourceRange)
-    → AreReaches (take i ranges) count reaches → i < length ranges → r ≡ get_or ranges i r → count ≤ r.start
-    → AreReaches (take (i + 1) ranges) count reaches
-reach_outside ranges count reaches i r so_far within is outside = record {
-  size = so_far.size;
-  each = λ start at below.
-      let passes : SourceRange → Bool = λ range. (range.start == start) && ltb at range.end in
-      let none : passes r ≡ false =
-      ap (λ t. t && ltb at r.end) (ne_eqb r.start start (λ e. omega arith)) in
-      so_far.each start at below ∙ sym (or_false (reaches_from (take i ranges) start at))
-      ∙ ap (λ t. reaches_from (take i ranges) start at || t) (sym none)
-      ∙ ap (λ x. list_any passes (take i ranges) || passes x) is
-      ∙ sym (list_any_more passes ranges i r within);
-}
-
--- ---- Marking the ranges
-
--- Some range that starts before `start` ends after `at`.
-abbrev pub reaches_before : List SourceRange → ℕ → ℕ → Bool
-reaches_before ranges start at = list_any (λ range. ltb range.start start && ltb at range.end) ranges
-
-lt_next : (s n : ℕ) → ltb s (n + 1) ≡ (ltb s n || (s == n))
-lt_next s n = elim (cases_lt s n) [
-  | inl less ↦ lt-ltb s (n + 1) (omega arith) ∙ ap (λ u. u || (s == n)) (sym (lt-ltb s n less))
-  | inr more ↦ elim (cases_eq s n) [
-    | inl same ↦
-        lt-ltb s (n + 1) (omega arith) ∙ sym (eq-eqb s n same)
-        ∙ ap (λ u. u || (s == n)) (sym (le-ltb s n more))
-    | inr other ↦
-        le-ltb s (n + 1) (omega arith) ∙ sym (ne_eqb s n other)
-        ∙ ap (λ u. u || (s == n)) (sym (le-ltb s n more))
-  ]
-]
-
-and_or : (a b t : Bool) → ((a || b) && t) ≡ ((a && t) || (b && t))
-and_or true b true = refl
-and_or true true false = refl
-and_or true false false = refl
-and_or false b t = refl
-
-or_swap : (a b c d : Bool) → ((a || b) || (c || d)) ≡ ((a || c) || (b || d))
-or_swap true b c d = refl
-or_swap false b true d = or_true b
-or_swap false b false d = refl
-
-list_any_or : (p q r : SourceRange → Bool) → ((x : SourceRange) → p x ≡ (q x || r x))
-    → (xs : List SourceRange)
-    → list_any p xs ≡ (list_any q xs || list_any r xs)
-list_any_or p q r each [] = refl
-list_any_or p q r each (x ∷ xs) =
-    ap (λ t. t || list_any p xs) (each x) ∙ ap (λ t. (q x || r x) || t) (list_any_or p q r each xs)
-    ∙ or_swap (q x) (r x) (list_any q xs) (list_any r xs)
-
--- One more start.
-reaches_more : (ranges : List SourceRange) (n at : ℕ)
-    → reaches_before ranges (n + 1) at ≡ (reaches_before ranges n at || reaches_from ranges n at)
-reaches_more ranges n at =
-    list_any_or (λ range. ltb range.start (n + 1) && ltb at range.end)
-    (λ range. ltb range.start n && ltb at range.end) (λ range. (range.start == n) && ltb at range.end)
-    (λ range. ap (λ t. t && ltb at range.end) (lt_next range.start n)
-    ∙ and_or (ltb range.start n) (range.start == n) (ltb at range.end)) ranges
-
-le_is_lt : (a b : ℕ) → ltb a (b + 1) ≡ leb a b
-le_is_lt a b = grind (arith, nat_tests)
-
-reaches_here : (ranges : List SourceRange) (at : ℕ)
-    → reaches_before ranges (at + 1) at ≡ list_any (has_byte at) ranges
-reaches_here [] at = refl
-reaches_here (range ∷ ranges) at =
-    ap (λ t. (t && ltb at range.end) || reaches_before ranges (at + 1) at) (le_is_lt range.start at)
-    ∙ ap (λ t. has_byte at range || t) (reaches_here ranges at)
-
-nothing_before : (ranges : List SourceRange) (at : ℕ) → reaches_before ranges 0 at ≡ false
-nothing_before [] at = refl
-nothing_before (range ∷ ranges) at =
-    ap (λ t. (t && ltb at range.end) || reaches_before ranges 0 at) (le-ltb range.start 0 (omega arith))
-    ∙ nothing_before ranges at
-
--- The bytes before `n` are marked, and the others are as they were. Those before `reach` are in ranges
--- that start before `n`.
-pub record AreMarked (ranges : List SourceRange) (n reach : ℕ) (old new : List Bool) : Type 0 where
-  pub size : length new ≡ length old
-  pub reach_is : (at : ℕ) → ltb at reach ≡ reaches_before ranges n at
-  pub marked : (k : ℕ) → k < n → get_or new k false ≡ (get_or old k false || list_any (has_byte k) ranges)
-  pub kept : (k : ℕ) → n ≤ k → get_or new k false ≡ get_or old k false
-
-pub none_marked : (ranges : List SourceRange) (bytes : List Bool) → AreMarked ranges 0 0 bytes bytes
-none_marked ranges bytes = record {
+-- Nothing is marked yet.
+pub none_marked : (test : ℕ → Bool) (marks : List Mark) → ((at : ℕ) → test at ≡ false)
+    → AreMarked test marks marks
+none_marked test marks none = record {
   size = refl;
-  reach_is = λ at. le-ltb at 0 (omega arith) ∙ sym (nothing_before ranges at);
-  marked = λ k below. absurd (omega arith);
-  kept = λ k from. refl;
+  gaps = λ at within.
+      sym (or_false (get_or (gaps_of marks) at false)) ∙ ap (λ t. get_or (gaps_of marks) at false || t) (sym (none at));
+  breaks = refl;
 }
 
--- The byte after the marked ones, when it is in a range or not.
-pub mark_more : (ranges : List SourceRange) (reaches : List ℕ) (n reach more : ℕ) (old bytes new : List Bool)
-    → AreReaches ranges (length old) reaches → AreMarked ranges n reach old bytes → n < length old
-    → more ≡ max reach (get_or reaches n 0)
-    → ((n < more) × (new ≡ set bytes n true)) ⊎ ((more ≤ n) × (new ≡ bytes))
-    → AreMarked ranges (n + 1) more old new
-mark_more ranges reaches n reach more old bytes new table so_far within larger write =
-    let reach_is : (at : ℕ) → ltb at more ≡ reaches_before ranges (n + 1) at = λ at.
-    ap (ltb at) larger ∙ lt_max at reach (get_or reaches n 0)
-    ∙ ap (λ t. t || ltb at (get_or reaches n 0)) (so_far.reach_is at)
-    ∙ ap (λ t. reaches_before ranges n at || t) (table.each n at within) ∙ sym (reaches_more ranges n at) in
-    let here : ltb n more ≡ list_any (has_byte n) ranges = reach_is n ∙ reaches_here ranges n in
-    elim write [
-      | inl inside ↦
-          let hit : list_any (has_byte n) ranges ≡ true = sym here ∙ lt-ltb n more inside.0 in record {
-            size = ap length inside.1 ∙ length-set bytes n true ∙ so_far.size;
-            reach_is = reach_is;
-            marked = λ k below. elim (cases_eq k n) [
-              | inl same ↦
-                  ap (λ l. get_or l k false) inside.1 ∙ ap (λ j. get_or (set bytes n true) j false) same
-                  ∙ get_or-set_same bytes n true false (omega (arith, so_far.size))
-                  ∙ sym (or_true (get_or old k false)) ∙ ap (λ t. get_or old k false || t) (sym hit)
-                  ∙ ap (λ j. get_or old k false || list_any (has_byte j) ranges) (sym same)
-              | inr other ↦
-                  ap (λ l. get_or l k false) inside.1 ∙ get_or-set_other bytes n k true false other
-                  ∙ so_far.marked k (omega arith)
-            ];
-            kept = λ k from.
-                ap (λ l. get_or l k false) inside.1
-                ∙ get_or-set_other bytes n k true false (λ e. omega arith) ∙ so_far.kept k (omega arith);
-          }
-      | inr outside ↦
-          let miss : list_any (has_byte n) ranges ≡ false = sym here ∙ le-ltb n more outside.0 in record {
-            size = ap length outside.1 ∙ so_far.size;
-            reach_is = reach_is;
-            marked = λ k below. elim (cases_eq k n) [
-              | inl same ↦
-                  ap (λ l. get_or l k false) outside.1 ∙ so_far.kept k (omega arith)
-                  ∙ sym (or_false (get_or old k false)) ∙ ap (λ t. get_or old k false || t) (sym miss)
-                  ∙ ap (λ j. get_or old k false || list_any (has_byte j) ranges) (sym same)
-              | inr other ↦ ap (λ l. get_or l k false) outside.1 ∙ so_far.marked k (omega arith)
-            ];
-            kept = λ k from. ap (λ l. get_or l k false) outside.1 ∙ so_far.kept k (omega arith);
-          }
-    ]
+-- Another test of the same bytes.
+pub tested : (test other : ℕ → Bool) (old new : List Mark) → AreMarked test old new
+    → ((at : ℕ) → at < length old → test at ≡ other at) → AreMarked other old new
+tested test other old new marked same = record {
+  size = marked.size;
+  gaps = λ at within.
+      marked.gaps at within ∙ ap (λ t. get_or (gaps_of old) at false || t) (same at within);
+  breaks = marked.breaks;
+}
 
--- All bytes are marked.
-pub all_marked : (ranges : List SourceRange) (n reach : ℕ) (old new : List Bool)
-    → AreMarked ranges n reach old new → length old ≤ n → new ≡ with_ranges ranges old
-all_marked ranges n reach old new so_far all =
-    let mark : ℕ × Bool → Bool = λ byte. byte.1 || list_any (has_byte byte.0) ranges in
-    let size : length (with_ranges ranges old) ≡ length old =
-    length-map (enumerate_from 0 old) mark ∙ length-enumerate_from 0 old in
-    ext_get_or false new (with_ranges ranges old) (so_far.size ∙ sym size) (λ k below.
+-- The bytes of one test, and then those of another.
+pub marked_also : (first second : ℕ → Bool) (old marks new : List Mark) → AreMarked first old marks
+    → AreMarked second marks new → AreMarked (λ at. first at || second at) old new
+marked_also first second old marks new before after = record {
+  size = after.size ∙ before.size;
+  gaps = λ at within.
+      after.gaps at (omega (arith, before.size)) ∙ ap (λ t. t || second at) (before.gaps at within)
+      ∙ or_assoc (get_or (gaps_of old) at false) (first at) (second at);
+  breaks = after.breaks ∙ before.breaks;
+}
+
+-- One byte.
+pub mark_byte : (marks : List Mark) (i : ℕ) (mark new : Mark) → i < length marks → mark ≡ get_or marks i mark
+    → is_gap new ≡ true → is_break new ≡ is_break mark
+    → AreMarked (λ at. at == i) marks (set marks i new)
+mark_byte marks i mark new within is gap break = record {
+  size = length-set marks i new;
+  gaps = λ at below.
+      ap (λ l. get_or l at false) (map-set is_gap marks i new ∙ ap (set (gaps_of marks) i) gap)
+      ∙ elim (cases_eq at i) [
+        | inl here ↦
+            ap (λ j. get_or (set (gaps_of marks) i true) j false) here
+            ∙ get_or-set_same (gaps_of marks) i true false (omega (arith, length-map marks is_gap))
+            ∙ sym (or_true (get_or (gaps_of marks) at false))
+            ∙ ap (λ t. get_or (gaps_of marks) at false || t) (sym (eq-eqb at i here))
+        | inr other ↦
+            get_or-set_other (gaps_of marks) i at true false other
+            ∙ sym (or_false (get_or (gaps_of marks) at false))
+            ∙ ap (λ t. get_or (gaps_of marks) at false || t) (sym (ne_eqb at i other))
+      ];
+  breaks =
+      map-set is_break marks i new
+      ∙ ap (set (breaks_of marks) i) (break ∙ ap is_break is ∙ sym (get_or-map is_break marks i mark false within))
+      ∙ set-get_or (breaks_of marks) i false;
+}
+
+-- One byte more of a range.
+pub range_more : (start at k : ℕ) → start ≤ at
+    → (has_byte k (record { start = start; end = at }) || (k == at))
+    ≡ has_byte k (record { start = start; end = at + 1 })
+range_more start at k from = grind (arith, nat_tests)
+
+-- No byte of a range yet.
+pub range_none : (start k : ℕ) → has_byte k (record { start = start; end = start }) ≡ false
+range_none start k = grind (arith, nat_tests)
+
+-- All bytes of a range that are before `size`.
+pub range_all : (start end at size k : ℕ) → start ≤ at → at ≤ max (min end size) start
+    → min end size ≤ at → k < size
+    → has_byte k (record { start = start; end = at }) ≡ has_byte k (record { start = start; end = end })
+range_all start end at size k from to all within = grind (arith, nat_tests)
+
+-- The bytes of a range, without some that are marked already.
+absorb : (t l p r : Bool) → (l ≡ true → t ≡ true) → (l || p) ≡ (l || r) → (t || p) ≡ (t || r)
+absorb t true p r has same = ap (λ t. t || p) (has refl) ∙ ap (λ t. t || r) (sym (has refl))
+absorb t false p r has same = ap (λ x. t || x) same
+
+-- The bytes of `last` are of the ranges before the range number `i`.
+abbrev pub IsPast : List SourceRange → ℕ → SourceRange → Type 0
+IsPast ranges i last = (at : ℕ) → has_byte at last ≡ true → list_any (has_byte at) (take i ranges) ≡ true
+
+pub nothing_past : (ranges : List SourceRange) (last : SourceRange) → last ≡ record { start = 0; end = 0 }
+    → IsPast ranges 0 last
+nothing_past ranges last is at has = absurd (true_not_false (sym has ∙ ap (has_byte at) is ∙ range_none 0 at))
+  where
+    true_not_false : true ≡ false → ⊥
+    true_not_false e = cc
+
+-- One range more, of which a part is marked.
+pub mark_more : (ranges : List SourceRange) (i : ℕ) (range last part : SourceRange) (old marks new : List Mark)
+    → i < length ranges → range ≡ get_or ranges i range → IsPast ranges i last
+    → ((at : ℕ) → (has_byte at last || has_byte at part) ≡ (has_byte at last || has_byte at range))
+    → AreMarked (λ at. list_any (has_byte at) (take i ranges)) old marks
+    → AreMarked (λ at. has_byte at part) marks new
+    → AreMarked (λ at. list_any (has_byte at) (take (i + 1) ranges)) old new
+mark_more ranges i range last part old marks new within is past same before after =
+    tested (λ at. list_any (has_byte at) (take i ranges) || has_byte at part)
+    (λ at. list_any (has_byte at) (take (i + 1) ranges)) old new
+    (marked_also (λ at. list_any (has_byte at) (take i ranges)) (λ at. has_byte at part) old marks new before after)
+    (λ at _. absorb (list_any (has_byte at) (take i ranges)) (has_byte at last) (has_byte at part)
+    (has_byte at range) (past at) (same at)
+    ∙ ap (λ r. list_any (has_byte at) (take i ranges) || has_byte at r) is
+    ∙ sym (list_any_more (has_byte at) ranges i range within))
+
+pub past_range : (ranges : List SourceRange) (i : ℕ) (range : SourceRange) → i < length ranges
+    → range ≡ get_or ranges i range → IsPast ranges (i + 1) range
+past_range ranges i range within is at has =
+    list_any_more (has_byte at) ranges i range within
+    ∙ ap (λ r. list_any (has_byte at) (take i ranges) || has_byte at r) (sym is)
+    ∙ ap (λ t. list_any (has_byte at) (take i ranges) || t) has
+    ∙ or_true (list_any (has_byte at) (take i ranges))
+
+pub still_past : (ranges : List SourceRange) (i : ℕ) (last : SourceRange) → IsPast ranges i last
+    → IsPast ranges (i + 1) last
+still_past ranges i last past at has = list_any_kept (has_byte at) ranges i (past at has)
+
+-- All ranges, in another order.
+pub all_marked : (text : List ℕ) (comments ranges : List SourceRange) (old new : List Mark)
+    → IsPermutation comments ranges → gaps_of old ≡ bytes_of is_space text
+    → AreMarked (λ at. list_any (has_byte at) ranges) old new → gaps_of new ≡ gaps text comments
+unfolding gaps
+all_marked text comments ranges old new moved spaces marked =
+    let bytes = bytes_of is_space text in
+    let mark : ℕ × Bool → Bool = λ byte. byte.1 || list_any (has_byte byte.0) comments in
+    let size : length (gaps_of new) ≡ length bytes =
+    omega (arith, length-map new is_gap, length-map old is_gap, marked.size, ap length spaces) in
+    let all : length (map mark (enumerate_from 0 bytes)) ≡ length bytes =
+    length-map (enumerate_from 0 bytes) mark ∙ length-enumerate_from 0 bytes in
+    ext_get_or false (gaps_of new) (map mark (enumerate_from 0 bytes)) (size ∙ sym all) (λ k below.
     let start : 0 + k ≡ k = omega arith in
-    so_far.marked k (omega (arith, so_far.size))
-    ∙ sym (get_or-map mark (enumerate_from 0 old) k (0, false) false
-    (omega (arith, length-enumerate_from 0 old, so_far.size))
-    ∙ ap mark (get_or-enumerate_from 0 old k (0, false) (omega (arith, so_far.size))
-    ∙ ap (λ j. (j, get_or old k false)) start)))
+    marked.gaps k (omega (arith, length-map new is_gap, marked.size))
+    ∙ ap (λ l. get_or l k false || list_any (has_byte k) ranges) spaces
+    ∙ ap (λ t. get_or bytes k false || t) (sym (list_any-IsPermutation (has_byte k) comments ranges moved))
+    ∙ sym (get_or-map mark (enumerate_from 0 bytes) k (0, false) false
+    (omega (arith, length-enumerate_from 0 bytes, size))
+    ∙ ap mark (get_or-enumerate_from 0 bytes k (0, false) (omega (arith, size))
+    ∙ ap (λ j. (j, get_or bytes k false)) start)))
 
 -- ---- Sizes
 
-same_size : (p q : ℕ → Bool) (cs : List ℕ)
-    → length (flat_map (λ c. replicate (len_utf8 c) (p c)) cs)
-    ≡ length (flat_map (λ c. replicate (len_utf8 c) (q c)) cs)
-same_size p q [] = refl
-same_size p q (c ∷ cs) =
-    let first = replicate (len_utf8 c) (p c) in
-    let second = replicate (len_utf8 c) (q c) in
-    omega (
-      arith,
-      length-append first (flat_map (λ c. replicate (len_utf8 c) (p c)) cs),
-      length-append second (flat_map (λ c. replicate (len_utf8 c) (q c)) cs),
-      length-replicate (len_utf8 c) (p c),
-      length-replicate (len_utf8 c) (q c),
-      same_size p q cs,
-    )
-
--- A text has as many marks of one test as of another.
-pub same_marks : (p q : ℕ → Bool) (text : List ℕ) → length (bytes_of p text) ≡ length (bytes_of q text)
-unfolding bytes_of
-same_marks p q text = same_size p q (chars text)
-
-pub length-with_ranges : (ranges : List SourceRange) (bytes : List Bool)
-    → length (with_ranges ranges bytes) ≡ length bytes
+length-with_ranges : (ranges : List SourceRange) (bytes : List Bool)
+    → length (map (λ byte. byte.1 || list_any (has_byte byte.0) ranges) (enumerate_from 0 bytes))
+    ≡ length bytes
 length-with_ranges ranges bytes =
     length-map (enumerate_from 0 bytes) (λ byte. byte.1 || list_any (has_byte byte.0) ranges)
     ∙ length-enumerate_from 0 bytes
-
-pub gaps_are : (text : List ℕ) (comments : List SourceRange)
-    → with_ranges comments (bytes_of is_space text) ≡ gaps text comments
-unfolding gaps
-gaps_are text comments = refl
 
 size_of_chars : (test : ℕ → Bool) (cs : List ℕ)
     → length (flat_map (λ c. replicate (len_utf8 c) (test c)) cs) ≡ length (encodes cs)
@@ -363,6 +287,6 @@ length-bytes_of test text utf8 = size_of_chars test (chars text) ∙ ap length (
 
 pub length-gaps : (text : List ℕ) (comments : List SourceRange) → IsUtf8 text
     → length (gaps text comments) ≡ length text
+unfolding gaps
 length-gaps text comments utf8 =
-    ap length (sym (gaps_are text comments)) ∙ length-with_ranges comments (bytes_of is_space text)
-    ∙ length-bytes_of is_space text utf8
+    length-with_ranges comments (bytes_of is_space text) ∙ length-bytes_of is_space text utf8

@@ -7,5 +7,6 @@ pub mod InnerMembers
 pub mod JsonMembers
 pub mod Nodes
 pub mod SortedByStart
+pub mod Tables
 pub mod TokenTables
 pub mod UnitSizes

@@ -1,39 +1,14 @@
--- The tables of tokens, one offset on.
-use Rattle.std.proofs.Common.{
-  ◌≡◌,
-  ℕ,
-  ◌+◌,
-  ◌-◌,
-  ◌<◌,
-  ◌≤◌,
-  Bool,
-  true,
-  false,
-  not,
-  ◌&&◌,
-  List,
-  [],
-  ◌∷◌,
-  ◌++◌,
-  length,
-  take,
-  drop,
-  map,
-  get_or,
-  min,
-  refl,
-  sym,
-  ap,
-  ◌∙◌,
-  arith,
+-- Where tokens start and end, one offset on.
+use Rattle.std.proofs.Common.{◌≡◌, ℕ, ◌+◌, ◌-◌, ◌<◌, ◌≤◌, Bool, true, false, not, ◌&&◌, List, [], ◌∷◌, length, take, drop, get_or, min, refl, sym, ap, ◌∙◌, arith}
+use Rattle.std.proofs.lemmas.List.{
+  drop-append-le,
+  drop_all,
+  length-map,
+  length-take-le,
+  take_min,
+  take_more,
 }
-use Rattle.std.proofs.lemmas.List.{drop-append-le, drop_all, length-take-le, take_min, take_more}
 use Rattle.std.proofs.lemmas.List.Folds.{list_all-append}
-use Rattle.std.proofs.lemmas.List.FromFn.{
-  get_or-map-range_with_len,
-  length-map-range_with_len,
-  map-range_with_len_more,
-}
 use Rattle.std.proofs.lemmas.List.Sums.{
   prefix_len-drop_all,
   prefix_len-drop_no,
@@ -41,16 +16,16 @@ use Rattle.std.proofs.lemmas.List.Sums.{
   suffix_len-take_no,
   suffix_len-take_yes,
 }
-use Rattle.std.specs.List.{list_all, range_with_len, suffix_len}
+use Rattle.std.specs.List.{list_all, suffix_len}
 use Rattle.modinfo_estree.specs.Tokens.{is_on_line, token_end, token_start}
-use Rattle.modinfo_estree.specs.internal.Tokens.{offsets_of}
+use Rattle.modinfo_estree.specs.declared.marks.Mark.{Mark}
+use Rattle.modinfo_estree.specs.internal.Marks.{breaks_of, gaps_of, is_break, is_gap}
 
--- A table of a function up to the offset `n`, and one more.
-pub more : {X : Type 0} (f : ℕ → X) (xs : List X) (n : ℕ) (x : X) → xs ≡ map f (range_with_len 0 (n + 1))
-    → x ≡ f (n + 1) → xs ++ x ∷ [] ≡ map f (range_with_len 0 (n + 1 + 1))
-more f xs n x so_far next =
-    ap (λ ys. ys ++ x ∷ []) so_far ∙ ap (λ y. map f (range_with_len 0 (n + 1)) ++ y ∷ []) next
-    ∙ sym (map-range_with_len_more f 0 (n + 1) (n + 1) (omega arith))
+pub size_of_gaps : (marks : List Mark) → length (gaps_of marks) ≡ length marks
+size_of_gaps marks = length-map marks is_gap
+
+pub size_of_breaks : (marks : List Mark) → length (breaks_of marks) ≡ length marks
+size_of_breaks marks = length-map marks is_break
 
 -- ---- Starts
 
@@ -132,17 +107,29 @@ line_at_gap breaks gaps i size within is =
     alone true = refl
     alone false = refl
 
--- ---- The tables, read
+-- The line of an offset after a byte between tokens, by whether the byte is of a line terminator.
+pub line_same : (breaks gaps : List Bool) (i : ℕ) → length breaks ≡ length gaps → i < length gaps
+    → get_or gaps i false ≡ true → get_or breaks i false ≡ false
+    → is_on_line breaks gaps (i + 1) ≡ is_on_line breaks gaps i
+line_same breaks gaps i size within gap same =
+    line_at_gap breaks gaps i size within gap ∙ ap (λ b. is_on_line breaks gaps i && not b) same
+    ∙ and_true (is_on_line breaks gaps i)
+  where
+    and_true : (t : Bool) → (t && true) ≡ t
+    and_true true = refl
+    and_true false = refl
 
-pub size_of_table : {X : Type 0} (f : ℕ → X) (gaps : List Bool) (xs : List X) → xs ≡ map f (offsets_of gaps)
-    → length xs ≡ length gaps + 1
-size_of_table f gaps xs is = ap length is ∙ length-map-range_with_len f 0 (length gaps + 1)
+pub line_broken : (breaks gaps : List Bool) (i : ℕ) → length breaks ≡ length gaps → i < length gaps
+    → get_or gaps i false ≡ true → get_or breaks i false ≡ true → is_on_line breaks gaps (i + 1) ≡ false
+line_broken breaks gaps i size within gap broken =
+    line_at_gap breaks gaps i size within gap ∙ ap (λ b. is_on_line breaks gaps i && not b) broken
+    ∙ and_false (is_on_line breaks gaps i)
+  where
+    and_false : (t : Bool) → (t && false) ≡ false
+    and_false true = refl
+    and_false false = refl
 
-pub read_table : {X : Type 0} (f : ℕ → X) (gaps : List Bool) (xs : List X) (k : ℕ) (d : X)
-    → xs ≡ map f (offsets_of gaps) → k ≤ length gaps → get_or xs k d ≡ f k
-read_table f gaps xs k d is within =
-    ap (λ l. get_or l k d) is
-    ∙ get_or-map-range_with_len f 0 (length gaps + 1) k k d (omega arith) (omega arith)
+-- ---- After the end
 
 -- An offset after the end is as good as the end.
 pub end_past : (gaps : List Bool) (offset : ℕ)

@@ -5,6 +5,8 @@ use Rattle.std.proofs.Common.{
   zero,
   suc,
   ◌+◌,
+  ◌-◌,
+  ◌*◌,
   ◌/◌,
   ◌<◌,
   ◌≤◌,
@@ -20,21 +22,30 @@ use Rattle.std.proofs.Common.{
   ◌++◌,
   length,
   take,
-  drop,
   get_or,
   sum,
   refl,
   sym,
   ap,
+  subst,
   ◌∙◌,
   arith,
   ltb,
   length-append,
 }
-use Rattle.std.proofs.lemmas.Bool.{cases_Bool, lt-ltb, le-ltb, le-leb, lt-leb, ltb-true}
+use Rattle.std.proofs.lemmas.Bool.{cases_Bool, cases_lt, lt-ltb, le-ltb, le-leb, lt-leb, ltb-true}
 use Rattle.std.proofs.lemmas.Bool.Decides.{nat_tests}
 use Rattle.std.proofs.lemmas.Grind.{flat_map-append}
-use Rattle.std.proofs.lemmas.List.{append-nil, take-append-drop, take_at, take_more}
+use Rattle.std.proofs.lemmas.List.{
+  append-nil,
+  get_or-append-add,
+  get_or-append_right,
+  get_or_append_left,
+  take-append-le,
+  take_all,
+  take_at,
+  take_more,
+}
 use Rattle.std.proofs.lemmas.List.Sums.{sum_by-append, sum_by-cons}
 use Rattle.std.proofs.lemmas.Str.{encode_ascii}
 use Rattle.std.specs.Str.{IsUtf8}
@@ -42,7 +53,8 @@ use lib.Utf8.{encode, encodes, next}
 use Rattle.modinfo_estree.specs.Offsets.{byte_offset, offset_in, unit_sizes, units_at}
 use Rattle.modinfo_estree.specs.declared.offsets.OffsetUnit.{OffsetUnit}
 use Rattle.modinfo_estree.specs.declared.offsets.OffsetUnit.TheVariants.{Utf16, Utf8}
-use Rattle.modinfo_estree.specs.internal.Offsets.{AreByteOffsets, sums_after}
+use Rattle.modinfo_estree.specs.internal.Offsets.{AreByteOffsets, HaveBytes, bytes_of_units, unit_size}
+use Rattle.modinfo_estree.proofs.Tables.{size_of_table, value_at}
 
 sum-cons : (n : ℕ) (ns : List ℕ) → sum (n ∷ ns) ≡ n + sum ns
 sum-cons n ns = sum_by-cons (λ x. x) n ns
@@ -52,27 +64,6 @@ sum-append xs ys = sum_by-append (λ x. x) xs ys
 
 pub unit_sizes-append : (xs ys : List ℕ) → unit_sizes (xs ++ ys) ≡ unit_sizes xs ++ unit_sizes ys
 unit_sizes-append xs ys = flat_map-append units_at xs ys
-
--- ---- Running sums
-
-pub sums_after-append : (start : ℕ) (ns ms : List ℕ)
-    → sums_after start (ns ++ ms) ≡ sums_after start ns ++ sums_after (start + sum ns) ms
-sums_after-append start [] ms = ap (λ n. sums_after n ms) (omega arith)
-sums_after-append start (n ∷ ns) ms =
-    let same : start + n + sum ns ≡ start + sum (n ∷ ns) = omega (arith, sum-cons n ns) in
-    ap (λ l. (start + n) ∷ l) (sums_after-append (start + n) ns ms
-    ∙ ap (λ m. sums_after (start + n) ns ++ sums_after m ms) same)
-
-pub length-sums_after : (start : ℕ) (ns : List ℕ) → length (sums_after start ns) ≡ length ns
-length-sums_after start [] = refl
-length-sums_after start (n ∷ ns) = ap suc (length-sums_after (start + n) ns)
-
-pub sums_after_at : (start : ℕ) (ns : List ℕ) (k : ℕ) → k ≤ length ns
-    → get_or (start ∷ sums_after start ns) k 0 ≡ start + sum (take k ns)
-sums_after_at start ns zero within = omega arith
-sums_after_at start [] (suc k) within = absurd (omega arith)
-sums_after_at start (n ∷ ns) (suc k) within =
-    sums_after_at (start + n) ns k (omega arith) ∙ omega (arith, sum-cons n (take k ns))
 
 -- ---- The units of a character
 
@@ -178,15 +169,6 @@ pub sum_units : (text : List ℕ) → IsUtf8 text → sum (unit_sizes text) ≡ 
 sum_units text utf8 =
     ap (λ bs. sum (unit_sizes bs)) (sym utf8.1.1) ∙ sum_chars utf8.0 ∙ ap length utf8.1.1
 
--- The units of the beginning of a text are at most as many bytes as the text.
-pub sum_units_of_front : (text : List ℕ) (n : ℕ) → IsUtf8 text → sum (unit_sizes (take n text)) ≤ length text
-sum_units_of_front text n utf8 =
-    let split : sum (unit_sizes text) ≡ sum (unit_sizes (take n text)) + sum (unit_sizes (drop n text)) =
-    ap (λ bs. sum (unit_sizes bs)) (sym (take-append-drop n text))
-    ∙ ap sum (unit_sizes-append (take n text) (drop n text))
-    ∙ sum-append (unit_sizes (take n text)) (unit_sizes (drop n text)) in
-    omega (arith, split, sum_units text utf8)
-
 -- ---- No unit is empty
 
 abbrev ArePositive : List ℕ → Type 0
@@ -257,54 +239,256 @@ boundary_counted front rest utf8 =
     ∙ ap sum (take_at (unit_sizes front) (unit_sizes rest) (length (unit_sizes front)) refl)
     ∙ sum_units front utf8
 
--- ---- The table, one byte on
+-- ---- The unit at a byte
 
-one_more : (text : List ℕ) (i : ℕ) → i < length text
-    → unit_sizes (take (i + 1) text) ≡ unit_sizes (take i text) ++ units_at (get_or text i 0)
-one_more text i within =
-    ap unit_sizes (take_more text i 0 within) ∙ unit_sizes-append (take i text) (get_or text i 0 ∷ [])
-    ∙ ap (λ us. unit_sizes (take i text) ++ us) (append-nil (units_at (get_or text i 0)))
+size_one : (b : ℕ) → b < 128 → unit_size b ≡ 1
+size_one b low = let e = lt-ltb b 128 low in rw e
 
-pub end_more : (text : List ℕ) (i end : ℕ) → i < length text → end ≡ sum (unit_sizes (take i text))
-    → end + sum (units_at (get_or text i 0)) ≡ sum (unit_sizes (take (i + 1) text))
-end_more text i end within so_far =
+size_low : (b : ℕ) → 128 ≤ b → b < 224 → unit_size b ≡ 2
+size_low b from to = let e = le-ltb b 128 from in let f = lt-ltb b 224 to in rw (e, f)
+
+size_three : (b : ℕ) → 224 ≤ b → b < 240 → unit_size b ≡ 3
+size_three b from to =
+    let e = le-ltb b 128 (omega arith) in let f = le-ltb b 224 from in let g = lt-ltb b 240 to in rw (e, f, g)
+
+size_high : (b : ℕ) → 240 ≤ b → unit_size b ≡ 2
+size_high b from =
+    let e = le-ltb b 128 (omega arith) in
+    let f = le-ltb b 224 (omega arith) in
+    let g = le-ltb b 240 from in
+    rw (e, f, g)
+
+-- Each unit has the size that its first byte tells.
+abbrev AreTold : List ℕ → Type 0
+AreTold bytes = (n : ℕ) → n < length (unit_sizes bytes)
+    → get_or (unit_sizes bytes) n 0 ≡ unit_size (get_or bytes (sum (take n (unit_sizes bytes))) 0)
+
+lone_told : (b u : ℕ) (bs us : List ℕ) → us ≡ u ∷ [] → unit_size b ≡ u → (n : ℕ) → n < length us
+    → get_or us n 0 ≡ unit_size (get_or (b ∷ bs) (sum (take n us)) 0)
+lone_told b u bs us is size zero within = ap (λ l. get_or l 0 0) is ∙ sym size
+lone_told b u bs us is size (suc n) within = absurd (omega (arith, ap length is))
+
+pair_told : (b x y z : ℕ) (us : List ℕ) → us ≡ 2 ∷ 2 ∷ [] → unit_size b ≡ 2 → unit_size y ≡ 2 → (n : ℕ)
+    → n < length us → get_or us n 0 ≡ unit_size (get_or (b ∷ x ∷ y ∷ z ∷ []) (sum (take n us)) 0)
+pair_told b x y z us is first second zero within = ap (λ l. get_or l 0 0) is ∙ sym first
+pair_told b x y z us is first second (suc zero) within =
+    ap (λ l. get_or l 1 0) is ∙ sym second
+    ∙ ap (λ l. unit_size (get_or (b ∷ x ∷ y ∷ z ∷ []) (sum (take 1 l)) 0)) (sym is)
+pair_told b x y z us is first second (suc (suc n)) within = absurd (omega (arith, ap length is))
+
+char_told : (c : ℕ) → AreTold (encode c)
+char_told c = elim (cases_Bool (ltb c 128)) [
+  | inl a ↦
+      let low : c < 128 = ltb-true c 128 a in
+      subst AreTold (sym (encode_ascii c low))
+      (lone_told c 1 [] (unit_sizes (c ∷ [])) (led c [] (1 ∷ []) (ascii_units c low) refl) (size_one c low))
+  | inr a ↦ elim (cases_Bool (ltb c 2048)) [
+    | inl b ↦
+        let small : 192 + c / 64 < 224 = omega (arith, ltb-true c 2048 b) in
+        let bs = next c ∷ [] in
+        subst AreTold (sym (encode-two c a b))
+        (lone_told (192 + c / 64) 2 bs (unit_sizes ((192 + c / 64) ∷ bs))
+        (led (192 + c / 64) bs (2 ∷ []) (two_units (192 + c / 64) (omega arith) small) (inner_none c [] refl))
+        (size_low (192 + c / 64) (omega arith) small))
+    | inr b ↦ elim (cases_Bool (ltb c 65536)) [
+      | inl d ↦
+          let small : 224 + c / 4096 < 240 = omega (arith, ltb-true c 65536 d) in
+          let bs = next (c / 64) ∷ next c ∷ [] in
+          subst AreTold (sym (encode-three c a b d))
+          (lone_told (224 + c / 4096) 3 bs (unit_sizes ((224 + c / 4096) ∷ bs))
+          (led (224 + c / 4096) bs (3 ∷ []) (three_units (224 + c / 4096) (omega arith) small)
+          (inner_none (c / 64) (next c ∷ []) (inner_none c [] refl)))
+          (size_three (224 + c / 4096) (omega arith) small))
+      | inr d ↦
+          let high : 240 ≤ 240 + c / 262144 = omega arith in
+          let bs = next (c / 4096) ∷ next (c / 64) ∷ next c ∷ [] in
+          subst AreTold (sym (encode-four c a b d))
+          (pair_told (240 + c / 262144) (next (c / 4096)) (next (c / 64)) (next c)
+          (unit_sizes ((240 + c / 262144) ∷ bs))
+          (led (240 + c / 262144) bs (2 ∷ 2 ∷ []) (four_units (240 + c / 262144) high)
+          (inner_none (c / 4096) (next (c / 64) ∷ next c ∷ [])
+          (inner_none (c / 64) (next c ∷ []) (inner_none c [] refl))))
+          (size_high (240 + c / 262144) high)
+          (size_low (next (c / 64)) (omega arith) (omega arith)))
+    ]
+  ]
+]
+
+sum_past : (us vs : List ℕ) (n : ℕ) → length us ≤ n
+    → sum (take n (us ++ vs)) ≡ sum us + sum (take (n - length us) vs)
+sum_past [] vs n past =
+    let all : n ≡ n - 0 = omega arith in
+    ap (λ k. sum (take k vs)) all ∙ omega arith
+sum_past (u ∷ us) vs zero past = absurd (omega arith)
+sum_past (u ∷ us) vs (suc n) past =
+    let rest : n - length us ≡ suc n - suc (length us) = omega arith in
+    omega (
+      arith,
+      sum-cons u (take n (us ++ vs)),
+      sum-cons u us,
+      sum_past us vs n (omega arith),
+      ap (λ k. sum (take k vs)) rest,
+    )
+
+told-append : (xs ys : List ℕ) → sum (unit_sizes xs) ≡ length xs → AreTold xs → AreTold ys
+    → AreTold (xs ++ ys)
+told-append xs ys size first others n within =
+    let us = unit_sizes xs in
+    let vs = unit_sizes ys in
+    let joined : unit_sizes (xs ++ ys) ≡ us ++ vs = unit_sizes-append xs ys in
+    let told = λ (l : List ℕ) (k : ℕ). unit_size (get_or l k 0) in
+    ap (λ l. get_or l n 0) joined
+    ∙ elim (cases_lt n (length us)) [
+      | inl inside ↦
+          let at = sum (take n us) in
+          let room : at < length xs =
+          omega (
+            arith,
+            size,
+            sums_ascend us n (length us) (positive xs) inside (omega arith),
+            ap sum (take_all (length us) us (omega arith)),
+          ) in
+          get_or_append_left us vs 0 n inside ∙ first n inside
+          ∙ ap unit_size (sym (get_or_append_left xs ys 0 at room))
+          ∙ ap (λ l. told (xs ++ ys) (sum l)) (sym (take-append-le n us vs (omega arith)))
+          ∙ ap (λ l. told (xs ++ ys) (sum (take n l))) (sym joined)
+      | inr outside ↦
+          let m = n - length us in
+          let at = sum (take m vs) in
+          let below : m < length vs =
+          omega (arith, ap length joined, length-append us vs) in
+          let place : length xs + at ≡ sum (take n (us ++ vs)) =
+          omega (arith, size, sum_past us vs n outside) in
+          get_or-append_right us vs (length us) n 0 refl outside ∙ others m below
+          ∙ ap unit_size (sym (get_or-append-add xs ys at 0))
+          ∙ ap (told (xs ++ ys)) place
+          ∙ ap (λ l. told (xs ++ ys) (sum (take n l))) (sym joined)
+    ]
+
+told_chars : (cs : List ℕ) → AreTold (encodes cs)
+told_chars [] = λ n within. absurd (omega arith)
+told_chars (c ∷ cs) = told-append (encode c) (encodes cs) (sum_char c) (char_told c) (told_chars cs)
+
+told : (text : List ℕ) → IsUtf8 text → AreTold text
+told text utf8 = subst AreTold utf8.1.1 (told_chars utf8.0)
+
+-- ---- Units and their bytes
+
+pub no_units : (sizes : List ℕ) → HaveBytes sizes 0 0
+no_units sizes = record { within = omega arith; bytes_are = refl }
+
+pub same_units : (sizes : List ℕ) (units others bytes same : ℕ) → units ≡ others → bytes ≡ same
+    → HaveBytes sizes units bytes → HaveBytes sizes others same
+same_units sizes units others bytes same first second have = record {
+  within = omega (arith, have.within);
+  bytes_are = sym second ∙ have.bytes_are ∙ ap (bytes_of_units sizes) first;
+}
+
+-- Units that are not all have fewer bytes than the text.
+bytes_left : (text : List ℕ) (units bytes : ℕ) → IsUtf8 text → HaveBytes (unit_sizes text) units bytes
+    → units < length (unit_sizes text) → bytes < length text
+bytes_left text units bytes utf8 have less =
+    let sizes = unit_sizes text in
+    omega (
+      arith,
+      have.bytes_are,
+      sums_ascend sizes units (length sizes) (positive text) less (omega arith),
+      ap sum (take_all (length sizes) sizes (omega arith)),
+      sum_units text utf8,
+    )
+
+-- All units have the bytes of the text.
+no_bytes_left : (text : List ℕ) (units bytes : ℕ) → IsUtf8 text → HaveBytes (unit_sizes text) units bytes
+    → length (unit_sizes text) ≤ units → bytes ≡ length text
+no_bytes_left text units bytes utf8 have all =
+    have.bytes_are ∙ ap sum (take_all units (unit_sizes text) all) ∙ sum_units text utf8
+
+pub bytes_within : (text : List ℕ) (units bytes : ℕ) → IsUtf8 text → HaveBytes (unit_sizes text) units bytes
+    → bytes ≤ length text
+bytes_within text units bytes utf8 have =
+    elim (cases_lt units (length (unit_sizes text))) [
+      | inl less ↦ omega (arith, bytes_left text units bytes utf8 have less)
+      | inr all ↦ omega (arith, no_bytes_left text units bytes utf8 have all)
+    ]
+
+next_sum : (sizes : List ℕ) (units bytes size : ℕ) → units < length sizes → bytes ≡ sum (take units sizes)
+    → get_or sizes units 0 ≡ size → bytes + size ≡ sum (take (units + 1) sizes)
+next_sum sizes units bytes size within so_far is =
     omega (
       arith,
       so_far,
-      ap sum (one_more text i within),
-      sum-append (unit_sizes (take i text)) (units_at (get_or text i 0)),
+      is,
+      ap sum (take_more sizes units 0 within),
+      sum-append (take units sizes) (get_or sizes units 0 ∷ []),
+      sum-cons (get_or sizes units 0) [],
     )
 
-pub table_more : (text offsets : List ℕ) (i end : ℕ) → i < length text → end ≡ sum (unit_sizes (take i text))
-    → offsets ≡ 0 ∷ sums_after 0 (unit_sizes (take i text))
-    → offsets ++ sums_after end (units_at (get_or text i 0))
-    ≡ 0 ∷ sums_after 0 (unit_sizes (take (i + 1) text))
-table_more text offsets i end within so_far table =
-    let start : end ≡ 0 + sum (unit_sizes (take i text)) = omega (arith, so_far) in
-    ap (λ l. l ++ sums_after end (units_at (get_or text i 0))) table
-    ∙ ap (λ n. 0 ∷ (sums_after 0 (unit_sizes (take i text)) ++ sums_after n (units_at (get_or text i 0))))
-    start
-    ∙ ap (λ l. 0 ∷ l) (sym (sums_after-append 0 (unit_sizes (take i text)) (units_at (get_or text i 0)))
-    ∙ ap (sums_after 0) (sym (one_more text i within)))
+-- One unit more.
+pub next_unit : (text : List ℕ) (units bytes : ℕ) → IsUtf8 text → HaveBytes (unit_sizes text) units bytes
+    → bytes < length text
+    → HaveBytes (unit_sizes text) (units + 1) (bytes + unit_size (get_or text bytes 0))
+next_unit text units bytes utf8 have within =
+    let sizes = unit_sizes text in
+    let inside : units < length sizes =
+    elim (cases_lt units (length sizes)) [
+      | inl less ↦ less
+      | inr all ↦ absurd (omega (arith, no_bytes_left text units bytes utf8 have all))
+    ] in
+    record {
+      within = omega arith;
+      bytes_are = next_sum sizes units bytes (unit_size (get_or text bytes 0)) inside have.bytes_are
+          (told text utf8 units inside ∙ ap (λ n. unit_size (get_or text n 0)) (sym have.bytes_are));
+    }
+
+-- The units that have the bytes of the text are all.
+pub all_units : (text : List ℕ) (units bytes : ℕ) → IsUtf8 text → HaveBytes (unit_sizes text) units bytes
+    → length text ≤ bytes → units ≡ length (unit_sizes text)
+all_units text units bytes utf8 have past =
+    elim (cases_lt units (length (unit_sizes text))) [
+      | inl less ↦ absurd (omega (arith, bytes_left text units bytes utf8 have less))
+      | inr all ↦ omega (arith, have.within)
+    ]
+
+-- The text has no unit more.
+pub past_end : (text : List ℕ) (units bytes offset : ℕ) → IsUtf8 text
+    → HaveBytes (unit_sizes text) units bytes → length text ≤ bytes → units < offset
+    → length text + 1 ≡ byte_offset text offset
+past_end text units bytes offset utf8 have past more =
+    elim (cases_lt units (length (unit_sizes text))) [
+      | inl less ↦ absurd (omega (arith, bytes_left text units bytes utf8 have less))
+      | inr all ↦ sym (offset_after text offset (omega arith))
+    ]
+
+pub units_reached : (text : List ℕ) (units bytes offset : ℕ) → HaveBytes (unit_sizes text) units bytes
+    → units ≡ offset → bytes ≡ byte_offset text offset
+units_reached text units bytes offset have is =
+    have.bytes_are ∙ ap (λ n. sum (take n (unit_sizes text))) is
+    ∙ sym (offset_inside text offset (omega (arith, have.within)))
 
 -- ---- The table, read
 
-in_table : (text : List ℕ) (offset : ℕ) → offset < length (0 ∷ sums_after 0 (unit_sizes text))
-    → get_or (0 ∷ sums_after 0 (unit_sizes text)) offset 0 ≡ byte_offset text offset
-in_table text offset within =
-    let inside : offset ≤ length (unit_sizes text) = omega (arith, length-sums_after 0 (unit_sizes text)) in
-    sums_after_at 0 (unit_sizes text) offset inside ∙ omega arith ∙ sym (offset_inside text offset inside)
+pub in_units : (unit : OffsetUnit) (text : List ℕ) (offset : ℕ) → unit ≡ Utf16
+    → byte_offset text offset ≡ offset_in unit text offset
+in_units Utf16 text offset is = refl
+in_units Utf8 text offset is = cc
 
-pub read_inside : (unit : OffsetUnit) (text bytes : List ℕ) (offset : ℕ) → unit ≡ Utf16
-    → AreByteOffsets unit text bytes → offset < length bytes
-    → get_or bytes offset 0 ≡ offset_in unit text offset
-read_inside Utf16 text bytes offset is table within =
-    ap (λ bs. get_or bs offset 0) table ∙ in_table text offset (omega (arith, ap length table))
-read_inside Utf8 text bytes offset is table within = cc
+pub start_held : (unit : OffsetUnit) (text bytes : List ℕ) (offset start : ℕ) → unit ≡ Utf16
+    → AreByteOffsets unit text bytes → offset / 32 < length bytes → start ≡ get_or bytes (offset / 32) 0
+    → HaveBytes (unit_sizes text) (32 * (offset / 32)) start
+start_held Utf16 text bytes offset start unit table within is =
+    let sizes = unit_sizes text in
+    let size = size_of_table (bytes_of_units sizes) (length sizes) bytes table in
+    record {
+      within = omega (arith, size);
+      bytes_are = is ∙ value_at (bytes_of_units sizes) (length sizes) bytes (offset / 32) 0 table (omega (arith, size));
+    }
+start_held Utf8 text bytes offset start unit table within is = cc
 
-pub read_after : (unit : OffsetUnit) (text bytes : List ℕ) (offset : ℕ) → unit ≡ Utf16
-    → AreByteOffsets unit text bytes → length bytes ≤ offset → length text + 1 ≡ offset_in unit text offset
-read_after Utf16 text bytes offset is table after =
+pub none_held : (unit : OffsetUnit) (text bytes : List ℕ) (offset : ℕ) → unit ≡ Utf16
+    → AreByteOffsets unit text bytes → length bytes ≤ offset / 32
+    → length text + 1 ≡ offset_in unit text offset
+none_held Utf16 text bytes offset unit table after =
+    let sizes = unit_sizes text in
     sym (offset_after text offset
-    (omega (arith, ap length table, length-sums_after 0 (unit_sizes text))))
-read_after Utf8 text bytes offset is table after = cc
+    (omega (arith, size_of_table (bytes_of_units sizes) (length sizes) bytes table)))
+none_held Utf8 text bytes offset unit table after = cc

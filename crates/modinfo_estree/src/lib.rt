@@ -18,6 +18,7 @@ mod import_type;
 mod kind;
 pub mod laws;
 mod literal;
+mod marks;
 mod member;
 mod node;
 mod offsets;
@@ -30,6 +31,7 @@ mod required;
 mod role;
 mod slice;
 mod source;
+mod stride;
 mod tokens;
 
 pub use check::check_estree;

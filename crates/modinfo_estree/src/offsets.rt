@@ -1,9 +1,11 @@
 //! Offsets as parsers count them, to offsets in bytes.
 
-ghost use Rattle.std.specs.Prelude.{◌≡◌, ◌<◌, ◌+◌, ◌^◌, ◌++◌, ◌∷◌, IfOk, OnOk, sum};
-ghost use Rattle.modinfo_estree.specs.Offsets.{unit_sizes, units_at};
-ghost use Rattle.modinfo_estree.specs.internal.Offsets.{sums_after};
+ghost use Rattle.std.specs.Prelude.{◌≡◌, ◌*◌, ◌/◌, ◌<◌, IfOk, length};
+ghost use Rattle.modinfo_estree.specs.Offsets.{byte_offset, unit_sizes};
+ghost use Rattle.modinfo_estree.specs.internal.Offsets.{HaveBytes, bytes_of_units, unit_size};
+ghost use Rattle.modinfo_estree.specs.internal.Tables.{at_32nds};
 
+use crate::stride::STRIDE;
 use std::alloc::{AllocError, Global};
 use std::marker::Model;
 
@@ -21,7 +23,8 @@ pub enum OffsetUnit {
 pub struct Offsets<'a> {
     unit: OffsetUnit,
     text: &'a str,
-    /// In `Utf16` the offset in bytes of each unit and of the end, otherwise nothing.
+    /// In `Utf16` the offset in bytes of each 32nd unit and, after a multiple of 32 units, of the end;
+    /// otherwise nothing.
     bytes: Vec<usize>,
 }
 
@@ -39,7 +42,7 @@ impl<'a> Model for Offsets<'a> {
 impl<'a> Offsets<'a> {
     ghost use Rattle.modinfo_estree.specs.Offsets.{offset_in};
 
-    /// Reads `text` once and allocates a number for each unit if `unit` is `Utf16`; otherwise does
+    /// Reads `text` once and allocates at most a quarter of its size if `unit` is `Utf16`; otherwise does
     /// neither. Fails only if an allocation fails.
     pub fn new(alloc: Global, unit: OffsetUnit, text: &'a str) -> Result<Offsets<'a>, AllocError>
         ensures { IfOk result (λ offsets. offsets ≡ record { unit = unit; text = text.now }) }
@@ -64,8 +67,8 @@ impl<'a> Offsets<'a> {
         ensures { result ≡ offset_in self.now.unit self.now.text offset }
     {
         match self.unit {
-            OffsetUnit::Utf16 => match self.bytes.get(offset) {
-                Some(bytes) => *bytes,
+            OffsetUnit::Utf16 => match self.bytes.get(offset / STRIDE) {
+                Some(start) => byte_offset_from(self.text, *start, offset),
                 None => self.text.len() + 1,
             },
             OffsetUnit::Utf8 => offset,
@@ -73,37 +76,53 @@ impl<'a> Offsets<'a> {
     }
 }
 
-/// Returns the offset in bytes of each UTF-16 unit of a text and of its end.
-fn byte_offsets(alloc: Global, text: &str) -> Result<Vec<usize>, AllocError>
-    ensures { IfOk result (λ bytes. bytes.items ≡ 0 ∷ sums_after 0 (unit_sizes text.now)) }
+/// Returns the offset in bytes of an offset in UTF-16 units, by that of the last multiple of 32 units.
+fn byte_offset_from(text: &str, start: usize, offset: usize) -> usize
+    requires { HaveBytes (unit_sizes text.now) (32 * (offset / 32)) start }
+    ensures { result ≡ byte_offset text.now offset }
 {
-    let mut offsets = Vec::with_capacity(alloc, text.len())?;
+    let bytes = text.as_bytes();
+    let mut at = start;
+    for _ in 0..offset % STRIDE {
+        match bytes.get(at) {
+            Some(byte) => at += unit_size(*byte),
+            None => return bytes.len() + 1,
+        }
+    }
+    at
+}
+
+/// Returns the offset in bytes of each 32nd UTF-16 unit of a text and, after a multiple of 32 units, of the
+/// end.
+fn byte_offsets(alloc: Global, text: &str) -> Result<Vec<usize>, AllocError>
+    ensures { IfOk result (λ offsets. offsets.items
+        ≡ at_32nds (bytes_of_units (unit_sizes text.now)) (length (unit_sizes text.now))) }
+{
+    let bytes = text.as_bytes();
+    let mut offsets = Vec::with_capacity(alloc, bytes.len() / STRIDE + 1)?;
     let mut end = 0;
+    let mut units = 0;
     offsets.push(end)?;
-    for byte in text.as_bytes() {
-        end = push_units(&mut offsets, end, *byte)?;
+    while end < bytes.len() {
+        end += unit_size(bytes[end]);
+        if (units + 1) % STRIDE == 0 {
+            offsets.push(end)?;
+        }
+        units += 1;
     }
     Ok(offsets)
 }
 
-/// Pushes the offset after each UTF-16 unit of the character that begins with `byte` at the offset
-/// `start`. Returns the offset after the character, or `start` if none begins with the byte.
-fn push_units(offsets: &mut Vec<usize>, start: usize, byte: u8) -> Result<usize, AllocError>
-    requires { start + 4 < 2 ^ 64 }
-    ensures end { IfOk result (λ end. end ≡ start + sum (units_at byte)) }
-    ensures offsets { OnOk result
-        (offsets.new.items ≡ offsets.old.items ++ sums_after start (units_at byte)) }
+/// Returns the bytes of the UTF-16 unit that begins with `byte`. The second unit of a surrogate pair begins
+/// with the third byte of the character.
+fn unit_size(byte: u8) -> usize
+    ensures size { result ≡ unit_size byte }
+    ensures low { 0 < result }
+    ensures high { result < 4 }
 {
-    let size = match byte {
+    match byte {
         0..=0x7F => 1,
-        0x80..=0xBF => return Ok(start),
-        0xC0..=0xDF => 2,
         0xE0..=0xEF => 3,
-        0xF0..=0xFF => {
-            offsets.push(start + 2)?;
-            4
-        }
-    };
-    offsets.push(start + size)?;
-    Ok(start + size)
+        0x80..=0xDF | 0xF0..=0xFF => 2,
+    }
 }

@@ -1,11 +1,16 @@
--- The offsets of the units that begin so far, and the offset after the last of them.
-use Rattle.std.proofs.Common.{◌≡◌, ◌∷◌, sum, take}
+-- The offsets of the units so far, and their number.
+use Rattle.std.proofs.Common.{◌≡◌, ◌-◌, ◌≤◌, length}
 use Rattle.modinfo_estree.specs.Offsets.{unit_sizes}
-use Rattle.modinfo_estree.specs.internal.Offsets.{sums_after}
+use Rattle.modinfo_estree.specs.internal.Offsets.{HaveBytes, bytes_of_units}
+use Rattle.modinfo_estree.specs.internal.Tables.{at_32nds}
 use Rattle.modinfo_estree.proofs.offsets.byte_offsets.Given as goal
 
-abbrev pub invariant-loop-byte : goal.invariant-loop-byte
-invariant-loop-byte l = record {
-  offsets : l.offsets.items ≡ 0 ∷ sums_after 0 (unit_sizes (take l.byte-index l.text));
-  end : l.end ≡ sum (unit_sizes (take l.byte-index l.text));
+abbrev pub invariant-loop-end : goal.invariant-loop-end
+invariant-loop-end l = record {
+  offsets : l.offsets.items ≡ at_32nds (bytes_of_units (unit_sizes l.text)) l.units;
+  fewer : l.units ≤ l.end;
+  end : HaveBytes (unit_sizes l.text) l.units l.end;
 }
+
+abbrev pub decreases-loop-end : goal.decreases-loop-end
+decreases-loop-end l = length l.bytes - l.end

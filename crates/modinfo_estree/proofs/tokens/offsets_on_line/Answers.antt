@@ -4,6 +4,7 @@ use Rattle.std.proofs.Common.{
   ◌++◌,
   [],
   ◌+◌,
+  ◌<◌,
   ◌&&◌,
   not,
   length,
@@ -12,23 +13,33 @@ use Rattle.std.proofs.Common.{
   sym,
   ◌∙◌,
   arith,
-  map,
   true,
   false,
 }
-use Rattle.std.specs.List.{range_with_len}
 use Rattle.modinfo_estree.specs.Tokens.{is_on_line}
-use Rattle.modinfo_estree.proofs.TokenTables.{line_at_gap, line_at_start, line_at_token, more}
+use Rattle.modinfo_estree.specs.internal.Marks.{breaks_of, gaps_of}
+use Rattle.modinfo_estree.specs.internal.Tables.{at_32nds}
+use Rattle.modinfo_estree.proofs.Tables.{none_more, one_more}
+use Rattle.modinfo_estree.proofs.TokenTables.{
+  line_at_gap,
+  line_at_start,
+  line_at_token,
+  size_of_breaks,
+  size_of_gaps,
+}
 use Rattle.modinfo_estree.proofs.tokens.offsets_on_line.Goals as goal
 use Rattle.modinfo_estree.proofs.tokens.offsets_on_line.Goals.{
-  then-not-gaps-at,
-  else-not-gaps-at+then-is_on_line,
-  else-not-gaps-at+else-is_on_line,
+  then-not-is_gap,
+  else-not-is_gap+then-is_on_line,
+  else-not-is_gap+else-is_on_line,
+  then-at-eq0+in_ok-push-2,
+  else-at-eq0,
 }
 
 pub loop-at-init : goal.loop-at-init
 loop-at-init c =
-    let first = sym (line_at_start c.args.breaks.now c.args.gaps.now) in
+    let marks = c.args.marks.now in
+    let first = sym (line_at_start (breaks_of marks) (gaps_of marks)) in
     record {
       on_line = c.in_ok-push.ensures.items ∙ ap (λ l. l ++ true ∷ []) c.in_ok-on_line.ensures.items
           ∙ ap (λ t. t ∷ []) first;
@@ -37,35 +48,45 @@ loop-at-init c =
 
 pub loop-at-preserved : goal.loop-at-preserved
 loop-at-preserved c =
-    let gaps = c.args.gaps.now in
-    let breaks = c.args.breaks.now in
+    let marks = c.args.marks.now in
+    let gaps = gaps_of marks in
+    let breaks = breaks_of marks in
+    let f = is_on_line breaks gaps in
     let i = c.loop-at.at in
     let inv = c.loop-at.invariant in
-    let within = c.loop-at-test.true in
-    let b = get_or breaks i false in
-    let next : c.if-not-gaps-at.is_on_line ≡ is_on_line breaks gaps (i + 1) =
-    elim c.if-not-gaps-at.branch [
-      | then-not-gaps-at w ↦
-          w.is_on_line-is ∙ ap not w.if-not-gaps-at.true
-          ∙ sym (line_at_token breaks gaps i c.requires within w.if-not-gaps-at.true)
-      | else-not-gaps-at+then-is_on_line w ↦
-          w.is_on_line-is ∙ ap (λ t. t && not b) (sym w.if-is_on_line.true ∙ inv.is_on_line)
-          ∙ sym (line_at_gap breaks gaps i c.requires within w.if-not-gaps-at.false)
-      | else-not-gaps-at+else-is_on_line w ↦
+    let size : length breaks ≡ length gaps = size_of_breaks marks ∙ sym (size_of_gaps marks) in
+    let within : i < length gaps = omega (arith, c.loop-at-test.true, size_of_gaps marks) in
+    let gap = sym c.is_gap_at-is_gap.ensures in
+    let break : not c.is_break_at-is_break.result ≡ not (get_or breaks i false) =
+    ap not c.is_break_at-is_break.ensures in
+    let next : c.if-not-is_gap.is_on_line ≡ f (i + 1) =
+    elim c.if-not-is_gap.branch [
+      | then-not-is_gap w ↦
+          w.is_on_line-is ∙ ap not w.if-not-is_gap.true
+          ∙ sym (line_at_token breaks gaps i size within (gap ∙ w.if-not-is_gap.true))
+      | else-not-is_gap+then-is_on_line w ↦
+          w.is_on_line-is ∙ break
+          ∙ ap (λ t. t && not (get_or breaks i false)) (sym w.if-is_on_line.true ∙ inv.is_on_line)
+          ∙ sym (line_at_gap breaks gaps i size within (gap ∙ w.if-not-is_gap.false))
+      | else-not-is_gap+else-is_on_line w ↦
           w.is_on_line-is ∙ w.if-is_on_line.false
-          ∙ ap (λ t. t && not b) (sym w.if-is_on_line.false ∙ inv.is_on_line)
-          ∙ sym (line_at_gap breaks gaps i c.requires within w.if-not-gaps-at.false)
+          ∙ ap (λ t. t && not (get_or breaks i false)) (sym w.if-is_on_line.false ∙ inv.is_on_line)
+          ∙ sym (line_at_gap breaks gaps i size within (gap ∙ w.if-not-is_gap.false))
     ] in
     record {
-      on_line = c.in_ok-push-2.ensures.items
-          ∙ more (is_on_line breaks gaps) c.loop-at.on_line.items i c.if-not-gaps-at.is_on_line
-          inv.on_line next;
+      on_line = elim c.if-at-eq0.branch [
+        | then-at-eq0+in_ok-push-2 w ↦
+            ap (λ v. v.items) w.on_line-is ∙ w.in_ok-push-2.ensures.items
+            ∙ one_more f c.loop-at.on_line.items i c.if-not-is_gap.is_on_line inv.on_line w.if-at-eq0.true next
+        | else-at-eq0 w ↦
+            ap (λ v. v.items) w.on_line-is
+            ∙ none_more f c.loop-at.on_line.items i inv.on_line w.if-at-eq0.false
+      ];
       is_on_line = next;
     }
 
 pub returns : goal.returns
 returns c =
-    let gaps = c.args.gaps.now in
-    let at_end : c.loop-at.at ≡ length gaps = omega arith in
-    c.loop-at.invariant.on_line
-    ∙ ap (λ n. map (is_on_line c.args.breaks.now gaps) (range_with_len 0 (n + 1))) at_end
+    let marks = c.args.marks.now in
+    let at_end : c.loop-at.at ≡ length marks = omega arith in
+    c.loop-at.invariant.on_line ∙ ap (at_32nds (is_on_line (breaks_of marks) (gaps_of marks))) at_end

@@ -1,4 +1,28 @@
-use Rattle.std.proofs.Common.{◌≡◌, ◌+◌, ◌-◌, ◌<◌, inl, inr, length, get_or, ap, sym, ◌∙◌, arith, set}
+use Rattle.std.proofs.Common.{
+  ◌≡◌,
+  ◌+◌,
+  ◌-◌,
+  ◌*◌,
+  ◌/◌,
+  ◌%◌,
+  ◌<◌,
+  ◌≤◌,
+  ℕ,
+  Bool,
+  true,
+  false,
+  ◌⊎◌,
+  inl,
+  inr,
+  List,
+  length,
+  get_or,
+  ap,
+  sym,
+  ◌∙◌,
+  arith,
+  set,
+}
 use Rattle.std.proofs.lemmas.Bool.{cases_eq}
 use Rattle.std.proofs.lemmas.List.{
   get_or-replicate,
@@ -9,56 +33,98 @@ use Rattle.std.proofs.lemmas.List.{
 }
 use Rattle.std.proofs.lemmas.List.FromFn.{fill_by_all}
 use Rattle.modinfo_estree.specs.Tokens.{token_start}
-use Rattle.modinfo_estree.proofs.TokenTables.{start_at_end, start_at_gap, start_at_token}
+use Rattle.modinfo_estree.specs.internal.Marks.{gaps_of}
+use Rattle.modinfo_estree.proofs.TokenTables.{size_of_gaps, start_at_end, start_at_gap, start_at_token}
 use Rattle.modinfo_estree.proofs.tokens.token_starts.Goals as goal
-use Rattle.modinfo_estree.proofs.tokens.token_starts.Goals.{then-not-gaps-at, else-not-gaps-at}
+use Rattle.modinfo_estree.proofs.tokens.token_starts.Goals.{
+  then-not-is_gap_at,
+  else-not-is_gap_at,
+}
 
 pub loop-at-init : goal.loop-at-init
 loop-at-init c =
-    let gaps = c.args.gaps.now in
+    let marks = c.args.marks.now in
+    let gaps = gaps_of marks in
+    let count = length marks / 32 + 1 in
+    let size = size_of_gaps marks in
     let all = c.in_ok-starts.ensures.items_if_clones_equal (λ y same. same) in
     record {
-      size = ap length all ∙ length-replicate (length gaps + 1) (length gaps);
+      size = ap length all ∙ length-replicate count (length marks);
       starts = λ k from to.
-          let here : length gaps ≡ k = omega arith in
-          let value = ap (λ l. get_or l (length gaps) 0) all
-          ∙ get_or-replicate (length gaps + 1) (length gaps) (length gaps) 0 (omega arith) in
-          ap (λ n. get_or c.in_ok-starts.starts.items n 0) (sym here) ∙ value ∙ here
-          ∙ sym (start_at_end gaps k from);
-      start = sym (start_at_end gaps (length gaps) (omega arith));
+          let here : length marks ≡ 32 * k = omega arith in
+          ap (λ l. get_or l k 0) all ∙ get_or-replicate count k (length marks) 0 (omega arith) ∙ here
+          ∙ sym (start_at_end gaps (32 * k) (omega (arith, size)));
+      start = sym (start_at_end gaps (length marks) (omega (arith, size)));
+    }
+
+-- The start one offset before, by whether the byte there is between tokens.
+start_before : (gaps : List Bool) (at old new : ℕ) (gap : Bool) → 0 < at → at ≤ length gaps
+    → gap ≡ get_or gaps (at - 1) false → old ≡ token_start gaps at
+    → ((gap ≡ false) × (new ≡ at - 1)) ⊎ ((gap ≡ true) × (new ≡ old)) → new ≡ token_start gaps (at - 1)
+start_before gaps at old new gap some within is so_far found =
+    let i = at - 1 in
+    let next : i + 1 ≡ at = omega arith in
+    let inside : i < length gaps = omega arith in
+    elim found [
+      | inl token ↦ token.1 ∙ sym (start_at_token gaps i inside (sym is ∙ token.0))
+      | inr between ↦
+          between.1 ∙ so_far ∙ ap (token_start gaps) (sym next)
+          ∙ sym (start_at_gap gaps i inside (sym is ∙ between.0))
+    ]
+
+pub loop-at-preserved-then-at-eq0 : goal.loop-at-preserved-then-at-eq0
+loop-at-preserved-then-at-eq0 c =
+    let marks = c.args.marks.now in
+    let gaps = gaps_of marks in
+    let at = c.loop-at.at in
+    let i = at - 1 in
+    let inv = c.loop-at.invariant in
+    let old = c.loop-at.starts.items in
+    let new = c.if-not-is_gap_at.start in
+    let within : at ≤ length gaps = omega (arith, size_of_gaps marks) in
+    let start_is : new ≡ token_start gaps i =
+    start_before gaps at c.loop-at.start new c.is_gap_at.result (omega arith) within c.is_gap_at.ensures
+    inv.start (elim c.if-not-is_gap_at.branch [
+      | then-not-is_gap_at w ↦ inl (w.if-not-is_gap_at.true, w.start-is)
+      | else-not-is_gap_at w ↦ inr (w.if-not-is_gap_at.false, w.start-is)
+    ]) in
+    let multiple : i % 32 ≡ 0 = c.if-at-eq0.true in
+    record {
+      size = length-set old (i / 32) new ∙ inv.size;
+      starts = λ k from to. elim (cases_eq k (i / 32)) [
+        | inl here ↦
+            let room : i / 32 < length old = omega (arith, inv.size) in
+            let same : i ≡ 32 * k = omega arith in
+            ap (λ n. get_or (set old (i / 32) new) n 0) here ∙ get_or-set_same old (i / 32) new 0 room
+            ∙ start_is ∙ ap (token_start gaps) same
+        | inr other ↦ get_or-set_other old (i / 32) k new 0 other ∙ inv.starts k (omega arith) to
+      ];
+      start = start_is;
     }
 
 pub loop-at-preserved : goal.loop-at-preserved
 loop-at-preserved c =
-    let gaps = c.args.gaps.now in
-    let i = c.loop-at.at - 1 in
-    let next_is : i + 1 ≡ c.loop-at.at = omega arith in
-    let within : i < length gaps = omega arith in
+    let marks = c.args.marks.now in
+    let gaps = gaps_of marks in
+    let at = c.loop-at.at in
     let inv = c.loop-at.invariant in
-    let old = c.loop-at.starts.items in
-    let new = c.if-not-gaps-at.start in
-    let start_is : new ≡ token_start gaps i =
-    elim c.if-not-gaps-at.branch [
-      | then-not-gaps-at w ↦ w.start-is ∙ sym (start_at_token gaps i within w.if-not-gaps-at.true)
-      | else-not-gaps-at w ↦
-          w.start-is ∙ inv.start ∙ ap (token_start gaps) (sym next_is)
-          ∙ sym (start_at_gap gaps i within w.if-not-gaps-at.false)
-    ] in
+    let new = c.if-not-is_gap_at.start in
+    let within : at ≤ length gaps = omega (arith, size_of_gaps marks) in
+    let start_is : new ≡ token_start gaps (at - 1) =
+    start_before gaps at c.loop-at.start new c.is_gap_at.result (omega arith) within c.is_gap_at.ensures
+    inv.start (elim c.if-not-is_gap_at.branch [
+      | then-not-is_gap_at w ↦ inl (w.if-not-is_gap_at.true, w.start-is)
+      | else-not-is_gap_at w ↦ inr (w.if-not-is_gap_at.false, w.start-is)
+    ]) in
     record {
-      size = length-set old i new ∙ inv.size;
-      starts = λ k from to. elim (cases_eq k i) [
-        | inl here ↦
-            let room : i < length old = omega arith in
-            ap (λ n. get_or (set old i new) n 0) here ∙ get_or-set_same old i new 0 room ∙ start_is
-            ∙ ap (token_start gaps) (sym here)
-        | inr other ↦ get_or-set_other old i k new 0 other ∙ inv.starts k (omega arith) to
-      ];
+      size = inv.size;
+      starts = λ k from to. inv.starts k (omega (arith, c.if-at-eq0.false)) to;
       start = start_is;
     }
 
 pub returns : goal.returns
 returns c =
-    let gaps = c.args.gaps.now in
+    let marks = c.args.marks.now in
     let inv = c.loop-at.invariant in
-    fill_by_all (token_start gaps) c.loop-at.starts.items (length gaps + 1) 0 inv.size
-    (λ k below. inv.starts k (omega arith) (omega arith))
+    fill_by_all (λ k. token_start (gaps_of marks) (32 * k)) c.loop-at.starts.items (length marks / 32 + 1) 0
+    inv.size (λ k below. inv.starts k (omega arith) (omega arith))

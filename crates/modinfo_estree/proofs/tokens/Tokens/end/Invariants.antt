@@ -1,0 +1,8 @@
+-- The last token is the same at both offsets.
+use Rattle.std.proofs.Common.{◌≡◌}
+use Rattle.modinfo_estree.specs.Tokens.{token_end}
+use Rattle.modinfo_estree.specs.internal.Marks.{gaps_of}
+use Rattle.modinfo_estree.proofs.tokens.Tokens.end.Given as goal
+
+abbrev pub invariant-loop-at : goal.invariant-loop-at
+invariant-loop-at l = token_end (gaps_of l.marks) l.at ≡ token_end (gaps_of l.marks) l.offset
