@@ -124,7 +124,8 @@ pub none_marked : (test : ℕ → Bool) (marks : List Mark) → ((at : ℕ) → 
 none_marked test marks none = record {
   size = refl;
   gaps = λ at within.
-      sym (or_false (get_or (gaps_of marks) at false)) ∙ ap (λ t. get_or (gaps_of marks) at false || t) (sym (none at));
+      sym (or_false (get_or (gaps_of marks) at false))
+          ∙ ap (λ t. get_or (gaps_of marks) at false || t) (sym (none at));
   breaks = refl;
 }
 
@@ -170,7 +171,8 @@ mark_byte marks i mark new within is gap break = record {
       ];
   breaks =
       map-set is_break marks i new
-      ∙ ap (set (breaks_of marks) i) (break ∙ ap is_break is ∙ sym (get_or-map is_break marks i mark false within))
+      ∙ ap (set (breaks_of marks) i) (break ∙ ap is_break is
+      ∙ sym (get_or-map is_break marks i mark false within))
       ∙ set-get_or (breaks_of marks) i false;
 }
 
@@ -207,7 +209,8 @@ nothing_past ranges last is at has = absurd (true_not_false (sym has ∙ ap (has
     true_not_false e = cc
 
 -- One range more, of which a part is marked.
-pub mark_more : (ranges : List SourceRange) (i : ℕ) (range last part : SourceRange) (old marks new : List Mark)
+pub mark_more : (ranges : List SourceRange) (i : ℕ) (range last part : SourceRange)
+    (old marks new : List Mark)
     → i < length ranges → range ≡ get_or ranges i range → IsPast ranges i last
     → ((at : ℕ) → (has_byte at last || has_byte at part) ≡ (has_byte at last || has_byte at range))
     → AreMarked (λ at. list_any (has_byte at) (take i ranges)) old marks
@@ -216,7 +219,8 @@ pub mark_more : (ranges : List SourceRange) (i : ℕ) (range last part : SourceR
 mark_more ranges i range last part old marks new within is past same before after =
     tested (λ at. list_any (has_byte at) (take i ranges) || has_byte at part)
     (λ at. list_any (has_byte at) (take (i + 1) ranges)) old new
-    (marked_also (λ at. list_any (has_byte at) (take i ranges)) (λ at. has_byte at part) old marks new before after)
+    (marked_also (λ at. list_any (has_byte at) (take i ranges)) (λ at. has_byte at part) old marks new
+        before after)
     (λ at _. absorb (list_any (has_byte at) (take i ranges)) (has_byte at last) (has_byte at part)
     (has_byte at range) (past at) (same at)
     ∙ ap (λ r. list_any (has_byte at) (take i ranges) || has_byte at r) is

@@ -480,7 +480,8 @@ start_held Utf16 text bytes offset start unit table within is =
     let size = size_of_table (bytes_of_units sizes) (length sizes) bytes table in
     record {
       within = omega (arith, size);
-      bytes_are = is ∙ value_at (bytes_of_units sizes) (length sizes) bytes (offset / 32) 0 table (omega (arith, size));
+      bytes_are = is ∙ value_at (bytes_of_units sizes) (length sizes) bytes (offset / 32) 0 table
+          (omega (arith, size));
     }
 start_held Utf8 text bytes offset start unit table within is = cc
 

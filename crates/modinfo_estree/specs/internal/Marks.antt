@@ -23,7 +23,8 @@ gaps_of marks = map is_gap marks
 abbrev pub breaks_of : List Mark → List Bool
 breaks_of marks = map is_break marks
 
--- The bytes whose offset passes a test are marked as between tokens too, and the marks are otherwise as before.
+-- The bytes whose offset passes a test are marked as between tokens too, and the marks are otherwise as
+-- before.
 pub record AreMarked (test : ℕ → Bool) (old new : List Mark) : Type 0 where
   pub size : length new ≡ length old
   pub gaps : (at : ℕ) → at < length old

@@ -8,6 +8,7 @@ use Rattle.modinfo_estree.proofs.marks.mark_ranges.Given as goal
 
 abbrev pub invariant-loop-range : goal.invariant-loop-range
 invariant-loop-range l = record {
-  marked : AreMarked (λ at. list_any (has_byte at) (take l.range-index l.ranges)) l.fn.marks.items l.marks.items;
+  marked : AreMarked (λ at. list_any (has_byte at) (take l.range-index l.ranges)) l.fn.marks.items
+      l.marks.items;
   past : IsPast l.ranges l.range-index l.last;
 }
