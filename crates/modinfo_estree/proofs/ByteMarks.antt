@@ -125,7 +125,7 @@ none_marked test marks none = record {
   size = refl;
   gaps = λ at within.
       sym (or_false (get_or (gaps_of marks) at false))
-          ∙ ap (λ t. get_or (gaps_of marks) at false || t) (sym (none at));
+      ∙ ap (λ t. get_or (gaps_of marks) at false || t) (sym (none at));
   breaks = refl;
 }
 
@@ -220,7 +220,7 @@ mark_more ranges i range last part old marks new within is past same before afte
     tested (λ at. list_any (has_byte at) (take i ranges) || has_byte at part)
     (λ at. list_any (has_byte at) (take (i + 1) ranges)) old new
     (marked_also (λ at. list_any (has_byte at) (take i ranges)) (λ at. has_byte at part) old marks new
-        before after)
+    before after)
     (λ at _. absorb (list_any (has_byte at) (take i ranges)) (has_byte at last) (has_byte at part)
     (has_byte at range) (past at) (same at)
     ∙ ap (λ r. list_any (has_byte at) (take i ranges) || has_byte at r) is

@@ -96,11 +96,11 @@ appended_both : (old mid new : Filing) (es fs : List FiledEntry) → AreAppended
 appended_both old mid new es fs first then_ =
     (both_on Leading (alone old) (alone mid) (alone new) es fs (first, refl) (then_, refl)).0
 
-module _ (text : List ℕ) (layout : Layout) (is_empty : Bool) where
+module _ (text : List ℕ) (layout : Layout) (ends : List Bool) (is_empty : Bool) where
   -- The comment that was found at a range, if there is one, was filed.
   abbrev pub Files : Option DependencyComment → FiledComments → FiledComments → Type 0
   Files None old new = new ≡ old
-  Files (Some comment) old new = IsFiled (place_of text layout is_empty comment) comment old new
+  Files (Some comment) old new = IsFiled (place_of text layout ends is_empty comment) comment old new
 
   -- The comments at one more range.
   found_more : (ranges : List SourceRange) (i : ℕ) (d : SourceRange) (found : Option DependencyComment)
@@ -113,14 +113,14 @@ module _ (text : List ℕ) (layout : Layout) (is_empty : Bool) where
       ∙ ap (λ o. filter_map (comment_at text) (take i ranges) ++ cons_option o []) (sym is)
 
   abbrev entries : CommentSide → List DependencyComment → List FiledEntry
-  entries side comments = entries_on side text layout is_empty comments
+  entries side comments = entries_on side text layout ends is_empty comments
 
   one_side : (side : CommentSide) (before comments : List DependencyComment) (start old new : Filing)
       → AreAppended start old (entries side before) → AreAppended old new (entries side comments)
       → AreAppended start new (entries side (before ++ comments))
   one_side side before comments start old new so_far one =
       let entry : DependencyComment → List FiledEntry = λ comment.
-      entry_on side (place_of text layout is_empty comment) comment in
+      entry_on side (place_of text layout ends is_empty comment) comment in
       subst (AreAppended start new) (sym (flat_map-append entry before comments))
       (appended_both start old new (flat_map entry before) (flat_map entry comments) so_far one)
 
@@ -133,7 +133,7 @@ module _ (text : List ℕ) (layout : Layout) (is_empty : Bool) where
     nothing old.trailing new.trailing (ap (λ f. f.trailing) filed),
   )
   found_on (Some comment) old new filed =
-      let place = place_of text layout is_empty comment in (
+      let place = place_of text layout ends is_empty comment in (
         subst (AreAppended old.leading new.leading) (sym (append-nil (entry_on Leading place comment)))
             filed.0,
         subst (AreAppended old.trailing new.trailing) (sym (append-nil (entry_on Trailing place comment)))
@@ -142,8 +142,8 @@ module _ (text : List ℕ) (layout : Layout) (is_empty : Bool) where
 
   pub filed_more : (ranges : List SourceRange) (i : ℕ) (d : SourceRange) (found : Option DependencyComment)
       (start old new : FiledComments) → i < length ranges → found ≡ comment_at text (get_or ranges i d)
-      → AreFiled text layout is_empty (take i ranges) start old → Files found old new
-      → AreFiled text layout is_empty (take (i + 1) ranges) start new
+      → AreFiled text layout ends is_empty (take i ranges) start old → Files found old new
+      → AreFiled text layout ends is_empty (take (i + 1) ranges) start new
   filed_more ranges i d found start old new within is so_far filed =
       let before = filter_map (comment_at text) (take i ranges) in
       let found_here = cons_option found [] in
@@ -158,13 +158,13 @@ module _ (text : List ℕ) (layout : Layout) (is_empty : Bool) where
   -- ---- No range, and all ranges
 
   pub none_filed : (ranges : List SourceRange) (start : FiledComments)
-      → AreFiled text layout is_empty (take 0 ranges) start start
+      → AreFiled text layout ends is_empty (take 0 ranges) start start
   none_filed ranges start =
       (nothing start.leading start.leading refl, nothing start.trailing start.trailing refl)
 
   pub all_filed : (ranges : List SourceRange) (start new : FiledComments) → start.leading ≡ []
-      → start.trailing ≡ [] → AreFiled text layout is_empty ranges start new
-      → AreThoseOf (sides_of text layout is_empty ranges) new
+      → start.trailing ≡ [] → AreFiled text layout ends is_empty ranges start new
+      → AreThoseOf (sides_of text layout ends is_empty ranges) new
   unfolding sides_of
   all_filed ranges start new no_leading no_trailing filed =
       let mid : FiledComments = record { leading = new.leading; trailing = start.trailing } in

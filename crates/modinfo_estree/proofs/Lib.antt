@@ -5,6 +5,7 @@ pub mod Estrees
 pub mod Filings
 pub mod InnerMembers
 pub mod JsonMembers
+pub mod MarkedEnds
 pub mod Nodes
 pub mod SortedByStart
 pub mod Tables

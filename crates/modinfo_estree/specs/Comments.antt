@@ -18,13 +18,14 @@ use Rattle.std.specs.Prelude.{
   nat_eq,
   nat_lt,
   not,
-  slice_index,
+  slice_index_or,
   take,
   if◌then◌else◌,
   Option,
   Some,
   None,
 }
+use Rattle.std.specs.Str.{chars}
 use Rattle.std.specs.List.{ends_with, filter_map, flat_map, starts_with}
 use Rattle.deno_graph_base.specs.SourceRange.{slice_of}
 use Rattle.deno_graph_base.specs.declared.text.position.SourceRange.{SourceRange}
@@ -35,9 +36,10 @@ use Rattle.deno_graph_source.specs.declared.tree.comments.CommentSide.TheVariant
 use Rattle.deno_graph_source.specs.declared.tree.comments.DependencyComment.{DependencyComment}
 use Rattle.modinfo_document.specs.Comments.{Sides, entry_with}
 use Rattle.modinfo_document.specs.declared.comments.FiledEntry.{FiledEntry}
+use Rattle.modinfo_estree.specs.LastToken.{is_closing, is_name, is_operator, last_byte}
 use Rattle.modinfo_estree.specs.Order.{sorted_by_start}
-use Rattle.modinfo_estree.specs.Range.{is_range, is_text_range}
-use Rattle.modinfo_estree.specs.Tokens.{Layout, is_on_line, token_end, token_start}
+use Rattle.modinfo_estree.specs.Range.{is_range, is_text_range, rest_range}
+use Rattle.modinfo_estree.specs.Tokens.{Layout, is_on_line, is_space, token_end, token_start}
 use Rattle.modinfo_estree.specs.declared.comments.Place.{Place}
 
 -- The comment of this kind with this range and text.
@@ -98,17 +100,52 @@ abbrev pub is_line : CommentKind → Bool
 is_line Line = true
 is_line Block = false
 
--- A byte `;`, `{` or `}`: the end of a statement, or the start or the end of a block.
-abbrev pub is_closing : ℕ → Bool
-is_closing byte = ((byte == 59) || (byte == 123)) || (byte == 125)
+-- The characters of a text after white space.
+abbrev pub after_space : List ℕ → List ℕ
+after_space [] = []
+after_space (c ∷ cs) = if is_space c then after_space cs else c ∷ cs
 
--- Whether a comment trails the token before it, which ends at `last`: the comment starts on the token's
--- line, and a block comment also follows `;`, `{` or `}`.
-unfoldable pub trails : List ℕ → Layout → DependencyComment → Bool
-trails text layout comment =
+-- The characters begin with `;`.
+abbrev pub is_semicolon : List ℕ → Bool
+is_semicolon [] = false
+is_semicolon (c ∷ _) = c == 59
+
+-- A `;` follows white space from an offset of a text on.
+unfoldable pub is_before_semicolon : List ℕ → ℕ → Bool
+is_before_semicolon text at = is_text_range text (rest_range text at)
+    && is_semicolon (after_space (chars (slice_of text (rest_range text at))))
+
+-- A value that could be an operator ends at an offset, by the table of these ends.
+abbrev pub is_value_end : List Bool → ℕ → Bool
+is_value_end ends at = slice_index_or ends at false
+
+-- Line comments on the line of the last token of a text trail it: it is no binary operator. A value may end there
+-- that could be one.
+abbrev pub line_trails : List ℕ → Bool → Bool
+line_trails front is_value_end = is_value_end || not (is_operator front)
+
+-- Block comments on the line of the last token of a text trail it, whatever follows: it is a name that is no
+-- keyword, a number, a string, a regular expression, or `{`, `}`, `;` or the `${` of a template. A value may end
+-- there that could be an operator or a dot; after one that ends with `>`, an element, they lead the next token.
+abbrev pub block_trails : List Bool → List ℕ → Bool → Bool
+block_trails gaps front is_value_end = (is_value_end && not (last_byte front == 62))
+    || (is_closing (last_byte front) || is_name gaps front)
+
+-- A comment on the line of the token that ends at `last` trails this token.
+abbrev pub trails_token : List ℕ → List Bool → List Bool → ℕ → DependencyComment → Bool
+trails_token text gaps ends last comment =
+    let front = take last text in
+    let is_value = is_value_end ends last in
+    if is_line comment.kind then line_trails front is_value
+    else block_trails gaps front is_value || is_before_semicolon text comment.range.end
+
+-- Whether a comment trails the token before it: the comment starts on the token's line, and trails a token of
+-- its kind.
+unfoldable pub trails : List ℕ → Layout → List Bool → DependencyComment → Bool
+trails text layout ends comment =
     let last = token_end layout.is_gap comment.range.start in
     (nat_lt 0 last && is_on_line layout.is_break layout.is_gap comment.range.start)
-    && (is_line comment.kind || is_closing (slice_index text (last - 1)))
+    && trails_token text layout.is_gap ends last comment
 
 -- The place with this side and position.
 abbrev pub place_at : CommentSide → ℕ → Place
@@ -117,12 +154,12 @@ place_at side position = record { side = side; position = position }
 -- Where a comment is filed: as trailing at the end of the token before it, if the comment trails this
 -- token; otherwise as leading at the start of the token after it. If no token is after it, as trailing at
 -- the end of the text. In a text without tokens, as leading at the start of the text.
-unfoldable pub place_of : List ℕ → Layout → Bool → DependencyComment → Place
-place_of text layout is_empty comment =
+unfoldable pub place_of : List ℕ → Layout → List Bool → Bool → DependencyComment → Place
+place_of text layout ends is_empty comment =
     let next = token_start layout.is_gap comment.range.end in
     if next == length text then (if is_empty then place_at Leading 0 else place_at Trailing next) else
-    (if trails text layout comment then place_at Trailing (token_end layout.is_gap comment.range.start) else
-    place_at Leading next)
+    (if trails text layout ends comment then place_at Trailing (token_end layout.is_gap comment.range.start)
+    else place_at Leading next)
 
 -- The two sides are the same.
 abbrev pub same_side : CommentSide → CommentSide → Bool
@@ -137,15 +174,16 @@ entry_on side place comment =
     if same_side place.side side then entry_with place.position (comment ∷ []) ∷ [] else []
 
 -- The entries of the comments on one side, each with one comment.
-abbrev pub entries_on : CommentSide → List ℕ → Layout → Bool → List DependencyComment → List FiledEntry
-entries_on side text layout is_empty comments =
-    flat_map (λ comment. entry_on side (place_of text layout is_empty comment) comment) comments
+abbrev pub entries_on : CommentSide → List ℕ → Layout → List Bool → Bool → List DependencyComment
+    → List FiledEntry
+entries_on side text layout ends is_empty comments =
+    flat_map (λ comment. entry_on side (place_of text layout ends is_empty comment) comment) comments
 
 -- The entries of both sides for the comments at these ranges, in the order of the ranges.
-unfoldable pub sides_of : List ℕ → Layout → Bool → List SourceRange → Sides
-sides_of text layout is_empty ranges =
+unfoldable pub sides_of : List ℕ → Layout → List Bool → Bool → List SourceRange → Sides
+sides_of text layout ends is_empty ranges =
     let comments = filter_map (comment_at text) ranges in
     record {
-      leading = entries_on Leading text layout is_empty comments;
-      trailing = entries_on Trailing text layout is_empty comments;
+      leading = entries_on Leading text layout ends is_empty comments;
+      trailing = entries_on Trailing text layout ends is_empty comments;
     }

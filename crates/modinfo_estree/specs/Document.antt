@@ -34,6 +34,7 @@ use Rattle.modinfo_estree.specs.Node.{reads_node}
 use Rattle.modinfo_estree.specs.Offsets.{Counted}
 use Rattle.modinfo_estree.specs.Source.{EstreeSource, byte_in}
 use Rattle.modinfo_estree.specs.Tokens.{Layout, layout}
+use Rattle.modinfo_estree.specs.ValueEnds.{value_ends}
 use Rattle.modinfo_estree.specs.declared.offsets.OffsetUnit.{OffsetUnit}
 use Rattle.modinfo_estree.specs.declared.offsets.OffsetUnit.TheVariants.{Utf16, Utf8}
 use Rattle.modinfo_estree.specs.declared.program.Outermost.{Outermost}
@@ -120,7 +121,7 @@ is_empty text body = has_none body && not (has_shebang text)
 -- The comments and the program of a text.
 abbrev pub tree_of : List ℕ → Layout → List SourceRange → List Node → Sides × ParsedProgram
 tree_of text layout comments body = (
-  sides_of text layout (is_empty text body) (comment_ranges text comments),
+  sides_of text layout (value_ends text body) (is_empty text body) (comment_ranges text comments),
   record {
     range = record { start = 0; end = length text };
     body = body;

@@ -2,6 +2,7 @@ pub mod Child
 pub mod Comments
 pub mod Document
 pub mod Kind
+pub mod LastToken
 pub mod Literal
 pub mod Member
 pub mod Node
@@ -11,4 +12,5 @@ pub mod Parentheses
 pub mod Range
 pub mod Source
 pub mod Tokens
+pub mod ValueEnds
 pub mod internal

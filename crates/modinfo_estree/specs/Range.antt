@@ -15,3 +15,7 @@ is_boundary text at = nat_le at (length text) && is_char_start (slice_index text
 abbrev pub is_text_range : List ℕ → SourceRange → Bool
 is_text_range text range =
     (nat_le range.start range.end && is_boundary text range.start) && is_boundary text range.end
+
+-- The range from an offset of a text to the end of the text.
+abbrev pub rest_range : List ℕ → ℕ → SourceRange
+rest_range text at = record { start = at; end = length text }

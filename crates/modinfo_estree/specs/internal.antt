@@ -6,3 +6,4 @@ pub mod Node
 pub mod Offsets
 pub mod Tables
 pub mod Tokens
+pub mod ValueEnds

@@ -1,15 +1,19 @@
 //! Filing the comments of a text, by the tokens around them.
 
-ghost use Rattle.std.specs.Prelude.{◌≡◌, ◌-◌, true, false, drop, length, nat_eq, slice_index, take};
+ghost use Rattle.std.specs.Prelude.{◌≡◌, ◌-◌, true, false, drop, length, nat_eq, take};
 ghost use Rattle.std.specs.Prelude.{IfOk, OnOk, MatchOption};
 ghost use Rattle.std.specs.List.{ends_with, starts_with};
+ghost use Rattle.std.specs.Str.{chars};
 ghost use Rattle.modinfo_document.specs.Comments.{AreThoseOf};
-ghost use Rattle.modinfo_estree.specs.Comments.{block_text, comment_at, comment_of, comment_with};
-ghost use Rattle.modinfo_estree.specs.Comments.{is_closing, is_line};
-ghost use Rattle.modinfo_estree.specs.Comments.{place_of, sides_of, trails};
+ghost use Rattle.modinfo_estree.specs.Comments.{after_space, block_text, block_trails, comment_at, comment_of};
+ghost use Rattle.modinfo_estree.specs.Comments.{comment_with, is_before_semicolon, is_semicolon};
+ghost use Rattle.modinfo_estree.specs.Comments.{is_value_end, line_trails, place_of, sides_of, trails};
+ghost use Rattle.modinfo_estree.specs.Comments.{trails_token};
 ghost use Rattle.modinfo_estree.specs.internal.Comments.{IsFiled};
 
 use crate::comment_order::is_no_comment;
+use crate::last_token::{is_closing, is_name, is_operator, last_byte};
+use crate::marks::is_space;
 use crate::slice::slice_at;
 use crate::tokens::Tokens;
 use deno_graph_base::text::SourceRange;
@@ -19,22 +23,23 @@ use std::alloc::{AllocError, Global};
 
 /// Files the comments at some ranges, in the order of the ranges. Passes over a range where the text has a
 /// `#!` line or a comment as in HTML. Files an empty line comment where the text has no comment or no such
-/// range, so that a check of the source reports the range. `is_empty` says that the text has no token. Fails
-/// only if an allocation fails.
+/// range, so that a check of the source reports the range. `ends` is the table of `value_ends`. `is_empty` says
+/// that the text has no token. Fails only if an allocation fails.
 pub fn file_comments(
     alloc: Global,
     text: &str,
     tokens: &Tokens,
+    ends: &[bool],
     ranges: &[SourceRange],
     is_empty: bool,
 ) -> Result<Comments, AllocError>
     ensures { IfOk result
-        (λ comments. AreThoseOf (sides_of text.now tokens.now is_empty ranges.now) comments) }
+        (λ comments. AreThoseOf (sides_of text.now tokens.now ends.now is_empty ranges.now) comments) }
 {
     let mut comments = Comments::new(alloc);
     for range in ranges {
         if let Some(comment) = comment_at(alloc, text, *range)? {
-            let place = place_of(text, tokens, is_empty, &comment);
+            let place = place_of(text, tokens, ends, is_empty, &comment);
             file(&mut comments, place, comment)?;
         }
     }
@@ -61,8 +66,14 @@ fn file(comments: &mut Comments, place: Place, comment: DependencyComment) -> Re
 
 /// Returns the place of a comment.
 #[tactic(auto, unfolding(crate::specs::Comments::place_of))]
-fn place_of(text: &str, tokens: &Tokens, is_empty: bool, comment: &DependencyComment) -> Place
-    ensures { result ≡ place_of text.now tokens.now is_empty comment.now }
+fn place_of(
+    text: &str,
+    tokens: &Tokens,
+    ends: &[bool],
+    is_empty: bool,
+    comment: &DependencyComment,
+) -> Place
+    ensures { result ≡ place_of text.now tokens.now ends.now is_empty comment.now }
 {
     let next = tokens.start(comment.range.end);
     if next == text.len() {
@@ -77,7 +88,7 @@ fn place_of(text: &str, tokens: &Tokens, is_empty: bool, comment: &DependencyCom
             position: next,
         };
     }
-    if trails(text, tokens, comment) {
+    if trails(text, tokens, ends, comment) {
         return Place {
             side: CommentSide::Trailing,
             position: tokens.end(comment.range.start),
@@ -91,33 +102,92 @@ fn place_of(text: &str, tokens: &Tokens, is_empty: bool, comment: &DependencyCom
 
 /// Returns whether a comment trails the token before it.
 #[tactic(auto, unfolding(crate::specs::Comments::trails))]
-fn trails(text: &str, tokens: &Tokens, comment: &DependencyComment) -> bool
-    ensures { result ≡ trails text.now tokens.now comment.now }
+fn trails(text: &str, tokens: &Tokens, ends: &[bool], comment: &DependencyComment) -> bool
+    ensures { result ≡ trails text.now tokens.now ends.now comment.now }
 {
     let last = tokens.end(comment.range.start);
     last > 0
         && tokens.is_on_line(comment.range.start)
-        && (is_line(comment.kind) || is_closing(text, last - 1))
+        && trails_token(text, tokens, ends, last, comment)
 }
 
-/// Returns whether the kind is that of line comments.
-fn is_line(kind: CommentKind) -> bool
-    ensures { result ≡ is_line kind }
+/// Returns whether a comment on the line of the token that ends at `last` trails this token.
+fn trails_token(
+    text: &str,
+    tokens: &Tokens,
+    ends: &[bool],
+    last: usize,
+    comment: &DependencyComment,
+) -> bool
+    ensures { result ≡ trails_token text.now tokens.now.is_gap ends.now last comment.now }
 {
-    match kind {
-        CommentKind::Line => true,
-        CommentKind::Block => false,
+    let front = front(text, last);
+    let is_value_end = is_value_end(ends, last);
+    match comment.kind {
+        CommentKind::Line => line_trails(front, is_value_end),
+        CommentKind::Block => {
+            block_trails(tokens, front, is_value_end)
+                || is_before_semicolon(text, comment.range.end)
+        }
     }
 }
 
-/// Returns whether the byte of a text at an offset is `;`, `{` or `}`.
-fn is_closing(text: &str, at: usize) -> bool
-    ensures { result ≡ is_closing (slice_index text.now at) }
+/// Returns whether line comments on the line of the last token of a text trail it. `is_value_end` says that a
+/// value ends there that could be an operator.
+fn line_trails(front: &[u8], is_value_end: bool) -> bool
+    ensures { result ≡ line_trails front.now is_value_end }
 {
-    match text.as_bytes().get(at) {
-        Some(byte) => matches!(*byte, b';' | b'{' | b'}'),
+    is_value_end || !is_operator(front)
+}
+
+/// Returns whether block comments on the line of the last token of a text trail it, whatever follows.
+/// `is_value_end` says that a value ends there that could be an operator.
+fn block_trails(tokens: &Tokens, front: &[u8], is_value_end: bool) -> bool
+    ensures { result ≡ block_trails tokens.now.is_gap front.now is_value_end }
+{
+    let last = last_byte(front);
+    is_value_end && last != b'>' || is_closing(last) || is_name(tokens, front)
+}
+
+/// Returns whether a value ends at an offset that could be an operator, by the table of these ends.
+fn is_value_end(ends: &[bool], at: usize) -> bool
+    ensures { result ≡ is_value_end ends.now at }
+{
+    match ends.get(at) {
+        Some(is_end) => *is_end,
         None => false,
     }
+}
+
+/// Returns the bytes of a text up to an offset.
+fn front(text: &str, end: usize) -> &[u8]
+    ensures { result.now ≡ take end text.now }
+{
+    let bytes = text.as_bytes();
+    &bytes[..end.min(bytes.len())]
+}
+
+/// Returns whether a `;` follows white space from an offset of a text on.
+#[tactic(auto, unfolding(crate::specs::Comments::is_before_semicolon))]
+fn is_before_semicolon(text: &str, at: usize) -> bool
+    ensures { result ≡ is_before_semicolon text.now at }
+{
+    match slice_at(text, SourceRange::new(at, text.len())) {
+        Some(rest) => begins_with_semicolon(rest),
+        None => false,
+    }
+}
+
+/// Returns whether a text begins with `;` after white space.
+fn begins_with_semicolon(text: &str) -> bool
+    ensures { result ≡ is_semicolon (after_space (chars text.now)) }
+{
+    for c in text.chars() {
+        if !is_space(c) {
+            return c == ';';
+        }
+    }
+    false
 }
 
 /// Returns the comment of a text at a range, or `None` if the text has no comment there. Returns an empty

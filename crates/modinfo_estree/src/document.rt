@@ -19,6 +19,7 @@ use crate::offsets::{OffsetUnit, Offsets};
 use crate::program::read_file_at;
 use crate::source::{Members, Source};
 use crate::tokens::Tokens;
+use crate::value_ends::value_ends;
 use deno_graph_json::read::{read_object, read_str};
 use deno_graph_json::{Element, Expected, FromJson, ObjectReader, ReadError, Tape};
 use deno_graph_source::text::SourceRange;
@@ -118,7 +119,15 @@ fn read_tree_in(
     let body = read_file_at(alloc, source, members)?;
     let is_empty = is_empty(text, body.as_slice());
     let kept = comment_ranges(alloc, text, ranges)?;
-    let comments = file_comments(alloc, text, &source.tokens, kept.as_slice(), is_empty)?;
+    let ends = value_ends(alloc, text, body.as_slice())?;
+    let comments = file_comments(
+        alloc,
+        text,
+        &source.tokens,
+        &ends,
+        kept.as_slice(),
+        is_empty,
+    )?;
     let program = Program {
         range: SourceRange::new(0, text.len()),
         body,

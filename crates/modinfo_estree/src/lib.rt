@@ -16,6 +16,7 @@ mod export;
 mod expression;
 mod import_type;
 mod kind;
+mod last_token;
 pub mod laws;
 mod literal;
 mod marks;
@@ -33,6 +34,7 @@ mod slice;
 mod source;
 mod stride;
 mod tokens;
+mod value_ends;
 
 pub use check::check_estree;
 pub use document::{parse_estree, read_estree};

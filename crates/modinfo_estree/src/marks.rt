@@ -117,7 +117,7 @@ fn mark_of(c: char) -> Mark
 }
 
 /// Returns whether a character is white space or a line terminator.
-fn is_space(c: char) -> bool
+pub fn is_space(c: char) -> bool
     ensures { result ≡ is_space c }
 {
     c.is_whitespace() && c != '\u{85}' || c == '\u{FEFF}'

@@ -1,6 +1,6 @@
 //! Where tokens begin and end. Between two tokens are only white space and comments.
 
-ghost use Rattle.std.specs.Prelude.{◌≡◌, IfOk, length};
+ghost use Rattle.std.specs.Prelude.{◌≡◌, IfOk, false, length, slice_index_or};
 ghost use Rattle.modinfo_estree.specs.Tokens.{is_on_line, token_end, token_start};
 ghost use Rattle.modinfo_estree.specs.internal.Marks.{breaks_of, gaps_of};
 ghost use Rattle.modinfo_estree.specs.internal.Tables.{at_32nds};
@@ -92,6 +92,13 @@ impl Tokens {
             }
         }
         0
+    }
+
+    /// Returns whether the byte at an offset is between tokens.
+    pub fn is_gap(&self, offset: usize) -> bool
+        ensures { result ≡ slice_index_or self.now.is_gap offset false }
+    {
+        is_gap_at(self.marks.as_slice(), offset)
     }
 
     /// Returns whether no line terminator is between the last token before `offset` and `offset`.

@@ -1,6 +1,6 @@
 /**
  * A comment of each kind in every gap between the tokens of each kind of dependency: the parser against acorn and
- * TypeScript.
+ * TypeScript, and against the trees of each parser of the tests of ESTree, which `analyze --estree` reads.
  *
  *     MODINFO=build/unchecked/modinfo node --test bindings/node/tests/differential/gaps.mjs
  */
@@ -8,8 +8,9 @@
 import assert from "node:assert/strict";
 import { test } from "node:test";
 
+import { PARSERS, parsed } from "./adapters.mjs";
 import { Oracle } from "./oracle.mjs";
-import { linesOfTexts } from "./program.mjs";
+import { linesOfTexts, linesOfTrees } from "./program.mjs";
 
 /**
  * Dependencies by media type, with a blank between two tokens.
@@ -173,6 +174,24 @@ for (const [mediaType, dependencies] of Object.entries(DEPENDENCIES)) {
       }
     }
     await oracle.close();
+    assert.deepEqual(different, []);
+  });
+}
+
+for (const parser of PARSERS) {
+  test(`comments in trees: ${parser.name}`, { skip: parser.skip }, async () => {
+    const modules = Object.entries(DEPENDENCIES).flatMap(([mediaType, dependencies]) =>
+      dependencies.flatMap(textsOf).map((text) => ({ text, mediaType })));
+    const trees = modules.flatMap((module) => {
+      const input = parsed(parser, module.text, module.mediaType);
+      return input ? [{ module, ...input }] : [];
+    });
+    assert.ok(trees.length > 0);
+    const found = await linesOfTrees(trees);
+    const expected = await linesOfTexts(trees.map(({ module }) => module));
+    const different = trees
+      .map(({ module }, at) => ({ ...module, expected: expected[at], line: found[at] }))
+      .filter(({ expected, line }) => line !== expected);
     assert.deepEqual(different, []);
   });
 }

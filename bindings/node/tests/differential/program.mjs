@@ -1,4 +1,7 @@
-/** Runs the program that is tried, `modinfo`: over files by `files`, over texts by `analyze --source --lines`. */
+/**
+ * Runs the program that is tried, `modinfo`: over files by `files`, over texts by `analyze --source --lines`, over
+ * trees of parsers by `analyze --estree --lines`.
+ */
 
 import { spawn } from "node:child_process";
 import { text } from "node:stream/consumers";
@@ -30,6 +33,20 @@ export async function linesOfTexts(modules) {
   const documents = modules.map(({ text: source, mediaType }) =>
     JSON.stringify({ specifier: "file:///a", source, mediaType }));
   return (await printed(["analyze", "--source", "--lines"], documents)).map((line) => resultOf(line, /^\{"answer":/));
+}
+
+/**
+ * What the program prints for the trees of a parser.
+ * @param {{ module: Module, tree: object, comments: object[] }[]} trees
+ * @returns {Promise<string[]>} for each the JSON of its information, or the name of a fault
+ * @throws {Error} the program ended before the last tree
+ */
+export async function linesOfTrees(trees) {
+  const documents = trees.map(({ module: { text: source, mediaType }, tree, comments }) => {
+    const document = { specifier: "file:///a", source, mediaType, program: tree, comments };
+    return JSON.stringify(document, (_, value) => (typeof value === "bigint" ? null : value));
+  });
+  return (await printed(["analyze", "--estree", "--lines"], documents)).map((line) => resultOf(line, /^\{"answer":/));
 }
 
 /**

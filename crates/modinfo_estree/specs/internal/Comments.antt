@@ -16,9 +16,10 @@ IsFiled place comment old new = AreAppended old.leading new.leading (entry_on Le
     × AreAppended old.trailing new.trailing (entry_on Trailing place comment)
 
 -- The comments at these ranges were filed, after the earlier ones.
-abbrev pub AreFiled : List ℕ → Layout → Bool → List SourceRange → FiledComments → FiledComments → Type 0
-AreFiled text layout is_empty ranges old new =
+abbrev pub AreFiled : List ℕ → Layout → List Bool → Bool → List SourceRange → FiledComments → FiledComments
+    → Type 0
+AreFiled text layout ends is_empty ranges old new =
     AreAppended old.leading new.leading
-    (entries_on Leading text layout is_empty (filter_map (comment_at text) ranges))
+    (entries_on Leading text layout ends is_empty (filter_map (comment_at text) ranges))
     × AreAppended old.trailing new.trailing
-    (entries_on Trailing text layout is_empty (filter_map (comment_at text) ranges))
+    (entries_on Trailing text layout ends is_empty (filter_map (comment_at text) ranges))

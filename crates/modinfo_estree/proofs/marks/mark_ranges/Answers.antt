@@ -49,4 +49,4 @@ returns c =
     let old = c.args.marks.now.items in
     subst (λ ranges. AreMarked (λ at. list_any (has_byte at) ranges) old c.loop-range.marks.items)
     (take_all c.loop-range.range-index c.args.ranges.now c.loop-range-test.false)
-        c.loop-range.invariant.marked
+    c.loop-range.invariant.marked

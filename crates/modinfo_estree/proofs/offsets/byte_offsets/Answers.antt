@@ -32,7 +32,7 @@ loop-end-preserved c =
     let more : end + unit_size (get_or text end 0) ≡ end + c.unit_size-end.result = ap (λ n. end + n) size in
     let next : HaveBytes sizes (units + 1) (end + c.unit_size-end.result) =
     same_units sizes (units + 1) (units + 1) (end + unit_size (get_or text end 0)) (end +
-        c.unit_size-end.result)
+    c.unit_size-end.result)
     (omega arith) more (next_unit text units end c.utf8.text inv.end within) in
     record {
       offsets = elim c.if-units-eq0.branch [

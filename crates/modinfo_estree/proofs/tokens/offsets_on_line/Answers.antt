@@ -78,7 +78,7 @@ loop-at-preserved c =
         | then-at-eq0+in_ok-push-2 w ↦
             ap (λ v. v.items) w.on_line-is ∙ w.in_ok-push-2.ensures.items
             ∙ one_more f c.loop-at.on_line.items i c.if-not-is_gap.is_on_line inv.on_line w.if-at-eq0.true
-                next
+            next
         | else-at-eq0 w ↦
             ap (λ v. v.items) w.on_line-is
             ∙ none_more f c.loop-at.on_line.items i inv.on_line w.if-at-eq0.false

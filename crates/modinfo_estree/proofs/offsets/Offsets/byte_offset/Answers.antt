@@ -25,5 +25,5 @@ returns-in-None c =
     let after : length fields.bytes.items ≤ c.args.offset / 32 =
     omega (arith, c.in-None.ensures.lookup.3, ap length c.deref.ensures.value) in
     none_held fields.unit fields.text.now fields.bytes.items c.args.offset c.in-Utf16.is c.self.invariant
-        after
+    after
     ∙ ap (λ counted. offset_in counted.unit counted.text c.args.offset) c.self.view_is

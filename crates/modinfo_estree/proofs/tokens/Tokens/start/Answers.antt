@@ -25,7 +25,7 @@ loop-at-preserved c =
     let i = c.loop-at.at in
     let within : i < length gaps = omega (arith, c.loop-at-test.true, size_of_gaps marks) in
     sym (start_at_gap gaps i within (sym c.is_gap_at.ensures ∙ c.if-not-is_gap_at.false))
-        ∙ c.loop-at.invariant
+    ∙ c.loop-at.invariant
 
 pub returns-then-at-eq0 : goal.returns-then-at-eq0
 returns-then-at-eq0 c =
