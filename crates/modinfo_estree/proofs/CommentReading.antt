@@ -38,10 +38,13 @@ use Rattle.deno_graph_source.specs.declared.tree.comments.CommentKind.{CommentKi
 use Rattle.deno_graph_source.specs.declared.tree.comments.CommentKind.TheVariants.{Line, Block}
 use Rattle.deno_graph_source.specs.declared.tree.comments.DependencyComment.{DependencyComment}
 use Rattle.modinfo_estree.specs.Comments.{
+  IsWhole,
   block_text,
   comment_at,
   comment_of,
   comment_with,
+  is_line,
+  is_whole_line,
 }
 use Rattle.modinfo_estree.specs.Range.{is_boundary, is_text_range}
 
@@ -77,18 +80,21 @@ inside_block text =
     (drop_at text (codes "*/") (length text) refl)
     ∙ take_at text (codes "*/") (length text) refl
 
-spelled_read : (kind : CommentKind) (range : SourceRange) (text : List ℕ)
-    → comment_of range (spelling kind text) ≡ Some (comment_with kind range text)
+spelled_read : (source : List ℕ) (kind : CommentKind) (range : SourceRange) (text : List ℕ)
+    → (is_line kind ≡ true → is_whole_line source range ≡ true)
+    → comment_of source range (spelling kind text) ≡ Some (comment_with kind range text)
 unfolding comment_of
-spelled_read Line range text = refl
-spelled_read Block range text = ap (λ inside. Some (comment_with Block range inside)) (inside_block text)
+spelled_read source Line range text whole =
+    ap (λ is. Some (if is then comment_with Line range text else comment_with Block range [])) (whole refl)
+spelled_read source Block range text whole =
+    ap (λ inside. Some (comment_with Block range inside)) (inside_block text)
 
 pub comment_read : (text : List ℕ) (comment : DependencyComment) → IsSpelled text comment
-    → comment_at text comment.range ≡ Some comment
+    → IsWhole text comment → comment_at text comment.range ≡ Some comment
 unfolding comment_at
-comment_read text comment spelled =
+comment_read text comment spelled whole =
     let range = comment.range in
     let bytes = slice_of text range in
-    ap (λ t. if t then comment_of range bytes else Some (comment_with Line range []))
+    ap (λ t. if t then comment_of text range bytes else Some (comment_with Line range []))
     (range_test text range spelled.range)
-    ∙ ap (comment_of range) spelled.slice ∙ spelled_read comment.kind range comment.text
+    ∙ ap (comment_of text range) spelled.slice ∙ spelled_read text comment.kind range comment.text whole

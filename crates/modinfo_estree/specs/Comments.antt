@@ -1,5 +1,6 @@
 -- The comments of a text by their ranges, and where each is filed.
 use Rattle.std.specs.Prelude.{
+  ◌≡◌,
   ℕ,
   ◌-◌,
   ◌==◌,
@@ -26,7 +27,7 @@ use Rattle.std.specs.Prelude.{
   None,
 }
 use Rattle.std.specs.Str.{chars}
-use Rattle.std.specs.List.{ends_with, filter_map, flat_map, starts_with}
+use Rattle.std.specs.List.{ends_with, filter_map, flat_map, list_any, starts_with}
 use Rattle.deno_graph_base.specs.SourceRange.{slice_of}
 use Rattle.deno_graph_base.specs.declared.text.position.SourceRange.{SourceRange}
 use Rattle.deno_graph_source.specs.declared.tree.comments.CommentKind.{CommentKind}
@@ -39,7 +40,7 @@ use Rattle.modinfo_document.specs.declared.comments.FiledEntry.{FiledEntry}
 use Rattle.modinfo_estree.specs.LastToken.{is_closing, is_name, is_operator, last_byte}
 use Rattle.modinfo_estree.specs.Order.{sorted_by_start}
 use Rattle.modinfo_estree.specs.Range.{is_range, is_text_range, rest_range}
-use Rattle.modinfo_estree.specs.Tokens.{Layout, is_on_line, is_space, token_end, token_start}
+use Rattle.modinfo_estree.specs.Tokens.{Layout, is_line_break, is_on_line, is_space, token_end, token_start}
 use Rattle.modinfo_estree.specs.declared.comments.Place.{Place}
 
 -- The comment of this kind with this range and text.
@@ -56,11 +57,29 @@ abbrev pub is_no_comment : List ℕ → Bool
 is_no_comment bytes = starts_with nat_eq bytes (codes "#!")
     || (starts_with nat_eq bytes (codes "<!--") || starts_with nat_eq bytes (codes "-->"))
 
+-- Some characters are at the end of a line: none is left, or the first is a line terminator.
+abbrev pub ends_line : List ℕ → Bool
+ends_line [] = true
+ends_line (c ∷ _) = is_line_break c
+
+-- The range of a line comment is as far as the end of the line: it has no line terminator, and one follows, or
+-- nothing.
+abbrev pub is_whole_line : List ℕ → SourceRange → Bool
+is_whole_line text range = not (list_any is_line_break (chars (slice_of text range)))
+    && (is_text_range text (rest_range text range.end)
+    && ends_line (chars (slice_of text (rest_range text range.end))))
+
+-- The line comment at a range. One that isn't a whole line is read as an empty block comment, and the check of
+-- the source reports the comment.
+abbrev pub line_comment : List ℕ → SourceRange → List ℕ → DependencyComment
+line_comment text range rest =
+    if is_whole_line text range then comment_with Line range rest else comment_with Block range []
+
 -- The comment with these bytes. Other bytes that don't begin what is no comment are read as an empty line
 -- comment, and the check of the source reports the comment.
-unfoldable pub comment_of : SourceRange → List ℕ → Option DependencyComment
-comment_of range bytes =
-    if starts_with nat_eq bytes (codes "//") then Some (comment_with Line range (drop 2 bytes)) else
+unfoldable pub comment_of : List ℕ → SourceRange → List ℕ → Option DependencyComment
+comment_of text range bytes =
+    if starts_with nat_eq bytes (codes "//") then Some (line_comment text range (drop 2 bytes)) else
     (if starts_with nat_eq bytes (codes "/*") then Some (comment_with Block range (block_text (drop 2 bytes)))
     else (if is_no_comment bytes then None else Some (comment_with Line range [])))
 
@@ -68,7 +87,7 @@ comment_of range bytes =
 -- the check of the source reports the range.
 unfoldable pub comment_at : List ℕ → SourceRange → Option DependencyComment
 comment_at text range =
-    if is_text_range text range then comment_of range (slice_of text range) else
+    if is_text_range text range then comment_of text range (slice_of text range) else
     Some (comment_with Line range [])
 
 -- The start of a range.
@@ -99,6 +118,10 @@ comment_ranges text ranges = apart (sorted_by_start range_start (filter (is_comm
 abbrev pub is_line : CommentKind → Bool
 is_line Line = true
 is_line Block = false
+
+-- If the comment is a line comment, its range is as far as the end of the line.
+abbrev pub IsWhole : List ℕ → DependencyComment → Type 0
+IsWhole text comment = is_line comment.kind ≡ true → is_whole_line text comment.range ≡ true
 
 -- The characters of a text after white space.
 abbrev pub after_space : List ℕ → List ℕ

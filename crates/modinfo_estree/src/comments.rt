@@ -1,19 +1,22 @@
 //! Filing the comments of a text, by the tokens around them.
 
-ghost use Rattle.std.specs.Prelude.{◌≡◌, ◌-◌, true, false, drop, length, nat_eq, take};
+ghost use Rattle.std.specs.Prelude.{◌≡◌, ◌-◌, ◌&&◌, true, false, drop, length, nat_eq, take};
 ghost use Rattle.std.specs.Prelude.{IfOk, OnOk, MatchOption};
-ghost use Rattle.std.specs.List.{ends_with, starts_with};
+ghost use Rattle.std.specs.List.{ends_with, list_any, starts_with};
 ghost use Rattle.std.specs.Str.{chars};
+ghost use Rattle.deno_graph_base.specs.SourceRange.{slice_of};
 ghost use Rattle.modinfo_document.specs.Comments.{AreThoseOf};
 ghost use Rattle.modinfo_estree.specs.Comments.{after_space, block_text, block_trails, comment_at, comment_of};
 ghost use Rattle.modinfo_estree.specs.Comments.{comment_with, is_before_semicolon, is_semicolon};
 ghost use Rattle.modinfo_estree.specs.Comments.{is_value_end, line_trails, place_of, sides_of, trails};
-ghost use Rattle.modinfo_estree.specs.Comments.{trails_token};
+ghost use Rattle.modinfo_estree.specs.Comments.{ends_line, is_whole_line, trails_token};
+ghost use Rattle.modinfo_estree.specs.Range.{is_text_range, rest_range};
+ghost use Rattle.modinfo_estree.specs.Tokens.{is_line_break};
 ghost use Rattle.modinfo_estree.specs.internal.Comments.{IsFiled};
 
 use crate::comment_order::is_no_comment;
 use crate::last_token::{is_closing, is_name, is_operator, last_byte};
-use crate::marks::is_space;
+use crate::marks::{is_line_break, is_space};
 use crate::slice::slice_at;
 use crate::tokens::Tokens;
 use deno_graph_base::text::SourceRange;
@@ -201,28 +204,74 @@ fn comment_at(
     ensures { IfOk result (λ comment. comment ≡ comment_at text.now range) }
 {
     match slice_at(text, range) {
-        Some(bytes) => comment_of(alloc, range, bytes),
+        Some(bytes) => comment_of(alloc, text, range, bytes),
         None => comment_with(alloc, CommentKind::Line, range, ""),
     }
 }
 
-/// Returns the comment with these bytes, or `None` if they begin a `#!` line or a comment as in HTML. Other
-/// bytes are read as an empty line comment, so that a check of the source reports the comment.
+/// Returns the comment with these bytes of a text, or `None` if they begin a `#!` line or a comment as in HTML.
+/// Other bytes are read as an empty line comment, so that a check of the source reports the comment.
 #[tactic(auto, unfolding(crate::specs::Comments::comment_of))]
 fn comment_of(
     alloc: Global,
+    text: &str,
     range: SourceRange,
     bytes: &str,
 ) -> Result<Option<DependencyComment>, AllocError>
-    ensures { IfOk result (λ comment. comment ≡ comment_of range bytes.now) }
+    requires { bytes.now ≡ slice_of text.now range }
+    ensures { IfOk result (λ comment. comment ≡ comment_of text.now range bytes.now) }
 {
     match after(bytes, "//") {
-        Some(rest) => comment_with(alloc, CommentKind::Line, range, rest),
+        Some(rest) if is_whole_line(text, range, bytes) => {
+            comment_with(alloc, CommentKind::Line, range, rest)
+        }
+        Some(_) => comment_with(alloc, CommentKind::Block, range, ""),
         None => match after(bytes, "/*") {
             Some(rest) => comment_with(alloc, CommentKind::Block, range, block_text(rest)),
             None if is_no_comment(bytes) => Ok(None),
             None => comment_with(alloc, CommentKind::Line, range, ""),
         },
+    }
+}
+
+/// Returns whether the range of a line comment with these bytes is as far as the end of the line.
+fn is_whole_line(text: &str, range: SourceRange, bytes: &str) -> bool
+    requires { bytes.now ≡ slice_of text.now range }
+    ensures { result ≡ is_whole_line text.now range }
+{
+    !has_line_break(bytes) && is_before_line_break(text, range.end)
+}
+
+/// Returns whether a text has a line terminator.
+fn has_line_break(text: &str) -> bool
+    ensures { result ≡ list_any is_line_break (chars text.now) }
+{
+    for c in text.chars() {
+        if is_line_break(c) {
+            return true;
+        }
+    }
+    false
+}
+
+/// Returns whether a line terminator, or the end of the text, is at an offset.
+fn is_before_line_break(text: &str, at: usize) -> bool
+    ensures { result ≡ (is_text_range text.now (rest_range text.now at)
+        && ends_line (chars (slice_of text.now (rest_range text.now at)))) }
+{
+    match slice_at(text, SourceRange::new(at, text.len())) {
+        Some(rest) => ends_line(rest),
+        None => false,
+    }
+}
+
+/// Returns whether a text is empty or begins with a line terminator.
+fn ends_line(text: &str) -> bool
+    ensures { result ≡ ends_line (chars text.now) }
+{
+    match text.chars().next() {
+        Some(c) => is_line_break(c),
+        None => true,
     }
 }
 

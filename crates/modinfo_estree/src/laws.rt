@@ -5,7 +5,7 @@ ghost use Rattle.std.specs.Str.{IsUtf8};
 ghost use Rattle.deno_graph_base.specs.declared.text.position.SourceRange.{SourceRange};
 ghost use Rattle.deno_graph_source.specs.Source.{IsSpelled};
 ghost use Rattle.deno_graph_source.specs.declared.tree.comments.DependencyComment.{DependencyComment};
-ghost use Rattle.modinfo_estree.specs.Comments.{comment_at};
+ghost use Rattle.modinfo_estree.specs.Comments.{IsWhole, comment_at};
 ghost use Rattle.modinfo_estree.specs.Offsets.{byte_offset, unit_sizes};
 ghost use Rattle.modinfo_estree.specs.Tokens.{breaks, gaps};
 
@@ -29,8 +29,9 @@ pub fn each_byte_is_marked()
     ensures lines { (text : List ℕ) → IsUtf8 text → length (breaks text) ≡ length text }
 {}
 
-/// A comment that the text has at the range of the comment is read with its kind and its text.
+/// A comment that the text has at the range of the comment is read with its kind and its text; a line comment
+/// if the range is as far as the end of the line.
 pub fn each_comment_is_read()
     ensures { (text : List ℕ) → (comment : DependencyComment) → IsSpelled text comment
-        → comment_at text comment.range ≡ Some comment }
+        → IsWhole text comment → comment_at text comment.range ≡ Some comment }
 {}

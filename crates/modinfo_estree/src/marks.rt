@@ -124,7 +124,7 @@ pub fn is_space(c: char) -> bool
 }
 
 /// Returns whether a character is a line terminator.
-fn is_line_break(c: char) -> bool
+pub fn is_line_break(c: char) -> bool
     ensures { result ≡ is_line_break c }
 {
     matches!(c, '\n' | '\r' | '\u{2028}' | '\u{2029}')
