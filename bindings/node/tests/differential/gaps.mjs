@@ -153,6 +153,9 @@ const KNOWN = [
   { reason: "TypeScript reports nothing where `declare` isn't one.", text: /^declare module[^]*\n[^]*"x" ;/ },
 ];
 
+/** Babel reads type arguments after a line end behind the name of a type of an import, TypeScript doesn't. */
+const READ_BY_BABEL = /^let a : typeof import \( "x" \) \. b[^]*\n[^]*< c >/;
+
 /** @param {string} dependency */
 function textsOf(dependency) {
   const tokens = dependency.split(" ");
@@ -191,7 +194,7 @@ for (const parser of PARSERS) {
     const expected = await linesOfTexts(trees.map(({ module }) => module));
     const different = trees
       .map(({ module }, at) => ({ ...module, expected: expected[at], line: found[at] }))
-      .filter(({ expected, line }) => line !== expected);
+      .filter(({ text, expected, line }) => line !== expected && !(expected === "Syntax" && READ_BY_BABEL.test(text)));
     assert.deepEqual(different, []);
   });
 }
