@@ -1,5 +1,7 @@
 -- Warnings about the literals of nodes, of the nodes below them, and of the items of a body.
-use Rattle.std.proofs.Common.{◌≡◌, ℕ, zero, suc, ◌+◌, ◌-◌, ◌<◌, ◌≤◌, ◌⊎◌, inl, inr, List, [], ◌∷◌, ◌++◌, length, Option, Some, IsSomeAnd, refl, sym, ap, ◌∙◌, subst, arith, take, Global, Vec, false, IsTrue}
+use Rattle.std.proofs.Common.{◌≡◌, ℕ, zero, suc, ◌+◌, ◌-◌, ◌<◌, ◌≤◌, ◌⊎◌, inl, inr, List, [], ◌∷◌, ◌++◌}
+use Rattle.std.proofs.Common.{length, Option, Some, IsSomeAnd, refl, sym, ap, ◌∙◌, subst, arith, take, Global}
+use Rattle.std.proofs.Common.{Vec, false, IsTrue}
 use Rattle.std.specs.List.{Contains, slice_get}
 use Rattle.std.proofs.lemmas.Bool.{cases_lt, false≢true}
 use Rattle.std.proofs.lemmas.Grind.{common_steps}
@@ -168,7 +170,8 @@ module _ (source : List ℕ) (find : Find) (path : NodePath) where
         → AddsBelow source find path before after → Covers source below (path ++ index ∷ []) after
         → CoversBefore (index + 1) source find path after
     covers_item before after covers adds here =
-        λ at inner node limit is. covers_index before after (before_later index before after adds covers) here at
+        λ at inner node limit is.
+        covers_index before after (before_later index before after adds covers) here at
         inner node
         (less_or_same at index limit) is
 
@@ -181,7 +184,8 @@ nothing_added new before after (inr (full, kept, least, more)) none = more none.
 pub none_own : (source : List ℕ) (node : Node) (path : NodePath) (before after : Warnings)
     → WarnsOfNode source node path before after → HasNone after
     → HasNone before × IsLiteralSpelled source node
-none_own source node path before after (inl (spelled, same)) none = (subst (λ w. HasNone w) same none, spelled)
+none_own source node path before after (inl (spelled, same)) none =
+    (subst (λ w. HasNone w) same none, spelled)
 none_own source node path before after (inr (new, deserved, adds)) none =
     absurd (nothing_added new before after adds none)
 
@@ -224,7 +228,8 @@ pushed new old path index is same = is ∙ ap (λ front. front ++ index ∷ []) 
 pub popped : (old : Vec ℕ Global) (new path : List ℕ) (index : ℕ) → new ≡ take (vec_len old - 1) old.items
     → old.items ≡ path ++ index ∷ [] → new ≡ path
 popped old new path index rest is =
-    let size : vec_len old - 1 ≡ length path = omega (arith, old.ok.0, ap length is, length_push path index) in
+    let size : vec_len old - 1 ≡ length path =
+    omega (arith, old.ok.0, ap length is, length_push path index) in
     rest ∙ ap (take (vec_len old - 1)) is ∙ ap (λ size. take size (path ++ index ∷ [])) size
     ∙ grind (arith, common_steps)
 

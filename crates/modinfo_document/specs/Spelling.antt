@@ -75,8 +75,8 @@ pub record WarnsOfEach (document : Document) (warnings : Warnings) : Type 0 wher
       → IsLiteralSpelled (rc_str_bytes document.source) node
       ⊎ ((warning : Warning) × Contains warnings.kept.items warning × IsAbout node indices warning)
 
--- A report without a fault is one on a module document, whose string literals are spelled if there is no warning,
--- and with a warning about each that isn't.
+-- A report without a fault is one on a module document. It has a warning about each string literal that isn't
+-- spelled, and without a warning all are.
 abbrev pub WarnsOfLiterals : List ℕ → Report → Type 0
 WarnsOfLiterals text (Valid warnings) = (document : Document) × IsDocumentIn reads_document text document
     × (HasNone warnings → AreSpelled document) × WarnsOfEach document warnings

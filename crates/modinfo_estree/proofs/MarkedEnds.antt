@@ -79,7 +79,8 @@ module _ (text : List ℕ) where
   no_end range ends none = record {
     size = refl;
     marked = λ at below.
-        sym (ap (λ t. get_or ends at false || (t || false)) (none at below) ∙ or_false (get_or ends at false));
+        sym (ap (λ t. get_or ends at false || (t || false)) (none at below)
+        ∙ or_false (get_or ends at false));
   }
 
   pub no_value : (range : SourceRange) (ends : List Bool) → has_value text range ≡ false

@@ -62,15 +62,15 @@ abbrev pub ends_line : List ℕ → Bool
 ends_line [] = true
 ends_line (c ∷ _) = is_line_break c
 
--- The range of a line comment is as far as the end of the line: it has no line terminator, and one follows, or
--- nothing.
+-- The range of a line comment is as far as the end of the line: it has no line terminator, and one follows,
+-- or nothing.
 abbrev pub is_whole_line : List ℕ → SourceRange → Bool
 is_whole_line text range = not (list_any is_line_break (chars (slice_of text range)))
     && (is_text_range text (rest_range text range.end)
     && ends_line (chars (slice_of text (rest_range text range.end))))
 
--- The line comment at a range. One that isn't a whole line is read as an empty block comment, and the check of
--- the source reports the comment.
+-- The line comment at a range. One that isn't as far is read as an empty block comment, and the check of the
+-- source reports the comment.
 abbrev pub line_comment : List ℕ → SourceRange → List ℕ → DependencyComment
 line_comment text range rest =
     if is_whole_line text range then comment_with Line range rest else comment_with Block range []
@@ -142,14 +142,15 @@ is_before_semicolon text at = is_text_range text (rest_range text at)
 abbrev pub is_value_end : List Bool → ℕ → Bool
 is_value_end ends at = slice_index_or ends at false
 
--- Line comments on the line of the last token of a text trail it: it is no binary operator. A value may end there
--- that could be one.
+-- Line comments on the line of the last token of a text trail it: it is no binary operator. A value may end
+-- there that could be one.
 abbrev pub line_trails : List ℕ → Bool → Bool
 line_trails front is_value_end = is_value_end || not (is_operator front)
 
 -- Block comments on the line of the last token of a text trail it, whatever follows: it is a name that is no
--- keyword, a number, a string, a regular expression, or `{`, `}`, `;` or the `${` of a template. A value may end
--- there that could be an operator or a dot; after one that ends with `>`, an element, they lead the next token.
+-- keyword, a number, a string, a regular expression, or `{`, `}`, `;` or the `${` of a template. A value may
+-- end there that could be an operator or a dot; after one that ends with `>`, an element, they lead the next
+-- token.
 abbrev pub block_trails : List Bool → List ℕ → Bool → Bool
 block_trails gaps front is_value_end = (is_value_end && not (last_byte front == 62))
     || (is_closing (last_byte front) || is_name gaps front)

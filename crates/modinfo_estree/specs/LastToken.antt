@@ -45,8 +45,8 @@ is_name_byte byte =
 abbrev pub is_private_name_byte : ℕ → Bool
 is_private_name_byte byte = is_name_byte byte || (byte == 35)
 
--- The words that name no variable, and `await`, `let` and `yield`. Block comments after one lead the next token.
--- Those after `enum` trail it.
+-- The words that name no variable, and `await`, `let` and `yield`. Block comments after one lead the next
+-- token. Those after `enum` trail it.
 abbrev pub keywords : List (List ℕ)
 keywords =
     codes "await" ∷ codes "break" ∷ codes "case" ∷ codes "catch" ∷ codes "class" ∷ codes "const"

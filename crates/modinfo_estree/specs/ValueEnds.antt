@@ -1,6 +1,6 @@
--- Where values end that by their last bytes alone could be operators or dots: regular expressions without flags,
--- numbers with a dot at the end, and elements of JSX. A node of the tree ends there, and none ends with an
--- operator.
+-- Where values end that by their last bytes alone could be operators or dots: regular expressions without
+-- flags, numbers with a dot at the end, and elements of JSX. A node of the tree ends there, and none ends
+-- with an operator.
 use Rattle.std.specs.Prelude.{
   ℕ,
   ◌+◌,
@@ -23,13 +23,14 @@ use Rattle.deno_graph_source.specs.declared.tree.node.Node.{Node}
 use Rattle.modinfo_estree.specs.LastToken.{ends_in}
 use Rattle.modinfo_estree.specs.Range.{is_text_range}
 
--- The text of a node is an end tag of JSX, or ends with a tag without children. A `/>` whose `/` ends a comment is
--- none.
+-- The text of a node is an end tag of JSX, or ends with a tag without children. A `/>` whose `/` ends a
+-- comment is none.
 abbrev pub is_tag : List ℕ → Bool
 is_tag slice = starts_with nat_eq slice (codes "</")
     || (ends_in slice (codes "/>") && not (ends_in slice (codes "*/>")))
 
--- The text of a node ends with such a value: with the `/` of a regular expression, the dot of a number, or a tag.
+-- The text of a node ends with such a value: with the `/` of a regular expression, the dot of a number, or a
+-- tag.
 abbrev pub is_value : List ℕ → Bool
 is_value slice = (ends_in slice (codes "/") || ends_in slice (codes ".")) || is_tag slice
 

@@ -1,5 +1,5 @@
--- Warnings about the string literals of the nodes that paths of indices lead to from a node or a body. `find` is
--- where such a path leads, and `path` the path of the node or body itself.
+-- Warnings about the string literals of nodes, to which paths of indices lead from a node or a body. `find`
+-- is where such a path leads, and `path` the path of the node or body itself.
 use Rattle.std.specs.Prelude.{◌≡◌, ◌≢◌, ℕ, ◌<◌, ◌⊎◌, List, ◌∷◌, ◌++◌, Option, Some, IsSomeAnd}
 use Rattle.std.specs.List.{Contains}
 use Rattle.deno_graph_source.specs.NodePath.{NodePath}
@@ -15,8 +15,8 @@ WarnsOfNode source node path before after = (IsLiteralSpelled source node × (af
     ⊎ ((warning : Warning) × IsDeserved source path warning node × Adds warning before after)
 
 -- Each warning that was added is about a literal of these nodes that isn't spelled, and none is lost.
-pub record AddsBelow (source : List ℕ) (find : NodePath → Option Node) (path : NodePath) (before after : Warnings)
-    : Type 0 where
+pub record AddsBelow (source : List ℕ) (find : NodePath → Option Node) (path : NodePath)
+    (before after : Warnings) : Type 0 where
   pub added : (warning : Warning) → Contains after.kept.items warning → Contains before.kept.items warning
       ⊎ ((inner : NodePath) × IsSomeAnd (find inner) (IsDeserved source (path ++ inner) warning))
   pub kept : (warning : Warning) → Contains before.kept.items warning → Contains after.kept.items warning

@@ -12,16 +12,20 @@ nowhere = record { start = 0; end = 0 }
 
 pub loop-range-init : goal.loop-range-init
 loop-range-init c =
-    none_filed c.args.text.now c.args.tokens.now c.args.ends.now c.args.is_empty c.args.ranges.now c.new-comments.result
+    none_filed c.args.text.now c.args.tokens.now c.args.ends.now c.args.is_empty c.args.ranges.now
+    c.new-comments.result
 
 pub loop-range-preserved : goal.loop-range-preserved
 loop-range-preserved c =
     let text = c.args.text.now in
+    let tokens = c.args.tokens.now in
+    let ends = c.args.ends.now in
+    let is_empty = c.args.is_empty in
     let ranges = c.args.ranges.now in
     let found = c.in_ok-comment.field-0 in
     let old = c.loop-range.comments in
-    let step = λ (new : FiledComments) (filed : Files text c.args.tokens.now c.args.ends.now c.args.is_empty found old new).
-    filed_more text c.args.tokens.now c.args.ends.now c.args.is_empty ranges c.loop-range.range-index nowhere found
+    let step = λ (new : FiledComments) (filed : Files text tokens ends is_empty found old new).
+    filed_more text tokens ends is_empty ranges c.loop-range.range-index nowhere found
     c.new-comments.result old new c.loop-range-test.true c.in_ok-comment.ensures
     c.loop-range.invariant filed in
     elim c.match-branch-2.branch [
@@ -29,19 +33,23 @@ loop-range-preserved c =
           let one = subst (λ place. IsFiled place w.in-Some.comment old w.file.new.comments)
           w.place_of-place.ensures w.in_ok-file.ensures in
           let filed =
-          subst (λ found. Files text c.args.tokens.now c.args.ends.now c.args.is_empty found old w.file.new.comments)
+          subst (λ found. Files text tokens ends is_empty found old w.file.new.comments)
           (sym w.in-Some.is) one in
-          step c.match-branch-2.comments (subst (Files text c.args.tokens.now c.args.ends.now c.args.is_empty found old)
+          step c.match-branch-2.comments (subst (Files text tokens ends is_empty found old)
           (sym w.comments-is) filed)
       | in_default w ↦
-          step c.match-branch-2.comments (subst (λ o. Files text c.args.tokens.now c.args.ends.now c.args.is_empty o old
+          step c.match-branch-2.comments (subst (λ o. Files text tokens ends is_empty o old
           c.match-branch-2.comments) (sym w.in_default.is) w.comments-is)
     ]
 
 pub returns : goal.returns
 returns c =
-    all_filed c.args.text.now c.args.tokens.now c.args.ends.now c.args.is_empty c.args.ranges.now c.new-comments.result
+    let text = c.args.text.now in
+    let tokens = c.args.tokens.now in
+    let ends = c.args.ends.now in
+    let is_empty = c.args.is_empty in
+    all_filed text tokens ends is_empty c.args.ranges.now c.new-comments.result
     c.loop-range.comments c.new-comments.ensures.leading c.new-comments.ensures.trailing
-    (subst (λ ranges. AreFiled c.args.text.now c.args.tokens.now c.args.ends.now c.args.is_empty ranges c.new-comments.result
-    c.loop-range.comments) (take_all c.loop-range.range-index c.args.ranges.now c.loop-range-test.false)
+    (subst (λ ranges. AreFiled text tokens ends is_empty ranges c.new-comments.result c.loop-range.comments)
+    (take_all c.loop-range.range-index c.args.ranges.now c.loop-range-test.false)
     c.loop-range.invariant)

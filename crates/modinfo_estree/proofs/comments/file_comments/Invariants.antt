@@ -4,5 +4,6 @@ use Rattle.modinfo_estree.specs.internal.Comments.{AreFiled}
 use Rattle.modinfo_estree.proofs.comments.file_comments.Given as goal
 
 abbrev pub invariant-loop-range : goal.invariant-loop-range
-invariant-loop-range l = AreFiled l.text l.tokens l.ends l.is_empty (take l.range-index l.ranges) l.initial.comments
+invariant-loop-range l =
+    AreFiled l.text l.tokens l.ends l.is_empty (take l.range-index l.ranges) l.initial.comments
     l.comments

@@ -28,7 +28,8 @@ returns c =
     empty (subst (λ rs. AreThoseOf
     (sides_of text source.tokens (value_ends text body) c.is_empty-is_empty.result rs)
     c.in_ok-comments.comments) kept
-    (subst (λ es. AreThoseOf (sides_of text source.tokens es c.is_empty-is_empty.result c.as_slice-3.result.now)
+    (subst (λ es. AreThoseOf
+    (sides_of text source.tokens es c.is_empty-is_empty.result c.as_slice-3.result.now)
     c.in_ok-comments.comments) ends c.in_ok-comments.ensures)) in
     some_and _ _ (tree_of text source.tokens ranges body) (goes_on _ _ body _ c.in_ok-body.ensures refl)
     (comments, λ i. record { range = c.new.ensures i; body = body; has_shebang = c.has_shebang.ensures i })

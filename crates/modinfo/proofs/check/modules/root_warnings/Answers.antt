@@ -15,7 +15,8 @@ warns_of_none : (modules : List (List ℕ × ModuleInfo)) (root : List ℕ) (war
     (answer : Result Warnings AllocError) → value_at modules root ≡ None
     → string_bytes warning.pointer ≡ codes "/root" → warning.kind ≡ UnknownRoot
     → IfOk answer (HasOnly warning) → IfOk answer (WarnsOfRoot modules root)
-warns_of_none modules root warning (Ok warnings) none pointer kind only = rw none (warning, pointer, kind, only)
+warns_of_none modules root warning (Ok warnings) none pointer kind only =
+    rw none (warning, pointer, kind, only)
 warns_of_none modules root warning (Err failed) none pointer kind only = tt
 
 pub returns : goal.returns

@@ -1,4 +1,4 @@
--- The node and the nodes below the children so far are covered, by warnings that none but unspelled literals have.
+-- The node and the nodes below the children so far are covered, and only unspelled literals have warnings.
 use Rattle.std.proofs.Common.{◌≡◌, Some, take}
 use Rattle.std.specs.List.{All, flat_map}
 use Rattle.deno_graph_source.specs.Node.{nodes_in}

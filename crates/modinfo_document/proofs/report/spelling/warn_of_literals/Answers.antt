@@ -85,7 +85,8 @@ returns c =
                 (All-flat_map_all (IsLiteralSpelled source) nodes_in nodes _ _ c.as_slice-node-items.ensures
                 c.loop-number-test.false so_far.1),
           );
-      each = λ no_literal. warns_of_code c.args.document.now c.args.warnings.now c.loop-number.warnings no_literal
+      each = λ no_literal.
+          warns_of_code c.args.document.now c.args.warnings.now c.loop-number.warnings no_literal
           (sym c.is_code.ensures ∙ c.if-not-is_code.false) adds covers;
     }
 
