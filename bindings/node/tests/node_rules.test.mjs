@@ -9,6 +9,7 @@ import { test } from "node:test";
 
 import { RegularFiles } from "../src/files/regular_files.mjs";
 import { NodeRules } from "../src/graph/node_rules.mjs";
+import { PackageFolders } from "../src/graph/package_folders.mjs";
 import { PackageManifests } from "../src/graph/package_manifests.mjs";
 import { CONDITIONS, askNode } from "./by_node.mjs";
 import { RandomProject } from "./random_packages.mjs";
@@ -31,9 +32,9 @@ function askRules(queries, conditions) {
   const files = new RegularFiles();
   files.addProject("/");
   const all = [...CONDITIONS, ...conditions];
-  const rules = new NodeRules(files, new PackageManifests(files), {
-    conditions: { import: new Set([...all, "import"]), require: new Set([...all, "require"]) },
-    globalFolders: /** @type {any} */ (Module).globalPaths,
+  const packages = new PackageFolders(files, /** @type {any} */ (Module).globalPaths);
+  const rules = new NodeRules(files, new PackageManifests(files), packages, {
+    import: new Set([...all, "import"]), require: new Set([...all, "require"]),
   });
   /** @type {(mode: "import" | "require", query: Query) => string} */
   const answer = (mode, [importer, name]) => {

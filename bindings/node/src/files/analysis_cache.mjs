@@ -27,13 +27,18 @@ const LONGEST_WAIT = 10_000;
 const LOCK_AGE = 60_000;
 
 const CHECKSUM_LENGTH = 16;
+/** Where in a line the checksum of the program begins, and the path. */
+const VERSION_AT = CHECKSUM_LENGTH + 1;
+const KEY_AT = VERSION_AT + CHECKSUM_LENGTH + 1;
+const TAB = 0x09;
+const LINE_FEED = 0x0a;
 /** The beginning of a line: its checksum, that of the program, and a path. */
 const BEGINNING = /^[\w-]{16}\t[\w-]{16}\t"/;
 
 export class AnalysisCache {
   #path;
   #version;
-  /** @type {Map<string, string>} By the JSON of their paths. */
+  /** @type {Map<string, Buffer>} By their paths. */
   #lines;
   /** @type {Map<string, string>} */
   #added = new Map();
@@ -57,8 +62,8 @@ export class AnalysisCache {
   find(path) {
     const key = absolute(path);
     const state = stateOf(key);
-    const line = state && this.#lines.get(JSON.stringify(key));
-    const [, , , size, changed, info] = line?.split("\t") ?? [];
+    const line = state && this.#lines.get(key);
+    const [, , , size, changed, info] = line?.toString().split("\t") ?? [];
     if (!line || size !== state?.size || changed !== state.changed || !isWhole(line)) {
       return { state };
     }
@@ -73,8 +78,8 @@ export class AnalysisCache {
    */
   add(path, state, info) {
     if (state?.isSettled) {
-      const key = JSON.stringify(absolute(path));
-      const rest = [this.#version, key, state.size, state.changed, info].join("\t");
+      const key = absolute(path);
+      const rest = [this.#version, JSON.stringify(key), state.size, state.changed, info].join("\t");
       this.#added.set(key, `${hashOf(rest)}\t${rest}`);
     }
   }
@@ -92,9 +97,8 @@ export class AnalysisCache {
     }
     const unlock = await lock(`${this.#path}.lock`);
     try {
-      const others = [...this.#read()].filter(([key, line]) => {
-        const path = jsonOf(key);
-        return !this.#added.has(key) && isWhole(line) && typeof path === "string" && stateOf(path);
+      const others = [...this.#read()].filter(([path, line]) => {
+        return !this.#added.has(path) && isWhole(line) && stateOf(path);
       });
       const kept = [...others, ...this.#added];
       await replaceFile(this.#path, kept.map(([, line]) => `${line}\n`).join(""));
@@ -103,13 +107,18 @@ export class AnalysisCache {
     }
   }
 
-  /** @returns {Map<string, string>} the lines of this version by the JSON of their paths */
+  /** @returns {Map<string, Buffer>} the lines of this version by their paths */
   #read() {
     const found = new Map();
-    for (const line of linesOf(this.#path)) {
-      const [, version, key] = line.split("\t", 3);
-      if (version === this.#version && !found.has(key)) {
-        found.set(key, line);
+    const bytes = bytesOf(this.#path);
+    for (let from = 0, end = 0; from < bytes.length; from = end + 1) {
+      const next = bytes.indexOf(LINE_FEED, from);
+      end = next < 0 ? bytes.length : next;
+      const version = bytes.toString("latin1", from + VERSION_AT, from + KEY_AT);
+      const keyEnd = version === `${this.#version}\t` ? bytes.indexOf(TAB, from + KEY_AT) : -1;
+      const path = keyEnd < 0 ? undefined : jsonOf(bytes.toString("utf8", from + KEY_AT, keyEnd));
+      if (typeof path === "string" && !found.has(path)) {
+        found.set(path, bytes.subarray(from, end));
       }
     }
     return found;
@@ -118,20 +127,19 @@ export class AnalysisCache {
 
 /**
  * Whether a line has its checksum.
- * @param {string} line
+ * @param {Buffer} line
  */
 function isWhole(line) {
-  const end = line.indexOf("\t");
-  return line.slice(0, end) === hashOf(line.slice(end + 1));
+  return line.toString("latin1", 0, VERSION_AT) === `${hashOf(line.subarray(VERSION_AT))}\t`;
 }
 
-/** @param {string} path @returns {string[]} none where there is no such file */
-function linesOf(path) {
+/** @param {string} path @returns {Buffer} empty where there is no such file */
+function bytesOf(path) {
   try {
-    return readFileSync(path, "utf8").split("\n");
+    return readFileSync(path);
   } catch (/** @type {any} */ error) {
     if (error.code === "ENOENT") {
-      return [];
+      return Buffer.alloc(0);
     }
     throw error;
   }

@@ -1,7 +1,7 @@
 /** Which files are left out: those that globs match, and those that git ignores. */
 
 import { execFile } from "node:child_process";
-import { dirname, join, relative, sep } from "node:path";
+import { dirname, join, relative, resolve as absolute, sep } from "node:path";
 import { promisify } from "node:util";
 
 import { foldersOf } from "./find_files.mjs";
@@ -11,8 +11,7 @@ import { globMatcher } from "./globs.mjs";
 export class GitFault extends Error {}
 
 /**
- * @typedef {(path: string) => boolean} IsOut takes an absolute path: whether the path, or a folder around it, is
- *   left out
+ * @typedef {(path: string) => boolean} IsOut whether a path, or a folder around it, is left out
  *
  * @typedef {object} Exclusions
  * @property {IsOut} isExcluded whether a file isn't listed
@@ -68,7 +67,7 @@ function withFolders(isNamed, isAny) {
     }
     return found;
   };
-  return isAny ? isOut : () => false;
+  return isAny ? (path) => isOut(absolute(path)) : () => false;
 }
 
 /**

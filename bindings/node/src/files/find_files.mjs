@@ -1,7 +1,7 @@
 /** Finds the files that paths name. */
 
 import { readdirSync, statSync } from "node:fs";
-import { dirname, join, resolve as absolute, sep } from "node:path";
+import { dirname, join, sep } from "node:path";
 
 import { isModule } from "../graph/file_kinds.mjs";
 import { FileFault } from "../runtime/faults.mjs";
@@ -24,9 +24,9 @@ import { realPath } from "./urls.mjs";
  * @property {boolean} [follow] whether to follow links to files that are below no root
  * @property {string[]} [roots] paths, besides the folder itself, below which a link may lead
  * @property {(path: string) => boolean} [isExcluded] whether a file or folder is left out that a
- *   folder has; takes an absolute path
+ *   folder has
  * @property {(path: string) => boolean} [isKept] whether a file or folder that is left out is taken
- *   all the same, with `isExcluded`; takes an absolute path
+ *   all the same, with `isExcluded`
  * @property {boolean} [pages] whether to take pages and components too
  */
 
@@ -55,7 +55,9 @@ export async function* findFiles(paths, options) {
   for await (const path of paths) {
     const status = statusOf(path);
     if (status?.isDirectory()) {
-      yield* filesBelow(path, options, [...realPaths([path]), ...roots]);
+      for (const found of filesBelow(path, options, [...realPaths([path]), ...roots])) {
+        yield found;
+      }
     } else if (status || isThere(path)) {
       yield { path };
     } else {
@@ -88,9 +90,9 @@ export async function* readPaths(input, separator) {
  * @param {string} folder
  * @param {Options} options
  * @param {string[]} roots their real paths
- * @returns {AsyncGenerator<Found, void>}
+ * @returns {Generator<Found, void>}
  */
-async function* filesBelow(folder, options, roots) {
+function* filesBelow(folder, options, roots) {
   /** @type {(Found & { isFolder: boolean })[]} */
   const todo = [{ path: folder, isFolder: true }];
   for (let next = todo.pop(); next; next = todo.pop()) {
@@ -121,8 +123,8 @@ function entriesOf(folder, options, roots) {
   const taken = [];
   for (const entry of entries) {
     const path = join(folder, entry.name);
-    const isOut = isExcluded(absolute(path));
-    if (isOut && !isKept(absolute(path))) {
+    const isOut = isExcluded(path);
+    if (isOut && !isKept(path)) {
       continue;
     }
     if (entry.isDirectory()) {

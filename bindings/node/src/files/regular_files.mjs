@@ -50,6 +50,8 @@ export class RegularFiles {
   #entries = new Map();
   /** @type {Set<string>} */
   #roots = new Set();
+  /** @type {Map<string, boolean>} Whether a folder is a root, or is in one. */
+  #inside = new Map();
   #hasAll = false;
   /** How many links are being followed, each on the way of the one before, and whether these are too many. */
   #following = 0;
@@ -71,7 +73,7 @@ export class RegularFiles {
     if (root === "" || this.#roots.has(root)) {
       return;
     }
-    this.#roots.add(root);
+    this.#addRoot(root);
     for (let folder = root; folder !== "/";) {
       folder = dirname(folder);
       this.#above.add(folder);
@@ -86,8 +88,14 @@ export class RegularFiles {
   addFolder(path) {
     const { kind, path: root } = this.at(path);
     if (kind === "folder") {
-      this.#roots.add(root);
+      this.#addRoot(root);
     }
+  }
+
+  /** @param {string} root a path without links */
+  #addRoot(root) {
+    this.#roots.add(root);
+    this.#inside.clear();
   }
 
   /**
@@ -120,6 +128,16 @@ export class RegularFiles {
     return entry;
   }
 
+  /**
+   * Looks at what is in a folder under a name.
+   * @param {string} folder absolute and normal
+   * @param {string} name
+   * @returns {Entry}
+   */
+  in(folder, name) {
+    return this.at(folder === "/" ? `/${name}` : `${folder}/${name}`);
+  }
+
   /** Takes all that no link leads to for inside. */
   addAllWithoutLinks() {
     this.#hasAll = true;
@@ -131,17 +149,17 @@ export class RegularFiles {
    * @returns {boolean}
    */
   isOutside({ path, links }) {
-    if (this.#hasAll && links === 0) {
-      return false;
+    return !((this.#hasAll && links === 0) || this.#roots.has(path) || this.#isInside(dirname(path)));
+  }
+
+  /** @param {string} folder @returns {boolean} */
+  #isInside(folder) {
+    let isInside = this.#inside.get(folder);
+    if (isInside === undefined) {
+      isInside = this.#roots.has(folder) || (folder !== "/" && this.#isInside(dirname(folder)));
+      this.#inside.set(folder, isInside);
     }
-    for (let folder = path; ; folder = dirname(folder)) {
-      if (this.#roots.has(folder)) {
-        return false;
-      }
-      if (folder === "/") {
-        return true;
-      }
-    }
+    return isInside;
   }
 
   /**
@@ -196,10 +214,17 @@ export class RegularFiles {
     if (this.#entries.size > MAX_ENTRIES) {
       this.#entries.clear();
     }
+    const real = parent.links === 0 ? path
+      : (parent.path === "/" ? "" : parent.path) + path.slice(path.lastIndexOf("/"));
+    const status = real === path ? this.#statusOf(path) : undefined;
+    if (real === path && !status?.isSymbolicLink()) {
+      const entry = status ? { kind: kindOf(status), path, links: 0 } : NONE;
+      this.#entries.set(path, entry);
+      return entry;
+    }
     // A link that leads to itself leads to nothing.
     this.#entries.set(path, NONE);
-    const real = (parent.path === "/" ? "" : parent.path) + path.slice(path.lastIndexOf("/"));
-    const entry = real === path ? this.#lookHere(path) : behind(parent.links, this.at(real));
+    const entry = real === path ? this.#lookBehind(path) : behind(parent.links, this.at(real));
     if (this.#isTooFar && this.#following > 0) {
       // It may be there for another path, with fewer links before it.
       this.#entries.delete(path);
@@ -211,17 +236,10 @@ export class RegularFiles {
   }
 
   /**
-   * @param {string} path in a folder whose path has no links
+   * @param {string} path of a link, in a folder whose path has none
    * @returns {Entry}
    */
-  #lookHere(path) {
-    const status = this.#statusOf(path);
-    if (!status) {
-      return NONE;
-    }
-    if (!status.isSymbolicLink()) {
-      return { kind: kindOf(status), path, links: 0 };
-    }
+  #lookBehind(path) {
     if (this.#following === MAX_LINKS) {
       this.#isTooFar = true;
       return NONE;

@@ -3,6 +3,25 @@
 import { realpathSync } from "node:fs";
 import { pathToFileURL } from "node:url";
 
+/** A path of which each character stands for itself in a URL. */
+const PLAIN = /^[\w./@+~-]*$/;
+
+/** @type {Map<string, string>} */
+const urls = new Map();
+
+/**
+ * @param {string} path absolute and normal
+ * @returns {string} the URL of its file
+ */
+export function urlOfPath(path) {
+  let url = urls.get(path);
+  if (url === undefined) {
+    url = PLAIN.test(path) ? `file://${path}` : pathToFileURL(path).href;
+    urls.set(path, url);
+  }
+  return url;
+}
+
 /**
  * @param {string} text
  * @param {URL} [base]

@@ -45,7 +45,7 @@ export class Configurations {
   #fixed;
   /** @type {Map<string, Configuration | undefined>} */
   #byFolder = new Map();
-  /** @type {Map<string, Configuration | undefined>} */
+  /** @type {Map<string, Configuration>} Of files for which there are several. */
   #byFile = new Map();
   /** @type {Map<string, Configuration>} */
   #byPath = new Map();
@@ -70,10 +70,16 @@ export class Configurations {
    * @returns {Configuration | undefined} nothing for the file of an installed package
    */
   of(file) {
-    if (!this.#byFile.has(file)) {
-      this.#byFile.set(file, this.#find(file));
+    const nearest = file.includes(MODULES) ? undefined : this.#nearestOrFixed(dirname(file));
+    if (!nearest || nearest.references.length === 0) {
+      return nearest;
     }
-    return this.#byFile.get(file);
+    let found = this.#byFile.get(file);
+    if (!found) {
+      found = this.#withReferences(nearest).find((each) => includes(each, file)) ?? nearest;
+      this.#byFile.set(file, found);
+    }
+    return found;
   }
 
   /**
@@ -82,7 +88,7 @@ export class Configurations {
    * @returns {Configuration[]}
    */
   allOf(folder) {
-    const nearest = this.#fixed === undefined ? this.#nearest(folder) : this.#read(this.#fixed);
+    const nearest = this.#nearestOrFixed(folder);
     return nearest ? this.#withReferences(nearest) : [];
   }
 
@@ -94,23 +100,18 @@ export class Configurations {
     return this.#notices.splice(0);
   }
 
-  /** @param {string} file */
-  #find(file) {
-    if (file.includes(MODULES)) {
-      return undefined;
-    }
-    const [nearest, ...others] = this.allOf(dirname(file));
-    const including = others.length > 0 ? [nearest, ...others].find((each) => includes(each, file)) : undefined;
-    return including ?? nearest;
+  /** @param {string} folder @returns {Configuration | undefined} */
+  #nearestOrFixed(folder) {
+    return this.#fixed === undefined ? this.#nearest(folder) : this.#read(this.#fixed);
   }
 
   /** @param {string} folder @returns {Configuration | undefined} */
   #nearest(folder) {
     if (!this.#byFolder.has(folder)) {
-      const path = NAMES.map((name) => join(folder, name)).find((each) => this.#isThere(each));
+      const name = NAMES.find((each) => isThere(this.#files.in(folder, each)));
       const parent = dirname(folder);
       const above = () => (parent === folder ? undefined : this.#nearest(parent));
-      this.#byFolder.set(folder, path ? this.#read(path) : above());
+      this.#byFolder.set(folder, name ? this.#read(join(folder, name)) : above());
     }
     return this.#byFolder.get(folder);
   }
@@ -130,8 +131,7 @@ export class Configurations {
 
   /** @param {string} path */
   #isThere(path) {
-    const { kind } = this.#files.at(path);
-    return kind === "file" || kind === "other";
+    return isThere(this.#files.at(path));
   }
 
   /** @param {string} path @returns {Configuration} */
@@ -326,6 +326,11 @@ class Members {
 function textsOf(value) {
   const list = [value].flat();
   return list.every((each) => typeof each === "string") ? /** @type {string[]} */ (list) : undefined;
+}
+
+/** @param {import("../files/regular_files.mjs").Entry} entry */
+function isThere({ kind }) {
+  return kind === "file" || kind === "other";
 }
 
 /**

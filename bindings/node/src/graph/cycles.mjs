@@ -24,11 +24,12 @@ import { isRunKind } from "./references.mjs";
  * @returns {Cycle[]} by their first modules, those that run before others
  */
 export function cyclesOf(count, edges) {
-  const runs = successors(count, edges.filter(({ kind }) => isRunKind(kind)));
-  const next = successors(count, edges);
+  const running = edges.filter(({ kind }) => isRunKind(kind));
+  const runs = successors(count, running);
+  const next = running.length === edges.length ? runs : successors(count, edges);
   const run = components(runs);
   const group = groupsOf(count, run);
-  const others = components(next).filter(([first, ...rest]) => {
+  const others = next === runs ? [] : components(next).filter(([first, ...rest]) => {
     return group[first] < 0 || rest.some((each) => group[each] !== group[first]);
   });
   return [
@@ -55,9 +56,10 @@ function groupsOf(count, found) {
  * @returns {number[][]}
  */
 function successors(count, edges) {
-  const next = Array.from({ length: count }, () => new Set());
-  edges.forEach(({ from, to }) => next[from].add(to));
-  return next.map((each) => [...each]);
+  /** @type {number[][]} */
+  const next = Array.from({ length: count }, () => []);
+  edges.forEach(({ from, to }) => next[from].push(to));
+  return next.map((each) => (each.length > 1 ? [...new Set(each)] : each));
 }
 
 /**
@@ -76,11 +78,13 @@ class Search {
   /** @type {number[][]} The components. */
   found = [];
   #next;
-  #order = new Map();
-  #low = new Map();
+  #count = 0;
+  /** When each node was entered, counted from one; zero for a node that wasn't. */
+  #order;
+  #low;
   /** @type {number[]} Nodes whose component isn't known yet. */
   #open = [];
-  #isOpen = new Set();
+  #isOpen;
   /**
    * From the root to the node that is looked at, with how many of its edges were.
    * @type {{ node: number, at: number }[]}
@@ -90,11 +94,14 @@ class Search {
   /** @param {number[][]} next */
   constructor(next) {
     this.#next = next;
+    this.#order = new Int32Array(next.length);
+    this.#low = new Int32Array(next.length);
+    this.#isOpen = new Uint8Array(next.length);
   }
 
   /** @param {number} root */
   from(root) {
-    if (!this.#order.has(root)) {
+    if (this.#order[root] === 0) {
       this.#enter(root);
     }
     while (this.#path.length > 0) {
@@ -102,20 +109,21 @@ class Search {
       const to = this.#next[top.node][top.at++];
       if (to === undefined) {
         this.#leave();
-      } else if (!this.#order.has(to)) {
+      } else if (this.#order[to] === 0) {
         this.#enter(to);
-      } else if (this.#isOpen.has(to)) {
-        this.#lower(top.node, this.#order.get(to));
+      } else if (this.#isOpen[to]) {
+        this.#lower(top.node, this.#order[to]);
       }
     }
   }
 
   /** @param {number} node */
   #enter(node) {
-    this.#low.set(node, this.#order.size);
-    this.#order.set(node, this.#order.size);
+    this.#count++;
+    this.#low[node] = this.#count;
+    this.#order[node] = this.#count;
     this.#open.push(node);
-    this.#isOpen.add(node);
+    this.#isOpen[node] = 1;
     this.#path.push({ node, at: 0 });
   }
 
@@ -123,11 +131,11 @@ class Search {
     const { node } = /** @type {{ node: number }} */ (this.#path.pop());
     const parent = this.#path[this.#path.length - 1];
     if (parent) {
-      this.#lower(parent.node, this.#low.get(node));
+      this.#lower(parent.node, this.#low[node]);
     }
-    if (this.#low.get(node) === this.#order.get(node)) {
+    if (this.#low[node] === this.#order[node]) {
       const component = this.#open.splice(this.#open.lastIndexOf(node));
-      component.forEach((each) => this.#isOpen.delete(each));
+      component.forEach((each) => (this.#isOpen[each] = 0));
       this.found.push(component.sort((one, other) => one - other));
     }
   }
@@ -137,7 +145,7 @@ class Search {
    * @param {number} order
    */
   #lower(node, order) {
-    this.#low.set(node, Math.min(this.#low.get(node), order));
+    this.#low[node] = Math.min(this.#low[node], order);
   }
 }
 

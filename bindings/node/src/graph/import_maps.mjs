@@ -87,7 +87,7 @@ export class ImportMaps {
   /** @param {string} folder @returns {ImportMap | undefined} */
   #nearest(folder) {
     if (!this.#byFolder.has(folder)) {
-      const path = NAMES.map((name) => join(folder, name)).find((each) => this.#isThere(each));
+      const path = this.#ownOf(folder);
       const parent = dirname(folder);
       const above = parent === folder ? undefined : this.#nearest(parent);
       this.#byFolder.set(folder, path ? this.#withAbove(this.#mapAt(path), above) : above);
@@ -109,10 +109,13 @@ export class ImportMaps {
     };
   }
 
-  /** @param {string} path */
-  #isThere(path) {
-    const { kind } = this.#files.at(path);
-    return kind === "file" || kind === "other";
+  /** @param {string} folder @returns {string | undefined} the path of a deno.json in it */
+  #ownOf(folder) {
+    const name = NAMES.find((each) => {
+      const { kind } = this.#files.in(folder, each);
+      return kind === "file" || kind === "other";
+    });
+    return name && join(folder, name);
   }
 
   /**
@@ -138,7 +141,7 @@ export class ImportMaps {
    * @param {string} folder
    */
   #addMember(map, folder) {
-    const path = NAMES.map((name) => join(folder, name)).find((each) => this.#isThere(each));
+    const path = this.#ownOf(folder);
     const { name, exports } = path ? this.#membersOf(path) : { name: undefined, exports: undefined };
     if (typeof name !== "string") {
       return;

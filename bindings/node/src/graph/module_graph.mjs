@@ -169,10 +169,15 @@ export class ModuleGraph {
   cycles() {
     const keys = this.listed.map(({ specifier }) => specifier);
     const indexes = new Map(keys.map((key, index) => [key, index]));
-    const edges = this.edges().flatMap(({ from, to, kind }) => {
-      const [start, end] = [indexes.get(from), indexes.get(to)];
-      return start === undefined || end === undefined ? [] : [{ from: start, to: end, kind }];
-    });
+    const edges = [];
+    for (const [index, key] of keys.entries()) {
+      for (const { to, kind } of this.edgesFrom(key)) {
+        const end = indexes.get(to);
+        if (end !== undefined) {
+          edges.push({ from: index, to: end, kind });
+        }
+      }
+    }
     const found = cyclesOf(keys.length, edges);
     const named = (/** @type {boolean} */ isRunning) => found.filter(({ isRun }) => isRun === isRunning)
       .map(({ modules, path }) => ({

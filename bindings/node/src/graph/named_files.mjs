@@ -35,7 +35,7 @@ export class NamedFiles {
         continue;
       }
       if (!file.error && !file.isLeft && !file.isExcluded) {
-        this.keys.push(canonicalUrl(absolute(file.path), file.real));
+        this.keys.push(canonicalUrl(file.path, file.real));
       }
       yield file;
     }

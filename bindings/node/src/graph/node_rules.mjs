@@ -25,7 +25,7 @@
  */
 
 import { isBuiltin } from "node:module";
-import { basename, dirname, join, resolve as absolute } from "node:path";
+import { dirname, join, resolve as absolute } from "node:path";
 import { fileURLToPath, pathToFileURL } from "node:url";
 
 import { urlFrom, urlOfFolder } from "../files/urls.mjs";
@@ -34,9 +34,13 @@ import { exportsTarget, importsTarget } from "./package_targets.mjs";
 /** What a `require` adds to a name. */
 const ENDINGS = [".js", ".json", ".node"];
 const INDEXES = ENDINGS.map((ending) => `/index${ending}`);
+const OF_FILE = ["", ...ENDINGS];
+const OF_MAIN = [...OF_FILE, ...INDEXES];
 
 /** What an import takes for a path. */
 const PATH = /^(?:\/|\.\.?(?:\/|$))/;
+/** A relative path that is the same as a URL. */
+const PLAIN_PATH = /^(?:\.{1,2}\/)+(?:[\w@+~-][\w.@+~-]*\/)*[\w@+~-][\w.@+~-]*$/;
 /** What a `require` looks for in the importer's folder. */
 const BESIDE = /^\.(?:[./]|$)/;
 /** The names for which a `require` never takes a file. */
@@ -49,10 +53,6 @@ const NO_PACKAGE = /^\.|[%\\?#]/;
 const REQUIRED = /^((?:@[^/\\%]+\/)?[^./\\%][^/\\%]*)(\/.*)?$/s;
 
 const ENCODED_SEPARATOR = /%2f|%5c/i;
-const MANIFEST = "/package.json";
-
-/** How many look-ups of packages are kept. */
-const MAX_PACKAGES = 100_000;
 
 /** @type {Missing} */
 const NONE = { kind: "none" };
@@ -60,28 +60,20 @@ const NONE = { kind: "none" };
 export class NodeRules {
   #files;
   #manifests;
+  #packages;
   #conditions;
-  #globalFolders;
-  /**
-   * Folders of packages, by the folder and the name that they are looked for.
-   * @type {Map<string, string | undefined>}
-   */
-  #packages = new Map();
-  /** @type {Map<string, string[]>} */
-  #modules = new Map();
 
   /**
    * @param {import("../files/regular_files.mjs").RegularFiles} files
    * @param {import("./package_manifests.mjs").PackageManifests} manifests
-   * @param {object} options
-   * @param {Record<Mode, ReadonlySet<string>>} options.conditions
-   * @param {string[]} options.globalFolders those in which a `require` looks last
+   * @param {import("./package_folders.mjs").PackageFolders} packages
+   * @param {Record<Mode, ReadonlySet<string>>} conditions
    */
-  constructor(files, manifests, { conditions, globalFolders }) {
+  constructor(files, manifests, packages, conditions) {
     this.#files = files;
     this.#manifests = manifests;
+    this.#packages = packages;
     this.#conditions = conditions;
-    this.#globalFolders = globalFolders;
   }
 
   /**
@@ -92,6 +84,9 @@ export class NodeRules {
    */
   import(specifier, importer) {
     const folder = dirname(importer);
+    if (PLAIN_PATH.test(specifier) && !folder.includes("\\")) {
+      return this.#file(join(folder, specifier));
+    }
     if (PATH.test(specifier)) {
       const url = urlFrom(specifier, pathToFileURL(importer));
       return url ? this.#atUrl(url) : NONE;
@@ -128,31 +123,6 @@ export class NodeRules {
       return this.#fileOrFolder(absolute(folder, specifier), FOLDER.test(specifier));
     }
     return this.#inModules(specifier, folder);
-  }
-
-  /**
-   * @param {string} name of a package
-   * @param {string} importer the path of a file, without links
-   * @returns {string | undefined} the package's folder, by the rules of a `require`
-   */
-  packageFolder(name, importer) {
-    return this.#modulesFrom(dirname(importer)).map((each) => absolute(each, name))
-      .find((each) => this.#files.at(each).kind === "folder");
-  }
-
-  /**
-   * The folders of packages in which a `require` looks, of those that are there.
-   * @param {string} folder
-   * @returns {string[]}
-   */
-  #modulesFrom(folder) {
-    let modules = this.#modules.get(folder);
-    if (!modules) {
-      const all = [...modulesAbove(folder), ...this.#globalFolders];
-      modules = all.filter((each) => this.#files.at(each).kind === "folder");
-      this.#modules.set(folder, modules);
-    }
-    return modules;
   }
 
   /**
@@ -249,7 +219,7 @@ export class NodeRules {
     if (scope && isSet(scope.exports) && scope.name === name) {
       return this.#byExports(`.${rest}`, scope, mode);
     }
-    const own = this.#nearestPackage(name, folder);
+    const own = this.#packages.nearest(name, folder);
     return own === undefined ? NONE : this.ofPackage(own, rest, mode);
   }
 
@@ -275,50 +245,13 @@ export class NodeRules {
   }
 
   /**
-   * The nearest folder of a package.
-   * @param {string} name
-   * @param {string} folder the importer's
-   * @returns {string | undefined} its path, with links
-   */
-  #nearestPackage(name, folder) {
-    const key = `${folder}/\0${name}`;
-    if (!this.#packages.has(key)) {
-      if (this.#packages.size > MAX_PACKAGES) {
-        this.#packages.clear();
-      }
-      this.#packages.set(key, this.#findPackage(name, folder));
-    }
-    return this.#packages.get(key);
-  }
-
-  /**
-   * @param {string} name
-   * @param {string} folder
-   * @returns {string | undefined}
-   */
-  #findPackage(name, folder) {
-    const up = name.startsWith("@") ? "../../../../" : "../../../";
-    let url = new URL(`./node_modules/${name}${MANIFEST}`, urlOfFolder(folder));
-    for (let path = fileURLToPath(url), last = ""; path.length !== last.length;) {
-      const own = absolute(path.slice(0, -MANIFEST.length));
-      if (this.#files.at(own).kind === "folder") {
-        return own;
-      }
-      last = path;
-      url = new URL(`${up}node_modules/${name}${MANIFEST}`, url);
-      path = fileURLToPath(url);
-    }
-    return undefined;
-  }
-
-  /**
    * The main module of a package without `exports`, for an import.
    * @param {URL} base the package's folder
    * @param {string | undefined} main
    * @returns {Found}
    */
   #main(base, main) {
-    const named = main === undefined ? [] : ["", ...ENDINGS, ...INDEXES].map((ending) => [`./${main}`, ending]);
+    const named = main === undefined ? [] : OF_MAIN.map((ending) => [`./${main}`, ending]);
     for (const [path, ending] of [...named, ...INDEXES.map((index) => [".", index])]) {
       const beginning = pathOf(new URL(path, base));
       if (beginning === undefined) {
@@ -341,7 +274,7 @@ export class NodeRules {
   #inModules(specifier, folder) {
     /** @type {Missing} */
     let missing = NONE;
-    for (const modules of this.#modulesFrom(folder)) {
+    for (const modules of this.#packages.ofRequire(folder)) {
       const found = this.#inFolder(modules, specifier);
       if (found.kind !== "none" || found.isFinal) {
         return found;
@@ -380,7 +313,7 @@ export class NodeRules {
    * @returns {Found}
    */
   #fileOrFolder(path, isFolder) {
-    const found = isFolder ? NONE : this.#firstFile(path, ["", ...ENDINGS]);
+    const found = isFolder ? NONE : this.#firstFile(path, OF_FILE);
     return found.kind === "none" && this.#files.at(path).kind === "folder" ? this.#asFolder(path) : found;
   }
 
@@ -388,7 +321,7 @@ export class NodeRules {
   #asFolder(folder) {
     const main = this.#manifests.of(folder)?.main;
     const path = main ? absolute(folder, main) : undefined;
-    const found = path === undefined ? NONE : this.#firstFile(path, ["", ...ENDINGS, ...INDEXES]);
+    const found = path === undefined ? NONE : this.#firstFile(path, OF_MAIN);
     const other = found.kind === "none" ? this.#firstFile(folder, INDEXES) : found;
     return other.kind === "none" && path !== undefined ? { kind: "none", wanted: path, isFinal: true } : other;
   }
@@ -417,13 +350,6 @@ export class NodeRules {
 export function packageName(specifier) {
   const [, name = "", rest = ""] = PACKAGE.exec(specifier) ?? [];
   return name === "" || NO_PACKAGE.test(name) ? undefined : { name, rest };
-}
-
-/** @param {string} folder @returns {string[]} each `node_modules` that may be above a folder */
-function modulesAbove(folder) {
-  const parent = dirname(folder);
-  const own = basename(folder) === "node_modules" ? [] : [join(folder, "node_modules")];
-  return parent === folder ? own : [...own, ...modulesAbove(parent)];
 }
 
 /**

@@ -18,6 +18,7 @@ import { isObject } from "./package_targets.mjs";
  * @property {Record<string, unknown>} members all of them
  */
 
+const MANIFEST = "package.json";
 const MAX_NOTICES = 10;
 
 /** @type {Map<string, Format>} */
@@ -52,9 +53,8 @@ export class PackageManifests {
   of(folder) {
     let manifest = this.#byFolder.get(folder);
     if (manifest === undefined && !this.#byFolder.has(folder)) {
-      const path = join(folder, "package.json");
-      const { kind } = this.#files.at(path);
-      manifest = kind === "none" || kind === "folder" ? undefined : this.#read(folder, path);
+      const { kind } = this.#files.in(folder, MANIFEST);
+      manifest = kind === "none" || kind === "folder" ? undefined : this.#read(folder, join(folder, MANIFEST));
       this.#byFolder.set(folder, manifest);
     }
     return manifest;

@@ -1,7 +1,5 @@
 /** Reads what paths name, and what entries lead to, into a graph: for the commands and for the service. */
 
-import { resolve as absolute } from "node:path";
-
 import { exclusionsOf } from "../files/exclusions.mjs";
 import { findFiles } from "../files/find_files.mjs";
 import { entryPoints } from "./entry_points.mjs";
@@ -50,8 +48,8 @@ export async function readProject(task) {
   const named = new NamedFiles(findFiles(paths, search), findFiles(files, {}));
   const graph = await readGraph(named, {
     ...task, resolver, isExcluded, isIgnored, follow: files.length > 0,
-    onRead: async (result) => onRead(result, isExcluded(absolute(result.path))),
+    onRead: async (result) => onRead(result, isExcluded(result.path)),
   });
-  const entries = files.map((path) => canonicalUrl(absolute(path)));
+  const entries = files.map((path) => canonicalUrl(path));
   return { graph, named: named.keys, pages: named.pages, entries, absent, isIgnored, find, program };
 }

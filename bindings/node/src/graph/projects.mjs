@@ -1,6 +1,6 @@
 /** Which folder the project of a file is. */
 
-import { dirname, join } from "node:path";
+import { dirname } from "node:path";
 
 /** What the folder of a project may have; that of a repository is never passed. */
 const MARKS = ["package.json", "deno.json", "deno.jsonc", "tsconfig.json", "jsconfig.json", "pnpm-workspace.yaml"];
@@ -41,7 +41,7 @@ export function projectOf(folder, files, known) {
  */
 function withFolder(folder, above, files) {
   const has = (/** @type {string[]} */ names) => {
-    return names.some((name) => files.at(join(folder, name)).kind !== "none");
+    return names.some((name) => files.in(folder, name).kind !== "none");
   };
   if (has(REPOSITORY)) {
     return { project: folder, isWhole: true, isRepository: true };

@@ -1,12 +1,12 @@
 /** Which files some entries reach, by `modinfo reach`. */
 
 import { spawn } from "node:child_process";
+import { resolve as absolute } from "node:path";
 import { Readable } from "node:stream";
 import { pipeline } from "node:stream/promises";
 import { text } from "node:stream/consumers";
-import { pathToFileURL } from "node:url";
 
-import { realPath } from "../files/urls.mjs";
+import { realPath, urlOfPath } from "../files/urls.mjs";
 
 /** The key of a module that names the entries; no file has it. */
 const ROOT = "";
@@ -16,15 +16,19 @@ const canonical = new Map();
 
 /**
  * The URL of a file without symbolic links in it.
- * @param {string} path absolute
+ * @param {string} path
  * @param {string} [real] the path without links, where it is known
  * @returns {string}
  */
 export function canonicalUrl(path, real) {
-  let url = canonical.get(path);
+  if (real !== undefined) {
+    return urlOfPath(real);
+  }
+  const own = absolute(path);
+  let url = canonical.get(own);
   if (url === undefined) {
-    url = pathToFileURL(real ?? realPath(path) ?? path).href;
-    canonical.set(path, url);
+    url = urlOfPath(realPath(own) ?? own);
+    canonical.set(own, url);
   }
   return url;
 }

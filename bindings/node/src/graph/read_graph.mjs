@@ -51,7 +51,7 @@ export async function readGraph(named, options) {
   const walk = new Walk(named);
   for await (const { info: json, value, ...read } of readFiles(options.ahead?.(walk) ?? walk, options)) {
     const info = json && (value ?? JSON.parse(String(json)));
-    const result = info === undefined ? read : { ...read, ...resolved(read.path, info, options.resolver) };
+    const result = info === undefined ? read : { ...read, ...resolved(read, info, options.resolver) };
     await onRead(result);
     if (result.isLeft) {
       walk.pass([]);
@@ -68,16 +68,15 @@ export async function readGraph(named, options) {
 }
 
 /**
- * @param {string} path
+ * @param {Pick<ReadFile, "path" | "real">} read
  * @param {any} info a `ModuleInfo`
  * @param {import("./resolver.mjs").Resolver} resolver
  * @returns {ReadModule}
  */
-function resolved(path, info, resolver) {
-  const file = absolute(path);
-  resolver.resolveInfo(info, file);
-  const references = referencesOf(info, { isDeclaration: isDeclaration(file) });
-  return { info, module: { specifier: canonicalUrl(file), references }, notices: resolver.takeNotices() };
+function resolved({ path, real }, info, resolver) {
+  const file = path === real ? path : absolute(path);
+  const references = referencesOf(resolver.resolveInfo(info, file, real), { isDeclaration: isDeclaration(file) });
+  return { info, module: { specifier: canonicalUrl(file, real), references }, notices: resolver.takeNotices() };
 }
 
 /**
@@ -86,8 +85,8 @@ function resolved(path, info, resolver) {
  * @returns {GraphModule}
  */
 function moduleOf({ path, module, fault }, isExcluded) {
-  const found = module ?? { specifier: canonicalUrl(absolute(path)), references: [], ...(fault && { fault }) };
-  return isExcluded(absolute(path)) ? { ...found, isExcluded: true } : found;
+  const found = module ?? { specifier: canonicalUrl(path), references: [], ...(fault && { fault }) };
+  return isExcluded(path) ? { ...found, isExcluded: true } : found;
 }
 
 /**

@@ -71,32 +71,45 @@ export function kindOf({ type, kind = "import" }) {
 /**
  * All that names a module.
  * @param {any} info a `ModuleInfo`
- * @param {{ isDeclaration?: boolean }} options a declaration file names all for its types alone
  * @returns {Named[]} in the order of the members of a `ModuleInfo`
  */
-export function namedBy(info, { isDeclaration = false } = {}) {
+export function namedBy(info) {
   const { dependencies = [], tsReferences = [], jsdocImports = [] } = info;
-  const all = [
-    ...dependencies.flatMap(namedByDependency),
-    ...tsReferences.map((/** @type {any} */ node) => ofComment(node, "reference", node.type)),
-    ...PRAGMAS.filter(({ member }) => info[member])
-      .map(({ member, kind, syntax }) => ofComment(info[member], kind, syntax)),
-    ...jsdocImports.map((/** @type {any} */ node) => ofComment(node, "jsdoc", "import")),
-  ];
-  return isDeclaration ? all.map(asType) : all;
+  /** @type {Named[]} */
+  const all = [];
+  for (const node of dependencies) {
+    all.push(ofDependency(node));
+    if (node.typesSpecifier) {
+      // The types that the comment before it names.
+      all.push(ofComment(node.typesSpecifier, "type", "import"));
+    }
+  }
+  for (const node of tsReferences) {
+    all.push(ofComment(node, "reference", node.type));
+  }
+  for (const { member, kind, syntax } of PRAGMAS) {
+    if (info[member]) {
+      all.push(ofComment(info[member], kind, syntax));
+    }
+  }
+  for (const node of jsdocImports) {
+    all.push(ofComment(node, "jsdoc", "import"));
+  }
+  return all;
 }
 
 /**
- * The references of a module of which each has its `resolved`.
- * @param {any} info a `ModuleInfo`, as `--resolve` prints it
- * @param {{ isDeclaration?: boolean }} [options]
+ * The references of a module.
+ * @param {Named[]} all of which each has its `resolved`
+ * @param {{ isDeclaration?: boolean }} [options] a declaration file names all for its types alone
  * @returns {Reference[]}
  */
-export function referencesOf(info, options) {
-  return namedBy(info, options).filter(isReference).map((named) => {
-    const { node: { resolved }, kind, specifier, argument, sideEffect, range } = named;
-    const more = { ...(argument && { argument }), ...(sideEffect && { sideEffect }) };
-    return { kind, specifier, ...more, range, resolved };
+export function referencesOf(all, { isDeclaration = false } = {}) {
+  return all.filter(isReference).map(({ node: { resolved }, kind, specifier, argument, sideEffect, range }) => {
+    const own = isDeclaration && isRunKind(kind) ? "type" : kind;
+    return argument || sideEffect
+      ? { kind: own, specifier, ...(argument && { argument }), ...(sideEffect && { sideEffect }), range, resolved }
+      : { kind: own, specifier, range, resolved };
   });
 }
 
@@ -108,9 +121,17 @@ export function referencesOf(info, options) {
  * @returns {Edge[]} each once
  */
 export function edgesOf(from, references) {
-  const edges = new Map();
-  /** @type {(to: string | undefined, kind: ReferenceKind) => unknown} */
-  const add = (to, kind) => to && edges.set(`${kind} ${to}`, { from, to, kind });
+  /** @type {Edge[]} */
+  const edges = [];
+  /** @type {Map<string, ReferenceKind[]>} */
+  const kinds = new Map();
+  const add = (/** @type {string | undefined} */ to, /** @type {ReferenceKind} */ kind) => {
+    const known = to && kinds.get(to);
+    if (to && !known?.includes(kind)) {
+      kinds.set(to, [...known ?? [], kind]);
+      edges.push({ from, to, kind });
+    }
+  };
   for (const { kind, resolved } of references) {
     const { file, types } = /** @type {{ file?: string, types?: string }} */ (resolved);
     if (isRunKind(kind)) {
@@ -120,7 +141,7 @@ export function edgesOf(from, references) {
       add(types ?? file, kind);
     }
   }
-  return [...edges.values()];
+  return edges;
 }
 
 /**
@@ -133,22 +154,23 @@ function isReference({ syntax, node }) {
 
 /**
  * @param {any} node a dependency
- * @returns {Named[]} with the types that the comment before it names
+ * @returns {Named}
  */
-function namedByDependency(node) {
-  const { type, kind = "import", typesSpecifier, importAttributes } = node;
+function ofDependency(node) {
+  const { type, kind = "import", importAttributes } = node;
   const isStatic = type === "static";
   const specifier = isStatic ? node.specifier : textOfArgument(node.argument);
-  const dependency = {
+  const word = BY_WORD.get(kind);
+  return {
     node,
-    ...(BY_WORD.get(kind) ?? { kind: type, syntax: isStatic ? "import" : "dynamic" }),
+    kind: word?.kind ?? type,
+    syntax: word?.syntax ?? (isStatic ? "import" : "dynamic"),
     specifier,
-    ...(specifier === undefined && node.argument && { argument: node.argument }),
-    ...(node.sideEffect && { sideEffect: true }),
+    argument: specifier === undefined ? node.argument : undefined,
+    sideEffect: node.sideEffect ? true : undefined,
     range: isStatic ? node.specifierRange : node.argumentRange,
     mode: modeOf(importAttributes?.known?.["resolution-mode"]),
   };
-  return typesSpecifier ? [dependency, ofComment(typesSpecifier, "type", "import")] : [dependency];
 }
 
 /**
@@ -159,12 +181,8 @@ function namedByDependency(node) {
  */
 function ofComment(node, kind, syntax) {
   const { text: specifier, range, resolutionMode } = node;
-  return { node, kind, specifier, range, syntax, mode: modeOf(resolutionMode) };
-}
-
-/** @param {Named} named @returns {Named} */
-function asType(named) {
-  return isRunKind(named.kind) ? { ...named, kind: "type" } : named;
+  const mode = modeOf(resolutionMode);
+  return { node, kind, syntax, specifier, argument: undefined, sideEffect: undefined, range, mode };
 }
 
 /** @param {unknown} word */

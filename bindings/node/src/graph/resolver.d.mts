@@ -1,6 +1,7 @@
 /** What the names in modules lead to. */
 
 import type { Resolution } from "./graph.cjs";
+import type { Named } from "./references.mjs";
 import type { System } from "../files/regular_files.mjs";
 
 export interface ResolverOptions {
@@ -15,6 +16,8 @@ export interface ResolverOptions {
   conditions?: readonly string[];
   /** Whether TypeScript looks for `types`. It is loaded with the first name. */
   types?: boolean;
+  /** Whether `types` is the declaration file beside what runs, without TypeScript: true, where it is missing. */
+  declarations?: boolean;
   /** The absolute path of a configuration for all files, instead of the nearest one of each. */
   tsconfig?: string;
   /** The folders in which a `require` looks last: those of NODE_PATH and node's own, where it is missing. */
@@ -41,8 +44,11 @@ export interface NameOptions {
 export interface Resolver {
   /** What a name in the module at an absolute path leads to. Never throws for a file or a configuration. */
   resolve(specifier: string, from: string, options?: NameOptions): Resolution;
-  /** Sets the member `resolved` of each object of a `ModuleInfo` that names a module. */
-  resolveInfo(info: object, path: string): void;
+  /**
+   * Sets the member `resolved` of each object of a `ModuleInfo` that names a module, and returns these objects.
+   * `real` is the path without links, where a file is known to be there.
+   */
+  resolveInfo(info: object, path: string, real?: string): Named[];
   /** What was found wrong with package.json and configurations since the last call, each once. */
   takeNotices(): string[];
 }

@@ -11,10 +11,10 @@
  * @typedef {import("./search.mjs").Run} Run
  */
 
-import { dirname, resolve as absolute } from "node:path";
-import { pathToFileURL } from "node:url";
+import { basename, dirname, resolve as absolute } from "node:path";
 
 import { RegularFiles } from "../files/regular_files.mjs";
+import { urlOfPath } from "../files/urls.mjs";
 import { ConfiguredNames } from "./configured_names.mjs";
 import { declarationOf, globalFolders, isAsset, isDeclaration, isInstalled, isTypeScript } from "./file_kinds.mjs";
 import { PackageManifests } from "./package_manifests.mjs";
@@ -29,6 +29,11 @@ const MAX_LENGTH = 4096;
 /** How many names are kept, and the most characters of one. */
 const MAX_KNOWN = 500_000;
 const MAX_KNOWN_LENGTH = 200;
+
+/** A name that leads to the same in all folders between which nothing is that decides about packages. */
+const OF_PACKAGE = /^[@\w][^!]*$/s;
+/** What decides about the packages of a folder, if it is there. */
+const DECIDING = ["package.json", "node_modules", "pnpm-workspace.yaml"];
 
 /** What a package that isn't installed may be called. */
 const PACKAGE_NAME = /^(?:@[^/!]+\/)?[^.@/!][^/!]*$/;
@@ -49,20 +54,22 @@ class Resolver {
   #projects = new Map();
   /** The folders whose project was added. */
   #added = new Set();
-  /** @type {Map<string, Importer>} */
-  #importers = new Map();
+  /** @type {Map<string, string>} */
+  #homes = new Map();
+  #hasDeclarations;
   /** @type {Map<string, Importer["known"]>} By what decides where names lead. */
   #known = new Map();
   #knownCount = 0;
 
   /** @param {ResolverOptions} [options] */
   constructor(options = {}) {
-    const { root = [], conditions = [], types = false, tsconfig, system } = options;
+    const { root = [], conditions = [], types = false, tsconfig, system, declarations = true } = options;
     const globals = (options.globalFolders ?? globalFolders).map((each) => absolute(each));
     this.#files = new RegularFiles(system);
     [root].flat().forEach((each) => this.#files.addProject(absolute(each)));
     globals.forEach((each) => this.#files.addFolder(each));
     this.#hasRoot = root.length > 0;
+    this.#hasDeclarations = declarations;
     this.#manifests = new PackageManifests(this.#files);
     this.#names = new ConfiguredNames(this.#files, this.#manifests, tsconfig);
     this.#search = new Search(this.#files, this.#manifests, this.#names, { conditions, globalFolders: globals });
@@ -85,12 +92,16 @@ class Resolver {
    * Sets the member `resolved` of each object of a `ModuleInfo` that names a module.
    * @param {any} info
    * @param {string} path the module's, absolute
+   * @param {string} [real] the path without links, where a file is known to be there
+   * @returns {Named[]} these objects, and what else is known of each
    */
-  resolveInfo(info, path) {
-    const importer = this.#importer(path, info.script === true);
-    for (const named of namedBy(info)) {
+  resolveInfo(info, path, real) {
+    const all = namedBy(info);
+    const importer = this.#importer(path, info.script === true, real);
+    for (const named of all) {
       named.node.resolved = this.#resolution(named, importer);
     }
+    return all;
   }
 
   /**
@@ -104,20 +115,20 @@ class Resolver {
   /**
    * @param {string} path
    * @param {boolean} isScript
+   * @param {string} [real]
    * @returns {Importer}
    */
-  #importer(path, isScript) {
-    const key = `${isScript} ${path}`;
-    let importer = this.#importers.get(key);
-    if (!importer) {
-      if (!this.#hasRoot) {
-        this.#addProject(dirname(path));
-      }
-      const { kind, path: real } = this.#files.at(absolute(path));
-      importer = this.#importerOf(kind === "file" ? real : absolute(path), isScript);
-      this.#importers.set(key, importer);
+  #importer(path, isScript, real) {
+    if (!this.#hasRoot) {
+      this.#addProject(dirname(path));
     }
-    return importer;
+    return this.#importerOf(real ?? this.#realPath(absolute(path)), isScript);
+  }
+
+  /** @param {string} path @returns {string} the same where no file is there */
+  #realPath(path) {
+    const entry = this.#files.at(path);
+    return entry.kind === "file" ? entry.path : path;
   }
 
   /** @param {string} folder */
@@ -143,10 +154,39 @@ class Resolver {
     const isSource = isTypeScript(path) && !isDeclaration(path) && !isInstalled(path);
     const suffixes = isSource ? this.#names.configurationOf(path)?.options.moduleSuffixes : undefined;
     const format = this.#names.formatOf(path, isSource);
-    const key = [isSource, isScript, format, dirname(path), this.#names.scopeOf(path)].join("\0");
-    const known = this.#known.get(key) ?? new Map();
-    this.#known.set(key, known);
-    return { path, isTypeScript: isSource, isScript, format, suffixes, known };
+    const rules = `${this.#names.scopeOf(path)}\0${isSource} ${isScript} ${format}`;
+    const folder = dirname(path);
+    const known = this.#knownOf(`${folder}\0${rules}`);
+    const home = this.#types ? folder : this.#homeOf(folder);
+    const packages = home === folder ? known : this.#knownOf(`${home}\0${rules}`);
+    return { path, isTypeScript: isSource, isScript, format, suffixes, known, packages };
+  }
+
+  /** @param {string} rules @returns {Importer["known"]} */
+  #knownOf(rules) {
+    let known = this.#known.get(rules);
+    if (!known) {
+      known = new Map();
+      this.#known.set(rules, known);
+    }
+    return known;
+  }
+
+  /**
+   * The nearest folder that decides what the names of packages lead to.
+   * @param {string} folder
+   * @returns {string}
+   */
+  #homeOf(folder) {
+    let home = this.#homes.get(folder);
+    if (home === undefined) {
+      const parent = dirname(folder);
+      const decides = parent === folder || basename(folder) === "node_modules" ||
+        DECIDING.some((name) => this.#files.in(folder, name).kind !== "none");
+      home = decides ? folder : this.#homeOf(parent);
+      this.#homes.set(folder, home);
+    }
+    return home;
   }
 
   /**
@@ -155,20 +195,21 @@ class Resolver {
    * @returns {Resolution}
    */
   #resolution(named, importer) {
-    const { specifier, syntax } = named;
+    const { specifier, syntax, mode } = named;
     if (specifier === undefined) {
       return { class: "unknown" };
     }
     if (specifier === "" || specifier.length > MAX_LENGTH || specifier.includes("\0")) {
       return { class: "missing" };
     }
-    const key = `${syntax} ${named.mode} ${specifier}`;
-    let found = importer.known.get(key);
+    const key = `${syntax} ${mode} ${specifier}`;
+    const known = syntax !== "path" && OF_PACKAGE.test(specifier) ? importer.packages : importer.known;
+    let found = known.get(key);
     if (!found) {
-      found = this.#found({ ...named, specifier }, importer);
+      found = this.#found({ specifier, syntax, mode }, importer);
       if (specifier.length <= MAX_KNOWN_LENGTH && this.#knownCount < MAX_KNOWN) {
         this.#knownCount++;
-        importer.known.set(key, found);
+        known.set(key, found);
       }
     }
     return found;
@@ -198,7 +239,7 @@ class Resolver {
    * @returns {string | undefined} its path
    */
   #typesBeside({ found }) {
-    const path = found.kind === "file" ? declarationOf(found.path) : undefined;
+    const path = this.#hasDeclarations && found.kind === "file" ? declarationOf(found.path) : undefined;
     const beside = path === undefined ? undefined : this.#files.at(path);
     return beside?.kind === "file" && !this.#files.isOutside(beside) ? beside.path : undefined;
   }
@@ -215,8 +256,8 @@ class Resolver {
       return { class: "missing" };
     }
     return this.#files.isOutside(found)
-      ? { class: "outside", target: urlOf(found.path) }
-      : { class: "file", file: urlOf(found.path) };
+      ? { class: "outside", target: urlOfPath(found.path) }
+      : { class: "file", file: urlOfPath(found.path) };
   }
 
   /**
@@ -228,7 +269,7 @@ class Resolver {
    */
   #classified(specifier, importer, { found, by }, types) {
     if (found.kind === "outside") {
-      return { class: "outside", target: urlOf(found.path) };
+      return { class: "outside", target: urlOfPath(found.path) };
     }
     if (found.kind !== "file" && found.kind !== "none") {
       return { class: found.kind };
@@ -259,10 +300,5 @@ class Resolver {
 function filesOf(run, types, by) {
   const file = run === undefined || (isDeclaration(run) && by !== "node") ? undefined : run;
   const other = types ?? (file === undefined ? run : undefined);
-  return { ...(file && { file: urlOf(file) }), ...(other && other !== file && { types: urlOf(other) }) };
-}
-
-/** @param {string} path */
-function urlOf(path) {
-  return pathToFileURL(path).href;
+  return { ...(file && { file: urlOfPath(file) }), ...(other && other !== file && { types: urlOfPath(other) }) };
 }

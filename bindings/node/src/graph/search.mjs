@@ -22,6 +22,7 @@
  * @property {string[]} [suffixes] what names may have before their endings
  * @property {Map<string, import("./graph.cjs").Resolution>} known what names lead to, in all files of the folder
  *   that have the same rules
+ * @property {Map<string, import("./graph.cjs").Resolution>} packages the same for names of packages, in more folders
  */
 
 import { isBuiltin } from "node:module";
@@ -30,6 +31,7 @@ import { dirname, relative, resolve as absolute } from "node:path";
 import { BundlerRules, plainNames } from "./bundler_rules.mjs";
 import { isDeclaration, isTypeScript } from "./file_kinds.mjs";
 import { NodeRules, packageName } from "./node_rules.mjs";
+import { PackageFolders } from "./package_folders.mjs";
 import { Workspaces } from "./workspaces.mjs";
 
 /** The conditions of `exports` and `imports` that node sets, for both modes. */
@@ -56,6 +58,7 @@ export class Search {
   #files;
   #manifests;
   #names;
+  #packages;
   #node;
   /** Node's rules where an import is looked for as a `require`, and where any condition holds. */
   #importAsRequire;
@@ -75,8 +78,9 @@ export class Search {
   constructor(files, manifests, names, { conditions, globalFolders }) {
     const rules = (/** @type {readonly string[]} */ all, /** @type {Mode} */ ofRequire = "require") => {
       const own = { import: new Set([...all, "import"]), require: new Set([...all, ofRequire]) };
-      return new NodeRules(files, manifests, { conditions: own, globalFolders });
+      return new NodeRules(files, manifests, this.#packages, own);
     };
+    this.#packages = new PackageFolders(files, globalFolders);
     this.#files = files;
     this.#manifests = manifests;
     this.#names = names;
@@ -111,7 +115,7 @@ export class Search {
    */
   hasPackage(name, { path }) {
     return name === this.#manifests.scopeOf(dirname(path))?.name ||
-      this.#node.packageFolder(name, path) !== undefined ||
+      this.#packages.required(name, dirname(path)) !== undefined ||
       this.#workspaces.folderOf(name, path) !== undefined;
   }
 
@@ -133,7 +137,7 @@ export class Search {
       return this.#instead(other, importer.path, importer);
     }
     const { name, rest } = packageOf(specifier) ?? {};
-    const folder = name === undefined ? undefined : this.#node.packageFolder(name, importer.path);
+    const folder = name === undefined ? undefined : this.#packages.required(name, dirname(importer.path));
     const own = folder === undefined ? undefined : this.#manifests.of(folder);
     const hasMain = rest === "" && typeof own?.members.browser === "string" && !own.exports;
     return hasMain ? { found: this.#bundler.inPackage(own.folder, "", importer), by: "bundler" } : undefined;
@@ -210,12 +214,15 @@ export class Search {
    */
   #byNodeAndBundlers(named, importer) {
     const { specifier } = named;
-    const modes = nodeModes(named, importer);
-    const results = modes.map((mode) => this.#node[mode](specifier, importer.path));
-    const at = results.findIndex(({ kind }) => kind !== "none");
-    if (at >= 0) {
-      const found = results[at];
-      return { found: found.kind === "url" ? schemeOf(found.url) : found, by: at === 0 ? "node" : "bundler" };
+    /** @type {Found[]} */
+    const results = [];
+    for (const mode of nodeModes(named, importer)) {
+      const found = this.#node[mode](specifier, importer.path);
+      if (found.kind !== "none") {
+        const by = results.length === 0 ? "node" : "bundler";
+        return { found: found.kind === "url" ? schemeOf(found.url) : found, by };
+      }
+      results.push(found);
     }
     for (const name of plainNames(specifier)) {
       const found = PATH.test(name)
@@ -279,7 +286,7 @@ export class Search {
       return NONE;
     }
     const { path } = importer;
-    const workspace = this.#node.packageFolder(name, path) ?? this.#workspaces.folderOf(name, path);
+    const workspace = this.#packages.required(name, dirname(path)) ?? this.#workspaces.folderOf(name, path);
     const found = workspace === undefined ? NONE : this.#anyCondition.ofPackage(workspace, rest, "import");
     if (workspace === undefined || found.kind !== "none" || this.#manifests.of(workspace)?.exports) {
       return found;
@@ -300,7 +307,7 @@ export class Search {
       return NONE;
     }
     const own = `@types/${name.replace(/^@/, "").replace("/", "__")}`;
-    const folder = this.#node.packageFolder(own, importer.path);
+    const folder = this.#packages.required(own, dirname(importer.path));
     return folder === undefined ? NONE : this.#bundler.inPackage(folder, rest, importer);
   }
 

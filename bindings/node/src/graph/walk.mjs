@@ -1,7 +1,5 @@
 /** Which files a graph is made of: those that are named, then those that these lead to. */
 
-import { resolve as absolute } from "node:path";
-
 import { Queue } from "../runtime/queue.mjs";
 import { canonicalUrl } from "./reach.mjs";
 
@@ -28,11 +26,15 @@ export class Walk {
   /** @returns {AsyncGenerator<Found, void>} */
   async *[Symbol.asyncIterator]() {
     for await (const file of this.#named) {
-      yield* this.#first(file);
+      if (this.#isFirst(file)) {
+        yield file;
+      }
     }
     while (this.#found.length > 0 || this.#underWay > 0) {
       for (let path = this.#found.shift(); path !== undefined; path = this.#found.shift()) {
-        yield* this.#first({ path });
+        if (this.#isFirst({ path })) {
+          yield { path };
+        }
       }
       if (this.#underWay > 0) {
         await new Promise((resolve) => {
@@ -52,16 +54,17 @@ export class Walk {
     this.#wake();
   }
 
-  /** @param {Found} file */
-  *#first(file) {
+  /** @param {Found} file that is under way from now on, if it is the first one */
+  #isFirst(file) {
     // A link that isn't followed is reported, and its file may have another path.
-    const key = file.isLeft ? undefined : canonicalUrl(absolute(file.path), file.real);
-    if (!this.#passed.has(key)) {
+    const key = file.isLeft ? undefined : canonicalUrl(file.path, file.real);
+    const isFirst = !this.#passed.has(key);
+    if (isFirst) {
       this.#underWay++;
       if (key !== undefined) {
         this.#passed.add(key);
       }
-      yield file;
     }
+    return isFirst;
   }
 }

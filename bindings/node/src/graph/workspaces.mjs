@@ -61,16 +61,16 @@ export class Workspaces {
     const workspaces = this.#manifests.of(folder)?.members.workspaces;
     const patterns = isObject(workspaces) ? workspaces.packages : workspaces;
     const own = Array.isArray(patterns) ? patterns.filter((each) => typeof each === "string") : [];
-    return own.length > 0 ? own : this.#pnpmPatterns(join(folder, PNPM));
+    return own.length > 0 ? own : this.#pnpmPatterns(folder);
   }
 
-  /** @param {string} path @returns {string[]} */
-  #pnpmPatterns(path) {
-    if (this.#files.at(path).kind !== "file") {
+  /** @param {string} folder @returns {string[]} */
+  #pnpmPatterns(folder) {
+    if (this.#files.in(folder, PNPM).kind !== "file") {
       return [];
     }
     try {
-      const [, list = ""] = PACKAGES.exec(`${this.#files.read(path)}\n`) ?? [];
+      const [, list = ""] = PACKAGES.exec(`${this.#files.read(join(folder, PNPM))}\n`) ?? [];
       return [...list.matchAll(ITEM)].map(([, pattern]) => pattern.trim());
     } catch {
       return [];

@@ -12,6 +12,7 @@
  *
  * @typedef {object} FileResult
  * @property {string} path
+ * @property {string} [real] the path without links in it, where it is known
  * @property {boolean} [isLeft] whether it is a link that isn't followed
  * @property {string | Buffer} [info] the JSON of its `ModuleInfo`; none with a fault
  * @property {object} [value] what was read from it already
@@ -37,37 +38,31 @@ const UNDER_WAY = 256;
  * @param {ReadOptions} options
  * @returns {AsyncGenerator<FileResult, void>}
  */
-export async function* readFiles(files, { program, jobs, cache, signal }) {
+export function readFiles(files, { program, jobs, cache, signal }) {
   const pool = new Pool(filesCommand(program), jobs);
   const end = () => pool.kill();
   signal?.addEventListener("abort", end);
-  try {
-    yield* inOrder(files, jobs * UNDER_WAY, (file) => readFile(file, pool, cache));
-  } finally {
+  return inOrder(files, jobs * UNDER_WAY, (file) => readFile(file, pool, cache), () => {
     signal?.removeEventListener("abort", end);
     end();
-  }
+  });
 }
 
 /**
  * @param {Found} file
  * @param {Pool} pool
  * @param {AnalysisCache} [cache]
- * @returns {Promise<FileResult>}
+ * @returns {Promise<FileResult> | FileResult}
  */
-async function readFile({ path, real, error, isLeft }, pool, cache) {
+function readFile({ path, real, error, isLeft }, pool, cache) {
   if (isLeft) {
     return { path, isLeft };
   }
-  try {
-    if (error || !isModule(path)) {
-      throw error ?? new FileFault("MediaType", "files with this ending are not read");
-    }
-    const { state, info, value } = cache?.find(path) ?? {};
-    return { path, value, info: info ?? await analyzed({ path, real }, state, pool, cache) };
-  } catch (fault) {
-    return { path, fault: faultOf(fault) };
+  if (error || !isModule(path)) {
+    return { path, fault: faultOf(error ?? new FileFault("MediaType", "files with this ending are not read")) };
   }
+  const { state, info, value } = cache?.find(path) ?? {};
+  return info === undefined ? analyzed({ path, real }, state, pool, cache) : { path, real, info, value };
 }
 
 /**
@@ -75,13 +70,18 @@ async function readFile({ path, real, error, isLeft }, pool, cache) {
  * @param {import("../files/analysis_cache.mjs").State | undefined} state before the file is read
  * @param {Pool} pool
  * @param {AnalysisCache} [cache]
- * @returns {Promise<Buffer>}
+ * @returns {Promise<FileResult>}
  */
-async function analyzed({ path, real = realPath(path) ?? path }, state, pool, cache) {
-  if (ENDLESS.test(real)) {
-    throw new FileFault("Input", "a file of the system");
+async function analyzed({ path, real }, state, pool, cache) {
+  try {
+    const own = real ?? realPath(path) ?? path;
+    if (ENDLESS.test(own)) {
+      throw new FileFault("Input", "a file of the system");
+    }
+    const info = await pool.run(`${own}\0`);
+    cache?.add(path, state, info);
+    return { path, real, info };
+  } catch (fault) {
+    return { path, fault: faultOf(fault) };
   }
-  const info = await pool.run(`${real}\0`);
-  cache?.add(path, state, info);
-  return info;
 }

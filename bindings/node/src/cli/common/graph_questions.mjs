@@ -1,7 +1,5 @@
 /** The questions about the graph of files that options ask. */
 
-import { resolve as absolute } from "node:path";
-
 import { dotText, mermaidText } from "../../graph/pictures.mjs";
 import { canonicalUrl } from "../../graph/reach.mjs";
 import { unreachedOf } from "../../graph/unreached.mjs";
@@ -39,7 +37,9 @@ const ANSWERS = { reached, unreached, cycles, missing, why, dependents, dot, mer
  */
 export async function answerQuestion(question, run) {
   const { values, name } = run;
-  const read = await readRun(run, { hasPages: question === "unreached" });
+  const hasPages = question === "unreached";
+  const declarations = values.json || hasPages || question === "why";
+  const read = await readRun(run, { hasPages, declarations });
   const { graph, entries, status } = read;
   if (entries.some((entry) => graph.module(entry)?.fault)) {
     return 2;
@@ -156,5 +156,5 @@ function whole({ graph, entries }) {
 
 /** @param {string} path */
 function keyOf(path) {
-  return canonicalUrl(absolute(path));
+  return canonicalUrl(path);
 }

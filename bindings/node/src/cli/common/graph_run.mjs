@@ -54,18 +54,20 @@ export function resolverOptions({ types = false, tsconfig, conditions }) {
 
 /**
  * @param {Run} run
- * @param {{ hasPages: boolean, onRead?: (result: ReadFile) => void }} options `hasPages`: whether pages and
- *   components are looked for too, and excluded files are read
+ * @param {object} options
+ * @param {boolean} options.hasPages whether pages and components are looked for too, and excluded files are read
+ * @param {boolean} [options.declarations] whether declaration files are looked for; true where it is missing
+ * @param {(result: ReadFile) => void} [options.onRead]
  * @returns {Promise<GraphRun>}
  */
-export async function readRun(run, { hasPages, onRead }) {
+export async function readRun(run, { hasPages, declarations, onRead }) {
   const { name, paths, values } = run;
   const { all, types, exclude, ignore, gitignore, follow: links, entry: entries = [] } = values;
   const reporter = new FileReporter(name, { isShown: true });
   const options = readOptions(run);
   const read = await readProject({
     ...options, ...namedPaths(run), entries, all, types, dynamic: !values["no-dynamic"],
-    exclude, ignore, gitignore, links, pages: hasPages, resolver: resolverOptions(values),
+    exclude, ignore, gitignore, links, pages: hasPages, resolver: { ...resolverOptions(values), declarations },
     ahead: (walked) => ahead(walked, reporter),
     onRead: (result, isExcluded) => {
       reporter.notice(result.notices ?? []);

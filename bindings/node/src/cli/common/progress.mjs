@@ -5,8 +5,9 @@ const STEP = 100;
 const CLEAR = "\r\x1b[K";
 
 export class Progress {
+  /** Whether there is a line of progress. */
+  isShown;
   #stream;
-  #isShown;
   #things;
   #drawn = -Infinity;
   #found = 0;
@@ -21,7 +22,7 @@ export class Progress {
   constructor(stream, isShown, things = "files") {
     this.#stream = stream;
     this.#things = things;
-    this.#isShown = Boolean(isShown && stream.isTTY);
+    this.isShown = Boolean(isShown && stream.isTTY);
   }
 
   /** One more file was found. */
@@ -36,7 +37,7 @@ export class Progress {
   pass(hasFault) {
     this.#done++;
     this.#faults += hasFault ? 1 : 0;
-    if (this.#isShown && performance.now() - this.#drawn >= STEP) {
+    if (this.isShown && performance.now() - this.#drawn >= STEP) {
       this.#draw();
     }
   }

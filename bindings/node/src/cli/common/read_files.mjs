@@ -113,13 +113,14 @@ function openCache(path, program) {
 }
 
 /**
- * The same files, looked up long before they are read, so that the progress knows how many they are.
+ * The same files, looked up long before they are read where the progress is shown, which then knows how many they
+ * are.
  * @param {AsyncIterable<Found>} files
  * @param {FileReporter} reporter
  * @returns {AsyncIterable<Found>}
  */
 export function ahead(files, reporter) {
-  return Readable.from(counted(files, reporter), { highWaterMark: AHEAD });
+  return reporter.isShown ? Readable.from(counted(files, reporter), { highWaterMark: AHEAD }) : files;
 }
 
 /**
@@ -161,7 +162,7 @@ export class FileReporter {
   status = 0;
   #name;
   #progress;
-  #found = 0;
+  #hasRead = false;
   #noticed = new Set();
 
   /**
@@ -173,9 +174,13 @@ export class FileReporter {
     this.#progress = new Progress(process.stderr, isShown);
   }
 
+  /** Whether a line of progress is shown. */
+  get isShown() {
+    return this.#progress.isShown;
+  }
+
   /** Counts a file that was found. */
   find() {
-    this.#found++;
     this.#progress.find();
   }
 
@@ -185,7 +190,7 @@ export class FileReporter {
    */
   end(paths) {
     this.#progress.clear();
-    if (this.#found === 0 && !paths.includes("-")) {
+    if (!this.#hasRead && !paths.includes("-")) {
       throw new UsageFault(`${paths.join(", ")}: no file that can be read: no name ends as ${ENDINGS}`);
     }
   }
@@ -208,6 +213,7 @@ export class FileReporter {
 
   /** @param {Omit<FileResult, "info">} result */
   report({ path, isLeft, fault }) {
+    this.#hasRead = true;
     if (isLeft) {
       this.#print(describeFault(path, { message: LEFT }));
     }
