@@ -63,12 +63,14 @@ export class AnalysisCache {
     const key = absolute(path);
     const state = stateOf(key);
     const line = state && this.#lines.get(key);
-    const [, , , size, changed, info] = line?.toString().split("\t") ?? [];
-    if (!line || size !== state?.size || changed !== state.changed || !isWhole(line)) {
-      return { state };
+    if (line) {
+      const parts = line.toString().split("\t");
+      if (parts[3] === state.size && parts[4] === state.changed && isWhole(line)) {
+        const value = jsonOf(parts[5]);
+        return typeof value === "object" && value !== null ? { state, info: parts[5], value } : { state };
+      }
     }
-    const value = jsonOf(info);
-    return typeof value === "object" && value !== null ? { state, info, value } : { state };
+    return { state };
   }
 
   /**

@@ -93,18 +93,17 @@ export async function* readPaths(input, separator) {
  * @returns {Generator<Found, void>}
  */
 function* filesBelow(folder, options, roots) {
-  /** @type {(Found & { isFolder: boolean })[]} */
-  const todo = [{ path: folder, isFolder: true }];
-  for (let next = todo.pop(); next; next = todo.pop()) {
-    const { isFolder: hasEntries, ...found } = next;
-    if (!hasEntries) {
-      yield found;
+  /** @type {(Found | string)[]} Files, and the paths of folders. */
+  const todo = [folder];
+  for (let next = todo.pop(); next !== undefined; next = todo.pop()) {
+    if (typeof next !== "string") {
+      yield next;
       continue;
     }
     try {
-      todo.push(...entriesOf(found.path, options, roots));
+      todo.push(...entriesOf(next, options, roots));
     } catch (/** @type {any} */ error) {
-      yield { path: found.path, error };
+      yield { path: next, error };
     }
   }
 }
@@ -114,30 +113,32 @@ function* filesBelow(folder, options, roots) {
  * @param {string} folder
  * @param {Options} options
  * @param {string[]} roots
+ * @returns {(Found | string)[]} files, and the paths of folders
  */
 function entriesOf(folder, options, roots) {
   const { all, follow, isExcluded = () => false, isKept = () => false, pages } = options;
   const entries = readdirSync(folder, { withFileTypes: true });
   entries.sort((one, other) => (one.name < other.name ? 1 : -1));
   const realFolder = realPath(folder);
+  const [before, beforeReal] = [folder, realFolder ?? ""].map((each) => join(each, "_").slice(0, -1));
   const taken = [];
   for (const entry of entries) {
-    const path = join(folder, entry.name);
+    const path = before + entry.name;
     const isOut = isExcluded(path);
     if (isOut && !isKept(path)) {
       continue;
     }
     if (entry.isDirectory()) {
       if (all || !(entry.name === "node_modules" || entry.name.startsWith("."))) {
-        taken.push({ path, isFolder: true });
+        taken.push(path);
       }
     } else if (pages && isPage(entry.name) && entry.isFile()) {
-      taken.push({ path, isFolder: false, isPage: true });
+      taken.push({ path, isPage: true });
     } else if (isModule(entry.name) && isRegular(entry, path)) {
       const isLink = entry.isSymbolicLink();
       const isLeft = isLink && !follow && leadsOut(path, roots);
-      const real = isLink || realFolder === undefined ? undefined : join(realFolder, entry.name);
-      taken.push({ path, real, isFolder: false, ...(isLeft && { isLeft }), ...(isOut && { isExcluded: true }) });
+      const real = isLink || realFolder === undefined ? undefined : beforeReal + entry.name;
+      taken.push({ path, real, isLeft, isExcluded: isOut });
     }
   }
   return taken;

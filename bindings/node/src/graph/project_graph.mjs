@@ -48,7 +48,7 @@ export async function readProject(task) {
   const named = new NamedFiles(findFiles(paths, search), findFiles(files, {}));
   const graph = await readGraph(named, {
     ...task, resolver, isExcluded, isIgnored, follow: files.length > 0,
-    onRead: async (result) => onRead(result, isExcluded(result.path)),
+    onRead: (result) => onRead(result, isExcluded(result.path)),
   });
   const entries = files.map((path) => canonicalUrl(path));
   return { graph, named: named.keys, pages: named.pages, entries, absent, isIgnored, find, program };

@@ -22,7 +22,8 @@ import { Walk } from "./walk.mjs";
  * @property {GraphModule} [module] none with a fault
  * @property {string[]} [notices] what is wrong with a configuration
  *
- * @typedef {Omit<import("../runtime/read_files.mjs").FileResult, "info" | "value"> & ReadModule} ReadFile
+ * @typedef {import("../runtime/read_files.mjs").FileResult} FileResult
+ * @typedef {Pick<FileResult, "path" | "isLeft" | "fault"> & ReadModule} ReadFile
  *
  * @typedef {import("../runtime/read_files.mjs").ReadOptions & GraphWords} GraphOptions
  *
@@ -37,7 +38,7 @@ import { Walk } from "./walk.mjs";
  * @property {ResolveHook} [resolve] is asked first what a name leads to
  * @property {(files: AsyncIterable<Found>) => AsyncIterable<Found>} [ahead] hands the files on, and may
  *   look them up ahead
- * @property {(result: ReadFile) => Promise<void>} [onRead] is called for each file in turn
+ * @property {(result: ReadFile) => void} [onRead] is called for each file in turn
  */
 
 /**
@@ -46,47 +47,48 @@ import { Walk } from "./walk.mjs";
  * @returns {Promise<ModuleGraph>}
  */
 export async function readGraph(named, options) {
-  const { types, dynamic, isExcluded = () => false, resolve, onRead = async () => {} } = options;
+  const { types, dynamic, resolve } = options;
   const graph = new ModuleGraph({ types, dynamic });
   const walk = new Walk(named);
-  for await (const { info: json, value, ...read } of readFiles(options.ahead?.(walk) ?? walk, options)) {
-    const info = json && (value ?? JSON.parse(String(json)));
-    const result = info === undefined ? read : { ...read, ...resolved(read, info, options.resolver) };
-    await onRead(result);
-    if (result.isLeft) {
-      walk.pass([]);
-    } else {
-      const module = moduleOf(result, isExcluded);
-      if (resolve) {
-        await resolveBy(resolve, module);
-      }
-      graph.add(module);
-      walk.pass(pathsToFollow(module, options));
+  for await (const file of readFiles(options.ahead?.(walk) ?? walk, options)) {
+    const module = moduleOf(file, options);
+    if (module && resolve) {
+      await resolveBy(resolve, module);
     }
+    if (module) {
+      graph.add(module);
+    }
+    walk.pass(module ? pathsToFollow(module, options) : []);
   }
   return graph;
 }
 
 /**
- * @param {Pick<ReadFile, "path" | "real">} read
+ * @param {FileResult} file
+ * @param {GraphOptions} options
+ * @returns {GraphModule | undefined} nothing for a link that isn't followed
+ */
+function moduleOf({ path, real, info, value, isLeft, fault }, { resolver, isExcluded, onRead }) {
+  const json = info && (value ?? JSON.parse(String(info)));
+  const read = json && resolved({ path, real }, json, resolver);
+  onRead?.({ path, isLeft, fault, info: json, module: read?.module, notices: read?.notices });
+  if (isLeft) {
+    return undefined;
+  }
+  const module = read?.module ?? { specifier: canonicalUrl(path), references: [], ...(fault && { fault }) };
+  return isExcluded?.(path) ? { ...module, isExcluded: true } : module;
+}
+
+/**
+ * @param {Pick<FileResult, "path" | "real">} file
  * @param {any} info a `ModuleInfo`
  * @param {import("./resolver.mjs").Resolver} resolver
- * @returns {ReadModule}
+ * @returns {{ module: GraphModule, notices: string[] }}
  */
 function resolved({ path, real }, info, resolver) {
   const file = path === real ? path : absolute(path);
   const references = referencesOf(resolver.resolveInfo(info, file, real), { isDeclaration: isDeclaration(file) });
-  return { info, module: { specifier: canonicalUrl(file, real), references }, notices: resolver.takeNotices() };
-}
-
-/**
- * @param {ReadFile} result
- * @param {(path: string) => boolean} isExcluded
- * @returns {GraphModule}
- */
-function moduleOf({ path, module, fault }, isExcluded) {
-  const found = module ?? { specifier: canonicalUrl(path), references: [], ...(fault && { fault }) };
-  return isExcluded(path) ? { ...found, isExcluded: true } : found;
+  return { module: { specifier: canonicalUrl(file, real), references }, notices: resolver.takeNotices() };
 }
 
 /**
@@ -117,11 +119,14 @@ function pathOf(found) {
  * @returns {string[]}
  */
 function pathsToFollow({ references }, { follow, types, dynamic, all, isIgnored = () => false }) {
+  if (!follow) {
+    return [];
+  }
   const isFollowed = (/** @type {Reference} */ { kind, resolved }) => {
     const counts = isRunKind(kind) ? kind !== "dynamic" || dynamic !== false : types;
     return counts && (resolved.class === "file" || (all && resolved.class === "package"));
   };
-  const urls = (follow ? references.filter(isFollowed) : []).flatMap(({ resolved }) => {
+  const urls = references.filter(isFollowed).flatMap(({ resolved }) => {
     const found = /** @type {{ file?: string, types?: string }} */ (resolved);
     return [found.file ?? [], (types && found.types) || []].flat();
   });
