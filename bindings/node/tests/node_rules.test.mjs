@@ -1,10 +1,12 @@
 /** Node's rules, as node itself has them: for random packages, and for those that are installed. */
 
 import assert from "node:assert/strict";
-import { mkdtempSync, readFileSync, readdirSync, realpathSync, rmSync, statSync } from "node:fs";
+import {
+  mkdirSync, mkdtempSync, readFileSync, readdirSync, realpathSync, rmSync, statSync, writeFileSync,
+} from "node:fs";
 import { Module } from "node:module";
 import { tmpdir } from "node:os";
-import { join } from "node:path";
+import { dirname, join } from "node:path";
 import { test } from "node:test";
 
 import { RegularFiles } from "../src/files/regular_files.mjs";
@@ -85,6 +87,27 @@ for (const conditions of [[], ["special"]]) {
     }
   });
 }
+
+test("relative names and packages lead where node's do, in folders whose names aren't those of a URL", () => {
+  const folder = realpathSync(mkdtempSync(join(tmpdir(), "modinfo-names-")));
+  const folders = ["plain", "a b", "a%20b", "a\\b", "é", "a?b", "a#b", "+@~-._", "node_modules", "..a"];
+  const relatives = ["./y.js", "../z.js", "./../z.js", "../.././z.js", "./y", ".//y.js", "./%79.js", "./..", "../", "./y.js/"];
+  const packages = ["p", "p/y.js", "p/y", "@s/p/y.js", "@s/../p/y.js", "p~+-/y.js", "p p/y.js", "é/y.js", "p\t/y.js"];
+  for (const each of folders) {
+    for (const name of ["x.js", "y.js", "../z.js", ...packages.map((own) => `node_modules/${own.split("/y")[0]}/y.js`)]) {
+      mkdirSync(dirname(join(folder, each, name)), { recursive: true });
+      writeFileSync(join(folder, each, name), "");
+    }
+  }
+  const queries = folders.flatMap((each) => {
+    const names = [...relatives, ...packages, ...folders.map((other) => `../${other}/y.js`)];
+    return names.map((name) => /** @type {Query} */ ([join(folder, each, "x.js"), name]));
+  });
+  const { differences, found } = compare(queries);
+  rmSync(folder, { recursive: true });
+  assert.deepEqual(differences, []);
+  assert.ok(found > queries.length / 3, String(found));
+});
 
 /** What a file imports or requires, by a search that finds more than that. */
 const NAME = /\b(?:require\s*\(\s*|import\s*\(?\s*|from\s*)(["'])([^"'\n\\]*)\1/g;

@@ -309,6 +309,17 @@ test("tasks are taken up only as results are", async () => {
   assert.ok(most <= 10);
 });
 
+test("a result may be there at once, and the end is told after the last one and after an error", async () => {
+  let ends = 0;
+  const end = () => ends++;
+  assert.deepEqual(await all(inOrder(numbersTo(5), 2, (task) => task, end)), [0, 1, 2, 3, 4]);
+  assert.equal(ends, 1);
+  const found = inOrder(numbersTo(5), 2, (task) => (task === 1 ? Promise.reject(new Error("wrong")) : task), end);
+  assert.equal((await found.next()).value, 0);
+  await assert.rejects(found.next(), /^Error: wrong$/);
+  assert.equal(ends, 2);
+});
+
 test("a result doesn't wait for the next task", async () => {
   const later = new EventEmitter();
   const tasks = (async function* () {

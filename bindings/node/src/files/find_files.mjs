@@ -138,7 +138,7 @@ function entriesOf(folder, options, roots) {
       const isLink = entry.isSymbolicLink();
       const isLeft = isLink && !follow && leadsOut(path, roots);
       const real = isLink || realFolder === undefined ? undefined : beforeReal + entry.name;
-      taken.push({ path, real, isLeft, isExcluded: isOut });
+      taken.push({ path, real, ...(isLeft && { isLeft }), ...(isOut && { isExcluded: true }) });
     }
   }
   return taken;

@@ -302,7 +302,7 @@ function behind(links, entry) {
   return entry.kind === "none" || all > MAX_LINKS ? NONE : { ...entry, links: all };
 }
 
-/** @param {import("node:fs").Stats} status */
+/** @param {import("node:fs").Stats} status @returns {Entry["kind"]} */
 function kindOf(status) {
   if (status.isDirectory()) {
     return "folder";

@@ -7,11 +7,9 @@ import { urlOfFolder } from "../files/urls.mjs";
 
 const MANIFEST = "/package.json";
 const MODULES = "node_modules";
-
 /** A package's name of which each part is the name of a folder, as it stands in a URL too. */
 const PLAIN = /^(?:@[\w.~-]+\/)?[\w~-][\w.~-]*$/;
-
-/** `node_modules` in itself, in which a `require` doesn't look. */
+/** A folder in which a `require` doesn't look. */
 const IN_ITSELF = "/node_modules/node_modules";
 
 export class PackageFolders {

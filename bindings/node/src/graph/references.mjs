@@ -101,7 +101,7 @@ export function namedBy(info) {
 /**
  * The references of a module.
  * @param {Named[]} all of which each has its `resolved`
- * @param {{ isDeclaration?: boolean }} [options] a declaration file names all for its types alone
+ * @param {{ isDeclaration?: boolean }} options a declaration file names all for its types alone
  * @returns {Reference[]}
  */
 export function referencesOf(all, { isDeclaration = false } = {}) {
@@ -126,9 +126,8 @@ export function edgesOf(from, references) {
   /** @type {Map<string, ReferenceKind[]>} */
   const kinds = new Map();
   const add = (/** @type {string | undefined} */ to, /** @type {ReferenceKind} */ kind) => {
-    const known = to && kinds.get(to);
-    if (to && !known?.includes(kind)) {
-      kinds.set(to, [...known ?? [], kind]);
+    if (to && !kinds.get(to)?.includes(kind)) {
+      kinds.set(to, [...kinds.get(to) ?? [], kind]);
       edges.push({ from, to, kind });
     }
   };

@@ -11,7 +11,7 @@
  * @typedef {import("./search.mjs").Run} Run
  */
 
-import { basename, dirname, resolve as absolute } from "node:path";
+import { dirname, resolve as absolute } from "node:path";
 
 import { RegularFiles } from "../files/regular_files.mjs";
 import { urlOfPath } from "../files/urls.mjs";
@@ -29,11 +29,6 @@ const MAX_LENGTH = 4096;
 /** How many names are kept, and the most characters of one. */
 const MAX_KNOWN = 500_000;
 const MAX_KNOWN_LENGTH = 200;
-
-/** A name that leads to the same in all folders between which nothing is that decides about packages. */
-const OF_PACKAGE = /^[@\w][^!]*$/s;
-/** What decides about the packages of a folder, if it is there. */
-const DECIDING = ["package.json", "node_modules", "pnpm-workspace.yaml"];
 
 /** What a package that isn't installed may be called. */
 const PACKAGE_NAME = /^(?:@[^/!]+\/)?[^.@/!][^/!]*$/;
@@ -54,8 +49,6 @@ class Resolver {
   #projects = new Map();
   /** The folders whose project was added. */
   #added = new Set();
-  /** @type {Map<string, string>} */
-  #homes = new Map();
   #hasDeclarations;
   /** @type {Map<string, Importer["known"]>} By what decides where names lead. */
   #known = new Map();
@@ -122,13 +115,8 @@ class Resolver {
     if (!this.#hasRoot) {
       this.#addProject(dirname(path));
     }
-    return this.#importerOf(real ?? this.#realPath(absolute(path)), isScript);
-  }
-
-  /** @param {string} path @returns {string} the same where no file is there */
-  #realPath(path) {
-    const entry = this.#files.at(path);
-    return entry.kind === "file" ? entry.path : path;
+    const entry = real === undefined ? this.#files.at(absolute(path)) : undefined;
+    return this.#importerOf(real ?? (entry?.kind === "file" ? entry.path : absolute(path)), isScript);
   }
 
   /** @param {string} folder */
@@ -154,39 +142,13 @@ class Resolver {
     const isSource = isTypeScript(path) && !isDeclaration(path) && !isInstalled(path);
     const suffixes = isSource ? this.#names.configurationOf(path)?.options.moduleSuffixes : undefined;
     const format = this.#names.formatOf(path, isSource);
-    const rules = `${this.#names.scopeOf(path)}\0${isSource} ${isScript} ${format}`;
-    const folder = dirname(path);
-    const known = this.#knownOf(`${folder}\0${rules}`);
-    const home = this.#types ? folder : this.#homeOf(folder);
-    const packages = home === folder ? known : this.#knownOf(`${home}\0${rules}`);
-    return { path, isTypeScript: isSource, isScript, format, suffixes, known, packages };
-  }
-
-  /** @param {string} rules @returns {Importer["known"]} */
-  #knownOf(rules) {
-    let known = this.#known.get(rules);
+    const key = `${isSource} ${isScript} ${format} ${dirname(path)}\0${this.#names.scopeOf(path)}`;
+    let known = this.#known.get(key);
     if (!known) {
       known = new Map();
-      this.#known.set(rules, known);
+      this.#known.set(key, known);
     }
-    return known;
-  }
-
-  /**
-   * The nearest folder that decides what the names of packages lead to.
-   * @param {string} folder
-   * @returns {string}
-   */
-  #homeOf(folder) {
-    let home = this.#homes.get(folder);
-    if (home === undefined) {
-      const parent = dirname(folder);
-      const decides = parent === folder || basename(folder) === "node_modules" ||
-        DECIDING.some((name) => this.#files.in(folder, name).kind !== "none");
-      home = decides ? folder : this.#homeOf(parent);
-      this.#homes.set(folder, home);
-    }
-    return home;
+    return { path, isTypeScript: isSource, isScript, format, suffixes, known };
   }
 
   /**
@@ -203,13 +165,12 @@ class Resolver {
       return { class: "missing" };
     }
     const key = `${syntax} ${mode} ${specifier}`;
-    const known = syntax !== "path" && OF_PACKAGE.test(specifier) ? importer.packages : importer.known;
-    let found = known.get(key);
+    let found = importer.known.get(key);
     if (!found) {
       found = this.#found({ specifier, syntax, mode }, importer);
       if (specifier.length <= MAX_KNOWN_LENGTH && this.#knownCount < MAX_KNOWN) {
         this.#knownCount++;
-        known.set(key, found);
+        importer.known.set(key, found);
       }
     }
     return found;

@@ -22,7 +22,6 @@
  * @property {string[]} [suffixes] what names may have before their endings
  * @property {Map<string, import("./graph.cjs").Resolution>} known what names lead to, in all files of the folder
  *   that have the same rules
- * @property {Map<string, import("./graph.cjs").Resolution>} packages the same for names of packages, in more folders
  */
 
 import { isBuiltin } from "node:module";

@@ -17,7 +17,7 @@
  *   a path leads to
  */
 
-import { dirname } from "node:path";
+import { dirname, resolve as absolute } from "node:path";
 import { fileURLToPath, pathToFileURL } from "node:url";
 
 import { isPage } from "../files/find_files.mjs";
@@ -31,7 +31,7 @@ import { isRunKind } from "./references.mjs";
 /** @param {import("./resolver.mjs").Resolver} resolver @returns {Project["find"]} */
 export function finderOf(resolver) {
   return (name, from) => {
-    const { file } = /** @type {{ file?: string }} */ (resolver.resolve(name, from));
+    const { file } = /** @type {{ file?: string }} */ (resolver.resolve(name, absolute(from)));
     return file && fileURLToPath(file);
   };
 }
