@@ -1,6 +1,7 @@
 /**
- * `modinfo analyze --estree` against the direct reading of the same trees, whose documents `modinfo analyze` reads;
- * and documents that no one should send.
+ * `modinfo analyze --estree` against the direct reading of the same trees, whose documents `modinfo analyze` reads,
+ * and where that files a comment with another token against `modinfo analyze --source`; and documents that no one
+ * should send.
  */
 
 import assert from "node:assert/strict";
@@ -85,9 +86,11 @@ for (const parser of PARSERS) {
     const found = await answers("analyze --estree", sent);
     const wholly = await answers("analyze --estree", whole);
     const expected = await answers("analyze", direct);
+    const bySource = await answers("analyze --source", read.map(({ text, mediaType }) =>
+      JSON.stringify({ specifier: "file:///module", source: text, mediaType })));
     assert.ok(found.length > 0);
-    const differing = read.map(({ text }, at) => [text, found[at], wholly[at], expected[at]])
-      .filter(([, ...all]) => new Set(all).size > 1);
+    const differing = read.map(({ text }, at) => [text, found[at], wholly[at], expected[at], bySource[at]])
+      .filter(([, one, other, ...all]) => one !== other || !all.includes(one));
     assert.deepEqual(differing, []);
   });
 }
