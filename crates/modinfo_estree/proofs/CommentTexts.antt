@@ -1,13 +1,19 @@
--- What `strip_prefix` and `strip_suffix` return.
+-- What `strip_prefix`, `strip_suffix` and `contains` return.
 use Rattle.std.proofs.Common.{
   ◌≡◌,
   ℕ,
   ◌+◌,
   ◌-◌,
+  ◌||◌,
+  Bool,
   true,
   false,
   eqb,
   List,
+  [],
+  ◌∷◌,
+  ◌++◌,
+  codes,
   length,
   take,
   drop,
@@ -15,16 +21,23 @@ use Rattle.std.proofs.Common.{
   Some,
   None,
   ap,
+  refl,
   subst,
   sym,
+  true≢false,
   ◌∙◌,
   arith,
 }
+use Rattle.std.proofs.lemmas.Slice.Eq.{starts_is}
 use Rattle.std.proofs.lemmas.Str.Pattern.{ends_text, starts_text}
+use Rattle.std.specs.Bool.{Decides}
+use Rattle.std.specs.Cmp.{unsigned_Decides}
 use Rattle.std.specs.List.{ends_with, starts_with}
 use Rattle.std.specs.Option.{MatchOption}
 use Rattle.std.specs.Str.{IsCharBoundary}
+use Rattle.std.specs.Str.Iter.{HasSubslice}
 use Rattle.std.specs.Str.Pattern.{FindsTextPrefix, FindsTextSuffix}
+use Rattle.modinfo_estree.specs.Comments.{has_close}
 use denote.Ref.{Bor}
 
 pub starts : (text start : List ℕ) (r : Option (Bor (List ℕ)))
@@ -56,3 +69,35 @@ ends text end (Some x) found =
       )),
       found.2 ∙ ap (λ n. take (length text - n) text) size,
     )
+
+-- ---- A `*/` among bytes
+
+or_true : (t : Bool) → (t || true) ≡ true
+or_true true = refl
+or_true false = refl
+
+found_after : (first : Bool) (b : ℕ) (bs : List ℕ) → first ≡ starts_with eqb (b ∷ bs) (codes "*/")
+    → (has_close bs ≡ true → HasSubslice bs (codes "*/")) → (first || has_close bs) ≡ true
+    → HasSubslice (b ∷ bs) (codes "*/")
+found_after true b bs is later e =
+    ([], drop 2 (b ∷ bs), (starts_is unsigned_Decides (b ∷ bs) (codes "*/") true is).0 refl)
+found_after false b bs is later e =
+    let found = later e in (b ∷ found.0, found.1, ap (λ l. b ∷ l) found.2)
+
+close_found : (bs : List ℕ) → has_close bs ≡ true → HasSubslice bs (codes "*/")
+close_found [] e = absurd (true≢false (sym e))
+close_found (b ∷ bs) e =
+    found_after (starts_with eqb (b ∷ bs) (codes "*/")) b bs refl (close_found bs) e
+
+close_between : (front rest : List ℕ) → has_close (front ++ (codes "*/" ++ rest)) ≡ true
+close_between [] rest = refl
+close_between (b ∷ front) rest =
+    let others = front ++ (codes "*/" ++ rest) in
+    ap (λ t. starts_with eqb (b ∷ others) (codes "*/") || t) (close_between front rest)
+    ∙ or_true (starts_with eqb (b ∷ others) (codes "*/"))
+
+pub closes : (bs : List ℕ) → Decides (has_close bs) (HasSubslice bs (codes "*/"))
+closes bs = (
+  close_found bs,
+  λ found. subst (λ l. has_close l ≡ true) (sym found.2) (close_between found.0 found.1),
+)

@@ -3,9 +3,9 @@ pub mod CommentReading
 pub mod CommentTexts
 pub mod Estrees
 pub mod Filings
+pub mod FoundEnds
 pub mod InnerMembers
 pub mod JsonMembers
-pub mod MarkedEnds
 pub mod Nodes
 pub mod SortedByStart
 pub mod Tables

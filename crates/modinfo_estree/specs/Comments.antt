@@ -47,10 +47,16 @@ use Rattle.modinfo_estree.specs.declared.comments.Place.{Place}
 abbrev pub comment_with : CommentKind → SourceRange → List ℕ → DependencyComment
 comment_with kind range text = record { kind = kind; range = range; text = text }
 
--- The text of a block comment by the bytes after its `/*`: what is before the `*/` at the end. Without
--- this `*/` the text is empty, and the check of the source reports the comment.
+-- A `*/` stands among the bytes.
+abbrev pub has_close : List ℕ → Bool
+has_close [] = false
+has_close (byte ∷ bytes) = starts_with nat_eq (byte ∷ bytes) (codes "*/") || has_close bytes
+
+-- The text of a block comment by the bytes after its `/*`: what is before their first `*/`, if this is at
+-- their end. Otherwise the text is empty, and the check of the source reports the comment.
 abbrev pub block_text : List ℕ → List ℕ
-block_text rest = if ends_with nat_eq rest (codes "*/") then take (length rest - 2) rest else []
+block_text rest = let inside = take (length rest - 2) rest in
+    if ends_with nat_eq rest (codes "*/") && not (has_close inside) then inside else []
 
 -- The bytes begin a `#!` line or a comment as in HTML, which are no comments.
 abbrev pub is_no_comment : List ℕ → Bool

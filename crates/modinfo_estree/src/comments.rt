@@ -7,8 +7,8 @@ ghost use Rattle.std.specs.Str.{chars};
 ghost use Rattle.deno_graph_base.specs.SourceRange.{slice_of};
 ghost use Rattle.modinfo_document.specs.Comments.{AreThoseOf};
 ghost use Rattle.modinfo_estree.specs.Comments.{after_space, block_text, block_trails, comment_at, comment_of};
-ghost use Rattle.modinfo_estree.specs.Comments.{comment_with, is_before_semicolon, is_semicolon};
-ghost use Rattle.modinfo_estree.specs.Comments.{is_value_end, line_trails, place_of, sides_of, trails};
+ghost use Rattle.modinfo_estree.specs.Comments.{comment_with, has_close, is_before_semicolon, is_semicolon};
+ghost use Rattle.modinfo_estree.specs.Comments.{line_trails, place_of, sides_of, trails};
 ghost use Rattle.modinfo_estree.specs.Comments.{ends_line, is_whole_line, trails_token};
 ghost use Rattle.modinfo_estree.specs.Range.{is_text_range, rest_range};
 ghost use Rattle.modinfo_estree.specs.Tokens.{is_line_break};
@@ -19,6 +19,7 @@ use crate::last_token::{is_closing, is_name, is_operator, last_byte};
 use crate::marks::{is_line_break, is_space};
 use crate::slice::slice_at;
 use crate::tokens::Tokens;
+use crate::value_ends::ValueEnds;
 use deno_graph_base::text::SourceRange;
 use deno_graph_base::values::Text;
 use deno_graph_source::tree::{CommentKind, CommentSide, Comments, DependencyComment};
@@ -26,13 +27,12 @@ use std::alloc::{AllocError, Global};
 
 /// Files the comments at some ranges, in the order of the ranges. Passes over a range where the text has a
 /// `#!` line or a comment as in HTML. Files an empty line comment where the text has no comment or no such
-/// range, so that a check of the source reports the range. `ends` is the table of `value_ends`. `is_empty` says
-/// that the text has no token. Fails only if an allocation fails.
+/// range, so that a check of the source reports the range. `is_empty` says that the text has no token. Fails only if an allocation fails.
 pub fn file_comments(
     alloc: Global,
     text: &str,
     tokens: &Tokens,
-    ends: &[bool],
+    ends: &ValueEnds,
     ranges: &[SourceRange],
     is_empty: bool,
 ) -> Result<Comments, AllocError>
@@ -72,7 +72,7 @@ fn file(comments: &mut Comments, place: Place, comment: DependencyComment) -> Re
 fn place_of(
     text: &str,
     tokens: &Tokens,
-    ends: &[bool],
+    ends: &ValueEnds,
     is_empty: bool,
     comment: &DependencyComment,
 ) -> Place
@@ -105,7 +105,7 @@ fn place_of(
 
 /// Returns whether a comment trails the token before it.
 #[tactic(auto, unfolding(crate::specs::Comments::trails))]
-fn trails(text: &str, tokens: &Tokens, ends: &[bool], comment: &DependencyComment) -> bool
+fn trails(text: &str, tokens: &Tokens, ends: &ValueEnds, comment: &DependencyComment) -> bool
     ensures { result ≡ trails text.now tokens.now ends.now comment.now }
 {
     let last = tokens.end(comment.range.start);
@@ -118,14 +118,14 @@ fn trails(text: &str, tokens: &Tokens, ends: &[bool], comment: &DependencyCommen
 fn trails_token(
     text: &str,
     tokens: &Tokens,
-    ends: &[bool],
+    ends: &ValueEnds,
     last: usize,
     comment: &DependencyComment,
 ) -> bool
     ensures { result ≡ trails_token text.now tokens.now.is_gap ends.now last comment.now }
 {
     let front = front(text, last);
-    let is_value_end = is_value_end(ends, last);
+    let is_value_end = ends.contains(last);
     match comment.kind {
         CommentKind::Line => line_trails(front, is_value_end),
         CommentKind::Block => {
@@ -150,16 +150,6 @@ fn block_trails(tokens: &Tokens, front: &[u8], is_value_end: bool) -> bool
 {
     let last = last_byte(front);
     is_value_end && last != b'>' || is_closing(last) || is_name(tokens, front)
-}
-
-/// Returns whether a value ends at an offset that could be an operator, by the table of these ends.
-fn is_value_end(ends: &[bool], at: usize) -> bool
-    ensures { result ≡ is_value_end ends.now at }
-{
-    match ends.get(at) {
-        Some(is_end) => *is_end,
-        None => false,
-    }
 }
 
 /// Returns the bytes of a text up to an offset.
@@ -288,14 +278,21 @@ fn comment_with(
     Ok(Some(DependencyComment { kind, range, text }))
 }
 
-/// Returns the text of a block comment by what follows its `/*`.
+/// Returns the text of a block comment by what follows its `/*`, empty if that has no `*/` or goes on after it.
 fn block_text(rest: &str) -> &str
     ensures { result.now ≡ block_text rest.now }
 {
     match before(rest, "*/") {
-        Some(inside) => inside,
-        None => "",
+        Some(inside) if !has_close(inside) => inside,
+        _ => "",
     }
+}
+
+/// Returns whether a `*/` stands in a text.
+fn has_close(text: &str) -> bool
+    ensures { result ≡ has_close text.now }
+{
+    text.contains("*/")
 }
 
 /// Returns what follows `start` at the start of a text, or `None` if the text doesn't start so.

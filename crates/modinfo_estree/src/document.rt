@@ -19,7 +19,7 @@ use crate::offsets::{OffsetUnit, Offsets};
 use crate::program::read_file_at;
 use crate::source::{Members, Source};
 use crate::tokens::Tokens;
-use crate::value_ends::value_ends;
+use crate::value_ends::ValueEnds;
 use deno_graph_json::read::{read_object, read_str};
 use deno_graph_json::{Element, Expected, FromJson, ObjectReader, ReadError, Tape};
 use deno_graph_source::text::SourceRange;
@@ -119,7 +119,7 @@ fn read_tree_in(
     let body = read_file_at(alloc, source, members)?;
     let is_empty = is_empty(text, body.as_slice());
     let kept = comment_ranges(alloc, text, ranges)?;
-    let ends = value_ends(alloc, text, body.as_slice())?;
+    let ends = ValueEnds::new(alloc, text, body.as_slice())?;
     let comments = file_comments(
         alloc,
         text,

@@ -21,7 +21,7 @@ returns c =
     let ranges = c.args.ranges in
     let empty = c.is_empty-is_empty.ensures ∙ ap (is_empty text) c.as_slice.ensures in
     let kept = c.as_slice-3.ensures.value ∙ c.in_ok-kept.ensures in
-    let ends = c.deref.ensures.value ∙ c.in_ok-ends.ensures ∙ ap (value_ends text) c.as_slice-2.ensures in
+    let ends = c.in_ok-ends.ensures ∙ ap (value_ends text) c.as_slice-2.ensures in
     let comments = subst (λ e. AreThoseOf
     (sides_of text source.tokens (value_ends text body) e (comment_ranges text ranges))
     c.in_ok-comments.comments)
@@ -32,4 +32,4 @@ returns c =
     (sides_of text source.tokens es c.is_empty-is_empty.result c.as_slice-3.result.now)
     c.in_ok-comments.comments) ends c.in_ok-comments.ensures)) in
     some_and _ _ (tree_of text source.tokens ranges body) (goes_on _ _ body _ c.in_ok-body.ensures refl)
-    (comments, λ i. record { range = c.new.ensures i; body = body; has_shebang = c.has_shebang.ensures i })
+    (comments, λ i. record { range = c.new-2.ensures i; body = body; has_shebang = c.has_shebang.ensures i })
