@@ -224,7 +224,7 @@ export class RegularFiles {
     }
     // A link that leads to itself leads to nothing.
     this.#entries.set(path, NONE);
-    const entry = real === path ? this.#lookBehind(path) : behind(parent.links, this.at(real));
+    const entry = real === path ? this.#followLink(path) : withLinks(parent.links, this.at(real));
     if (this.#isTooFar && this.#following > 0) {
       // It may be there for another path, with fewer links before it.
       this.#entries.delete(path);
@@ -236,37 +236,39 @@ export class RegularFiles {
   }
 
   /**
+   * Returns the entry that a link leads to, `NONE` after too many links.
    * @param {string} path of a link, in a folder whose path has none
    * @returns {Entry}
    */
-  #lookBehind(path) {
+  #followLink(path) {
     if (this.#following === MAX_LINKS) {
       this.#isTooFar = true;
       return NONE;
     }
     this.#following++;
     try {
-      return this.#follow(path);
+      return this.#entryOfTarget(path);
     } finally {
       this.#following--;
     }
   }
 
   /**
+   * Returns the entry that the target of a link names, part by part.
    * @param {string} path of a link, in a folder whose path has none
    * @returns {Entry}
    */
-  #follow(path) {
+  #entryOfTarget(path) {
     const target = this.#targetOf(path);
-    let entry = behind(1, this.at(isAbsolute(target) ? "/" : dirname(path)));
+    let entry = withLinks(1, this.at(isAbsolute(target) ? "/" : dirname(path)));
     for (const part of target.split("/")) {
       if (entry.kind !== "folder") {
         return NONE;
       }
       if (part === "..") {
-        entry = behind(entry.links, this.at(dirname(entry.path)));
+        entry = withLinks(entry.links, this.at(dirname(entry.path)));
       } else if (part !== "" && part !== ".") {
-        entry = behind(entry.links, this.at(join(entry.path, part)));
+        entry = withLinks(entry.links, this.at(join(entry.path, part)));
       }
     }
     return entry;
@@ -292,12 +294,12 @@ export class RegularFiles {
 }
 
 /**
- * What some links lead to, and then those of an entry.
+ * Returns an entry with more links on the way to it.
  * @param {number} links
  * @param {Entry} entry
  * @returns {Entry}
  */
-function behind(links, entry) {
+function withLinks(links, entry) {
   const all = links + entry.links;
   return entry.kind === "none" || all > MAX_LINKS ? NONE : { ...entry, links: all };
 }

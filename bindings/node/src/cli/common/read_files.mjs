@@ -232,7 +232,7 @@ export class FileReporter {
 }
 
 /**
- * The line of a syntax error with a mark below, behind a bar: so that it can't be taken for a line of the output.
+ * The line of a syntax error with a mark below, after a bar: so that it can't be taken for a line of the output.
  * @param {string} path
  * @param {import("../../runtime/faults.mjs").Fault} fault
  * @returns {string[]} none where there is no line
