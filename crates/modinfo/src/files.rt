@@ -282,7 +282,8 @@ fn info_of_file<R: Files + AllocGlobal>(
     Ok(module_info(alloc, &parsed)?)
 }
 
-/// Reads a regular file of at most `LIMIT` bytes. Nothing else is opened.
+/// Reads a regular file of at most `LIMIT` bytes. Asks what the path leads to, opens it, and asks again what was
+/// opened, since another file may get the path in between.
 fn read_file<R: Files + AllocGlobal>(rt: &R, name: &str) -> Result<Vec<u8>, FileFault> {
     check_kind(&fs::metadata(rt, name)?)?;
     if is_of_system(fs::canonicalize(rt, name)?.as_str()) {
