@@ -6,6 +6,8 @@ use Rattle.std.proofs.Common.{
   ◌≤◌,
   ◌&&◌,
   true,
+  false,
+  not,
   inl,
   inr,
   eqb,
@@ -43,6 +45,7 @@ use Rattle.modinfo_estree.specs.Comments.{
   comment_at,
   comment_of,
   comment_with,
+  has_close,
   is_line,
   is_whole_line,
 }
@@ -69,25 +72,28 @@ range_test text range is =
     ∙ ap (λ t. t && is_boundary text range.end) (boundary_test text range.start is.start)
     ∙ boundary_test text range.end is.end
 
-inside_block : (text : List ℕ) → block_text (text ++ codes "*/") ≡ text
-inside_block text =
-    let size : length (text ++ codes "*/") - 2 ≡ length text =
-    omega (arith, length-append text (codes "*/")) in
-    ap (λ n. if pointwise eqb (codes "*/") (drop n (text ++ codes "*/")) then
-    take n (text ++ codes "*/") else [])
+inside_block : (text : List ℕ) → has_close text ≡ false → block_text (text ++ codes "*/") ≡ text
+inside_block text unclosed =
+    let rest = text ++ codes "*/" in
+    let size : length rest - 2 ≡ length text = omega (arith, length-append text (codes "*/")) in
+    ap (λ n. if pointwise eqb (codes "*/") (drop n rest) && not (has_close (take n rest)) then take n rest
+    else [])
     size
-    ∙ ap (λ end. if pointwise eqb (codes "*/") end then take (length text) (text ++ codes "*/") else [])
+    ∙ ap (λ end. if pointwise eqb (codes "*/") end && not (has_close (take (length text) rest))
+    then take (length text) rest else [])
     (drop_at text (codes "*/") (length text) refl)
-    ∙ take_at text (codes "*/") (length text) refl
+    ∙ ap (λ inside. if not (has_close inside) then inside else []) (take_at text (codes "*/") (length text) refl)
+    ∙ ap (λ is. if not is then text else []) unclosed
 
 spelled_read : (source : List ℕ) (kind : CommentKind) (range : SourceRange) (text : List ℕ)
     → (is_line kind ≡ true → is_whole_line source range ≡ true)
+    → (is_line kind ≡ false → has_close text ≡ false)
     → comment_of source range (spelling kind text) ≡ Some (comment_with kind range text)
 unfolding comment_of
-spelled_read source Line range text whole =
-    ap (λ is. Some (if is then comment_with Line range text else comment_with Block range [])) (whole refl)
-spelled_read source Block range text whole =
-    ap (λ inside. Some (comment_with Block range inside)) (inside_block text)
+spelled_read source Line range text line block =
+    ap (λ is. Some (if is then comment_with Line range text else comment_with Block range [])) (line refl)
+spelled_read source Block range text line block =
+    ap (λ inside. Some (comment_with Block range inside)) (inside_block text (block refl))
 
 pub comment_read : (text : List ℕ) (comment : DependencyComment) → IsSpelled text comment
     → IsWhole text comment → comment_at text comment.range ≡ Some comment
@@ -97,4 +103,5 @@ comment_read text comment spelled whole =
     let bytes = slice_of text range in
     ap (λ t. if t then comment_of text range bytes else Some (comment_with Line range []))
     (range_test text range spelled.range)
-    ∙ ap (comment_of text range) spelled.slice ∙ spelled_read text comment.kind range comment.text whole
+    ∙ ap (comment_of text range) spelled.slice
+    ∙ spelled_read text comment.kind range comment.text whole.0 whole.1

@@ -125,9 +125,11 @@ abbrev pub is_line : CommentKind → Bool
 is_line Line = true
 is_line Block = false
 
--- If the comment is a line comment, its range is as far as the end of the line.
+-- The range of a comment goes as far as the comment: of a line comment to the end of the line, of a block
+-- comment to the first `*/`.
 abbrev pub IsWhole : List ℕ → DependencyComment → Type 0
-IsWhole text comment = is_line comment.kind ≡ true → is_whole_line text comment.range ≡ true
+IsWhole text comment = (is_line comment.kind ≡ true → is_whole_line text comment.range ≡ true)
+    × (is_line comment.kind ≡ false → has_close comment.text ≡ false)
 
 -- The characters of a text after white space.
 abbrev pub after_space : List ℕ → List ℕ
