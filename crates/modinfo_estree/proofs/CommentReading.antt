@@ -82,7 +82,8 @@ inside_block text unclosed =
     ∙ ap (λ end. if pointwise eqb (codes "*/") end && not (has_close (take (length text) rest))
     then take (length text) rest else [])
     (drop_at text (codes "*/") (length text) refl)
-    ∙ ap (λ inside. if not (has_close inside) then inside else []) (take_at text (codes "*/") (length text) refl)
+    ∙ ap (λ inside. if not (has_close inside) then inside else [])
+    (take_at text (codes "*/") (length text) refl)
     ∙ ap (λ is. if not is then text else []) unclosed
 
 spelled_read : (source : List ℕ) (kind : CommentKind) (range : SourceRange) (text : List ℕ)
