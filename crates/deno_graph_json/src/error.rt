@@ -1,7 +1,8 @@
 ghost use Rattle.std.specs.Prelude.{◌≡◌, [], Some};
 ghost use Rattle.serde_json.specs.Data.{Data};
 ghost use Rattle.serde_json.specs.Find.{at, get};
-ghost use Rattle.deno_graph_json.specs.Read.Error.{IsIn, IsMismatch, mismatch, step_into};
+ghost use Rattle.deno_graph_json.specs.Read.Error.{Expects, IsIn, IsMismatch, mismatch, step_into};
+ghost use Rattle.deno_graph_json.specs.declared.expected.Expected.{Expected};
 
 use crate::expected::Expected;
 use deno_graph_base::values::{Items, Text};
@@ -50,6 +51,7 @@ impl ReadError {
         ensures place { (object member : Data) → get name.now object ≡ Some member
             → IsIn member self → IsIn object result }
         ensures mismatch { IsMismatch result → IsMismatch self }
+        ensures expected { (wanted : Expected) → Expects wanted self → Expects wanted result }
     {
         match Text::from_str(alloc, name) {
             Ok(name) => self.in_step(Step::Member(name)),
@@ -63,6 +65,7 @@ impl ReadError {
         ensures place { (array item : Data) → at number array ≡ Some item
             → IsIn item self → IsIn array result }
         ensures mismatch { IsMismatch result → IsMismatch self }
+        ensures expected { (wanted : Expected) → Expects wanted self → Expects wanted result }
     {
         self.in_step(Step::Item(number))
     }
@@ -72,6 +75,7 @@ impl ReadError {
         ensures place { (outer inner : Data) → step_into step outer ≡ Some inner
             → IsIn inner self → IsIn outer result }
         ensures mismatch { IsMismatch result → IsMismatch self }
+        ensures expected { (wanted : Expected) → Expects wanted self → Expects wanted result }
     {
         match self {
             ReadError::Mismatch(Mismatch { path, expected }) => {

@@ -1,12 +1,14 @@
 //! Search for floats in JSON values: numbers that aren't held as whole numbers.
 
-ghost use Rattle.std.specs.Prelude.{◌≡◌};
+ghost use Rattle.std.specs.Prelude.{◌≡◌, IfErr};
 ghost use Rattle.serde_json.specs.Data.{array, object};
 ghost use Rattle.serde_json.specs.View.{view, items_view, members_view};
 ghost use Rattle.serde_json.specs.Written.{has_float as holds_float, items_have_float as float_in_items, members_have_float as float_in_members};
 ghost use Rattle.deno_graph_json.specs.Data.{data_of, elements_data, members_data};
+ghost use Rattle.deno_graph_json.specs.Read.Error.{Expects};
 ghost use Rattle.deno_graph_json.specs.Read.Result.{IsReadResult};
 ghost use Rattle.deno_graph_json.specs.Read.Partial.{unless_float};
+ghost use Rattle.deno_graph_json.specs.declared.expected.Expected.TheVariants.{Integer};
 
 use crate::error::ReadError;
 use crate::expected::Expected;
@@ -51,10 +53,12 @@ fn members_have_float(members: &Map<String, Value>) -> bool
     false
 }
 
-/// Returns `Mismatch` with the path to a float, if there is one, and `OutOfMemory` if an allocation fails.
+/// Returns `Mismatch` with the path to a float, if there is one, and `OutOfMemory` if an allocation fails. What
+/// is expected there is always `Integer`.
 /// Allocates only where the text has a float.
 pub fn find_float(alloc: Global, value: Element<'_>) -> Result<(), ReadError>
-    ensures { IsReadResult (data_of value.entry) (unless_float (holds_float (data_of value.entry))) result }
+    ensures read { IsReadResult (data_of value.entry) (unless_float (holds_float (data_of value.entry))) result }
+    ensures expected { IfErr result (Expects Integer) }
 {
     if value.has_float_node() {
         find_float_in(alloc, value)
@@ -65,7 +69,8 @@ pub fn find_float(alloc: Global, value: Element<'_>) -> Result<(), ReadError>
 
 #[cycle(find_float)]
 fn find_float_in(alloc: Global, value: Element<'_>) -> Result<(), ReadError>
-    ensures { IsReadResult (data_of value.entry) (unless_float (holds_float (data_of value.entry))) result }
+    ensures read { IsReadResult (data_of value.entry) (unless_float (holds_float (data_of value.entry))) result }
+    ensures expected { IfErr result (Expects Integer) }
 {
     match value.view() {
         View::Float(_) => Err(ReadError::expected(alloc, Expected::Integer)),
@@ -77,8 +82,9 @@ fn find_float_in(alloc: Global, value: Element<'_>) -> Result<(), ReadError>
 
 #[cycle(find_float)]
 fn find_float_in_items(alloc: Global, items: Elements<'_>) -> Result<(), ReadError>
-    ensures { IsReadResult (array (elements_data items.entry))
+    ensures read { IsReadResult (array (elements_data items.entry))
         (unless_float (float_in_items (elements_data items.entry))) result }
+    ensures expected { IfErr result (Expects Integer) }
 {
     let mut number = 0usize;
     for item in items {
@@ -92,8 +98,9 @@ fn find_float_in_items(alloc: Global, items: Elements<'_>) -> Result<(), ReadErr
 
 #[cycle(find_float)]
 fn find_float_in_members(alloc: Global, members: Members<'_>) -> Result<(), ReadError>
-    ensures { IsReadResult (object (members_data members.entry))
+    ensures read { IsReadResult (object (members_data members.entry))
         (unless_float (float_in_members (members_data members.entry))) result }
+    ensures expected { IfErr result (Expects Integer) }
 {
     let found = members.sorted(alloc)?;
     for (name, value) in &found {

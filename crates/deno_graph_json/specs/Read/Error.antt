@@ -1,5 +1,5 @@
 -- Why a value can't be read: a part of the value isn't as expected, and the path to that part.
-use Rattle.std.specs.Prelude.{List, [], ◌∷◌, Option, Some, IsSomeAnd}
+use Rattle.std.specs.Prelude.{◌≡◌, List, [], ◌∷◌, Option, Some, IsSomeAnd}
 use Rattle.serde_json.specs.Data.{Data}
 use Rattle.serde_json.specs.Find.{at, get}
 use Rattle.deno_graph_json.specs.Read.Expected.{IsNot}
@@ -32,3 +32,8 @@ IsIn value OutOfMemory = Unit {0}
 abbrev pub IsMismatch : ReadError → Type 0
 IsMismatch (Mismatch _) = Unit {0}
 IsMismatch OutOfMemory = ⊥
+
+-- the error says that this is expected, or that an allocation failed
+abbrev pub Expects : Expected → ReadError → Type 0
+Expects expected (Mismatch found) = found.expected ≡ expected
+Expects expected OutOfMemory = Unit {0}
