@@ -6,6 +6,7 @@ pub mod ExpectedJson
 pub mod Kind
 pub mod Literal
 pub mod Node
+pub mod NodeKinds
 pub mod Lookup
 pub mod Place
 pub mod Pointer
