@@ -5,6 +5,7 @@ pub mod Error
 pub mod ExpectedJson
 pub mod Kind
 pub mod Literal
+pub mod Names
 pub mod Node
 pub mod NodeKinds
 pub mod Lookup

@@ -71,11 +71,6 @@ abbrev pub PointsInto : Data → FaultReport → Type 0
 PointsInto value report = (mismatch : Mismatch) × IsIn value (read.Mismatch mismatch)
     × Reports mismatch report
 
--- If the report is `Invalid`, its pointer leads to a value that isn't what the report expects there.
-abbrev pub HasPointerInto : Data → Report → Type 0
-HasPointerInto value (Valid _) = Unit {0}
-HasPointerInto value (Invalid report) = PointsInto value report
-
 -- The offset of the place is inside the text, or the text's length.
 abbrev pub IsPlaceIn : List ℕ → TextPlace → Type 0
 IsPlaceIn text place = place.offset ≤ length text
