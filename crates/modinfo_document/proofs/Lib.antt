@@ -11,4 +11,6 @@ pub mod PlaceRanges
 pub mod Reported
 pub mod ReportTexts
 pub mod Urls
-mod Warned
+pub mod NodeKinds
+pub mod KindPaths
+pub mod Warned

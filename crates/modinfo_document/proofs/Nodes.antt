@@ -28,7 +28,7 @@ use Rattle.serde_json.specs.Find.{as_array, as_object, get_member}
 use Rattle.deno_graph_json.specs.Read.Partial.{◌>>=◌, read_or, reads_array, reads_items}
 use Rattle.deno_graph_json.proofs.Reading.{is_array, is_object}
 use Rattle.modinfo_document.specs.Node.{reads_node, reads_nodes, reads_each, children_in, node_with}
-use Rattle.modinfo_document.specs.internal.Lookup.{items_of, member_of}
+use Rattle.modinfo_document.specs.internal.Lookup.{member_items, member_of}
 
 each_read : (ds : Items) → reads_each ds ≡ reads_items reads_node ds
 unfolding reads_each reads_items
@@ -88,9 +88,9 @@ depth_of_named name (member k e ms) d is = by (depth_of_named name ms d) (slice_
     by later Greater found = omega (arith, later found)
 
 -- The items of an array that is a member.
-pub depth_of_items : (name : List ℕ) (value : Data) (ds : Items) → Some ds ≡ items_of name value
+pub depth_of_items : (name : List ℕ) (value : Data) (ds : Items) → Some ds ≡ member_items name value
     → items_depth ds + 1 < depth value
-unfolding items_of member_of
+unfolding member_items member_of
 depth_of_items name value ds is =
     option_and_then_some _ (as_object value >>= get_member name) ds (sym is)
     (λ array found listed. option_and_then_some (get_member name) (as_object value) array found

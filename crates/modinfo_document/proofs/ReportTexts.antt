@@ -5,7 +5,7 @@ use Rattle.json.specs.Token.{Token, begin_object, end_object}
 use Rattle.json.specs.Tree.{json_tokens, members_tokens}
 use Rattle.deno_graph_json.specs.Text.{Text, with_tokens}
 use Rattle.deno_graph_json.proofs.Texts.{with_tokens-twice}
-use Rattle.modinfo_document.specs.ReportText.{Entry, members_of, object_of}
+use Rattle.modinfo_document.specs.ReportText.{Entry, json_object, members_of}
 use Rattle.modinfo_document.specs.internal.ReportText.{member_tokens}
 
 -- the tokens of members, followed by the brace that closes the object
@@ -37,7 +37,7 @@ pub object_written : (entries : List Entry) (text begun last new : Text)
     → begun ≡ with_tokens (begin_object ∷ []) text
     → last ≡ with_entries entries begun
     → new ≡ with_tokens (end_object ∷ []) last
-    → new ≡ with_tokens (json_tokens (object_of entries)) text
+    → new ≡ with_tokens (json_tokens (json_object entries)) text
 object_written entries text begun last new begins writes closes =
     closes ∙ ap (with_tokens (end_object ∷ [])) (writes ∙ ap (with_entries entries) begins)
     ∙ entries_written entries (with_tokens (begin_object ∷ []) text)

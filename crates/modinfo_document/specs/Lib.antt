@@ -5,7 +5,9 @@ pub mod Error
 pub mod ExpectedJson
 pub mod Kind
 pub mod Literal
+pub mod Names
 pub mod Node
+pub mod NodeKinds
 pub mod Lookup
 pub mod Place
 pub mod Pointer

@@ -1,6 +1,6 @@
 -- Reports on documents.
-use Rattle.std.specs.Prelude.{◌≡◌, ◌≢◌, ℕ, ◌≤◌, ◌<◌, ◌⊎◌, Bool, List, [], ◌∷◌, ◌++◌, length, true, None}
-use Rattle.std.specs.Prelude.{IsSomeAnd}
+use Rattle.std.specs.Prelude.{◌≡◌, ℕ, ◌≤◌, ◌<◌, ◌+◌, ◌-◌, ◌^◌, ◌⊎◌, Bool, List, [], ◌∷◌, ◌++◌, length, min}
+use Rattle.std.specs.Prelude.{take, true, None, IsSomeAnd}
 use Rattle.std.specs.String.{string_bytes}
 use Rattle.serde_json.specs.Data.{Data}
 use Rattle.deno_graph_json.specs.Read.Error.{IsIn}
@@ -33,8 +33,17 @@ HasOnly warning warnings = (warnings.kept.items ≡ warning ∷ []) × (warnings
 abbrev pub Adds : Warning → Warnings → Warnings → Type 0
 Adds warning before after = ((length before.kept.items < 100)
     × (after.kept.items ≡ before.kept.items ++ warning ∷ []) × (after.more ≡ before.more))
-    ⊎ ((100 ≤ length before.kept.items) × (after.kept.items ≡ before.kept.items) × (before.more ≤ after.more)
-    × (after.more ≢ 0))
+    ⊎ ((100 ≤ length before.kept.items) × (after.kept.items ≡ before.kept.items)
+    × (after.more ≡ min (before.more + 1) (2 ^ 64 - 1)))
+
+-- The warnings are the same.
+abbrev pub AreSame : Warnings → Warnings → Type 0
+AreSame before after = (after.kept.items ≡ before.kept.items) × (after.more ≡ before.more)
+
+-- The first 100 of all warnings are kept, and the others are counted, up to the largest `usize`.
+pub record Keeps (all : List Warning) (warnings : Warnings) : Type 0 where
+  pub first : warnings.kept.items ≡ take 100 all
+  pub others : warnings.more ≡ min (length all - 100) (2 ^ 64 - 1)
 
 -- The check passed: the document is valid and, if the check is strict, has no warnings.
 abbrev pub LetsPass : Bool → Report → Type 0
@@ -61,11 +70,6 @@ Reports mismatch report = HasPath mismatch.path report
 abbrev pub PointsInto : Data → FaultReport → Type 0
 PointsInto value report = (mismatch : Mismatch) × IsIn value (read.Mismatch mismatch)
     × Reports mismatch report
-
--- If the report is `Invalid`, its pointer leads to a value that isn't what the report expects there.
-abbrev pub HasPointerInto : Data → Report → Type 0
-HasPointerInto value (Valid _) = Unit {0}
-HasPointerInto value (Invalid report) = PointsInto value report
 
 -- The offset of the place is inside the text, or the text's length.
 abbrev pub IsPlaceIn : List ℕ → TextPlace → Type 0

@@ -64,19 +64,21 @@ members_of [] = no_members
 members_of ((name, None) ∷ entries) = members_of entries
 members_of ((name, Some value) ∷ entries) = member name value (members_of entries)
 
-abbrev pub object_of : List Entry → Json
-object_of entries = object (members_of entries)
+-- The object of the entries that have a value.
+abbrev pub json_object : List Entry → Json
+json_object entries = object (members_of entries)
 
-abbrev pub items_of : List Json → Items
-items_of [] = no_items
-items_of (json ∷ more) = item json (items_of more)
+-- The items of an array of these values.
+abbrev pub json_items : List Json → Items
+json_items [] = no_items
+json_items (json ∷ more) = item json (json_items more)
 
 abbrev pub json_of_count : ℕ → Json
 json_of_count n = number (decimal n)
 
 -- A range by its two offsets.
 abbrev pub json_of_offsets : SourceRange → Json
-json_of_offsets range = array (items_of (json_of_count range.start ∷ json_of_count range.end ∷ []))
+json_of_offsets range = array (json_items (json_of_count range.start ∷ json_of_count range.end ∷ []))
 
 abbrev pub place_entries : TextPlace → List Entry
 place_entries place =
@@ -86,7 +88,7 @@ place_entries place =
     ∷ []
 
 abbrev pub json_of_place : TextPlace → Json
-json_of_place place = object_of (place_entries place)
+json_of_place place = json_object (place_entries place)
 
 -- The members of a report on a fault.
 abbrev pub fault_entries : FaultReport → List Entry
@@ -114,13 +116,13 @@ warning_words UnspelledLiteral = codes "the source doesn't spell this value at t
 warning_words UnknownRoot = codes "no module has this key, so the answer is []"
 
 abbrev pub json_of_warning : Warning → Json
-json_of_warning warning = object_of
+json_of_warning warning = json_object
     ((codes "pointer", Some (string (string_bytes warning.pointer)))
     ∷ (codes "says", Some (string (warning_words warning.kind)))
     ∷ [])
 
 abbrev pub json_of_warnings : List Warning → Json
-json_of_warnings warnings = array (items_of (map json_of_warning warnings))
+json_of_warnings warnings = array (json_items (map json_of_warning warnings))
 
 -- The members of a report without a fault: `warnings` and `more` only if there are any.
 abbrev pub valid_entries : Warnings → List Entry
@@ -131,10 +133,10 @@ valid_entries warnings =
     ∷ []
 
 abbrev pub json_of_fault : FaultReport → Json
-json_of_fault report = object_of (fault_entries report)
+json_of_fault report = json_object (fault_entries report)
 
 abbrev pub json_of_valid : Warnings → Json
-json_of_valid warnings = object_of (valid_entries warnings)
+json_of_valid warnings = json_object (valid_entries warnings)
 
 abbrev pub json_of_report : Report → Json
 json_of_report (Valid warnings) = json_of_valid warnings

@@ -1,6 +1,6 @@
 -- Whether the source of a document spells the values of the document's string literals.
-use Rattle.std.specs.Prelude.{◌≡◌, ◌≢◌, ℕ, ◌⊎◌, List, ◌∷◌, Bool, false, true, Some, All, IsTrue}
-use Rattle.std.specs.List.{Contains}
+use Rattle.std.specs.Prelude.{◌≡◌, ℕ, ◌⊎◌, List, [], ◌∷◌, ◌++◌, Bool, false, true, All, IsTrue}
+use Rattle.std.specs.Prelude.{if◌then◌else◌}
 use Rattle.std.specs.Option.{option_to_list}
 use Rattle.std.specs.Rc.{rc_str_bytes}
 use Rattle.std.specs.String.{string_bytes}
@@ -8,22 +8,23 @@ use Rattle.deno_graph_base.specs.SourceRange.{IsTextRange, slice_of}
 use Rattle.deno_graph_json.specs.declared.error.Step.{Step}
 use Rattle.deno_graph_json.specs.declared.error.Step.TheVariants.{Member}
 use Rattle.deno_graph_source.specs.Node.{kind_of, literal_of, nodes_of}
-use Rattle.deno_graph_source.specs.NodePath.{LeadsTo, NodePath, node_at}
+use Rattle.deno_graph_source.specs.NodePath.{NodePath}
 use Rattle.deno_graph_source.specs.declared.tree.media_type.MediaType.{MediaType}
 use Rattle.deno_graph_source.specs.declared.tree.media_type.MediaType.TheVariants.{Json, Other}
 use Rattle.deno_graph_source.specs.declared.tree.node.Kind.{Kind}
-use Rattle.deno_graph_source.specs.declared.tree.node.Node.{Node}
 use Rattle.deno_graph_source.specs.declared.tree.node.StrLit.{StrLit}
 use Rattle.modinfo_literals.specs.Literal.{Spells}
 use Rattle.modinfo_document.specs.Document.{IsDocumentIn, reads_document}
+use Rattle.modinfo_document.specs.NodeKinds.{KindAt, kinds_of_body}
 use Rattle.modinfo_document.specs.Place.{literal_member, node_path}
 use Rattle.modinfo_document.specs.Pointer.{pointer_text}
-use Rattle.modinfo_document.specs.Report.{HasNone}
+use Rattle.modinfo_document.specs.Report.{HasNone, Keeps}
 use Rattle.modinfo_document.specs.declared.document.Document.{Document}
 use Rattle.modinfo_document.specs.declared.report.Report.{Report}
 use Rattle.modinfo_document.specs.declared.report.Report.TheVariants.{Valid, Invalid}
+use Rattle.modinfo_document.specs.declared.report.warning.ValueWarning.{ValueWarning}
 use Rattle.modinfo_document.specs.declared.report.warning.Warning.{Warning}
-use Rattle.modinfo_document.specs.declared.report.warning.WarningKind.TheVariants.{UnspelledLiteral}
+use Rattle.modinfo_document.specs.declared.report.warning.WarningKind.TheVariants.{UnspelledLiteral, Value}
 use Rattle.modinfo_document.specs.declared.report.warning.Warnings.{Warnings}
 
 -- The literal's range is one of the text, and the text there is a string literal with the literal's value.
@@ -31,9 +32,9 @@ abbrev pub IsSpelledAt : List ℕ → StrLit → Type 0
 IsSpelledAt source literal = IsTextRange source literal.range
     × Spells (slice_of source literal.range) literal.value
 
--- The string literal of the node, if there is one, is spelled.
-abbrev pub IsLiteralSpelled : List ℕ → Node → Type 0
-IsLiteralSpelled source node = All (IsSpelledAt source) (option_to_list (literal_of (kind_of node)))
+-- The string literal of the kind, if there is one, is spelled.
+abbrev pub IsLiteralSpelled : List ℕ → Kind → Type 0
+IsLiteralSpelled source kind = All (IsSpelledAt source) (option_to_list (literal_of kind))
 
 -- Whether sources of the media type have string literals.
 abbrev pub is_code : MediaType → Bool
@@ -44,36 +45,46 @@ is_code _ = true
 -- If the document is one of code, each string literal of its nodes is spelled.
 abbrev pub AreSpelled : Document → Type 0
 AreSpelled document = IsTrue (is_code document.media_type)
-    → All (IsLiteralSpelled (rc_str_bytes document.source)) (nodes_of document.program)
+    → All (λ node. IsLiteralSpelled (rc_str_bytes document.source) (kind_of node)) (nodes_of document.program)
 
 -- The path of the string literal of the node with these indices.
 abbrev pub literal_path : Kind → NodePath → List Step
 literal_path kind indices = Member (literal_member kind) ∷ node_path indices
 
--- The warning is about the string literal of the node with these indices.
-abbrev pub IsAbout : Node → NodePath → Warning → Type 0
-IsAbout node indices warning = (warning.kind ≡ UnspelledLiteral)
-    × (string_bytes warning.pointer ≡ pointer_text (literal_path (kind_of node) indices))
-
 -- The source doesn't spell the string literal of the node with these indices, and the warning is about it.
-abbrev pub IsDeserved : List ℕ → NodePath → Warning → Node → Type 0
-IsDeserved source indices warning node = (IsLiteralSpelled source node → ⊥) × IsAbout node indices warning
+pub record IsDeserved (source : List ℕ) (indices : NodePath) (kind : Kind) (warning : Warning) : Type 0 where
+  pub unspelled : IsLiteralSpelled source kind → ⊥
+  pub about : warning.kind ≡ UnspelledLiteral
+  pub pointer : string_bytes warning.pointer ≡ pointer_text (literal_path kind indices)
 
--- No warning is about a string literal.
-abbrev pub HasNoLiteral : Warnings → Type 0
-HasNoLiteral warnings = (warning : Warning) → Contains warnings.kept.items warning
-    → warning.kind ≢ UnspelledLiteral
+-- There is one warning about each string literal of these kinds that isn't spelled, in their order, and no
+-- other.
+abbrev pub AreAbout : List ℕ → List KindAt → List Warning → Type 0
+AreAbout source [] warnings = warnings ≡ []
+AreAbout source (at ∷ later) warnings = (IsLiteralSpelled source at.1 × AreAbout source later warnings)
+    ⊎ ((first : Warning) × (rest : List Warning) × (warnings ≡ first ∷ rest)
+    × IsDeserved source at.0 at.1 first × AreAbout source later rest)
 
--- Of a document of code, each warning about a string literal is about one that the source doesn't spell; and
--- there is one about each of these, if all warnings are kept. Of another document no warning is about one.
+-- The kinds of the nodes of a document of code.
+abbrev pub kinds_of_code : Document → List KindAt
+kinds_of_code document = if is_code document.media_type then kinds_of_body document.program.body else []
+
+-- The warning is about a value.
+abbrev pub IsOfValue : Warning → Type 0
+IsOfValue warning = (value : ValueWarning) × (warning.kind ≡ Value value)
+
+-- All warnings are about values.
+abbrev pub HasOnlyValues : Warnings → Type 0
+HasOnlyValues warnings = (values : List Warning) × All IsOfValue values × Keeps values warnings
+
+-- The warnings are those about values, and after them those about the string literals that the source doesn't
+-- spell.
 pub record WarnsOfEach (document : Document) (warnings : Warnings) : Type 0 where
-  pub deserved : (warning : Warning) → Contains warnings.kept.items warning → warning.kind ≡ UnspelledLiteral
-      → IsTrue (is_code document.media_type) × ((indices : NodePath)
-      × LeadsTo (IsDeserved (rc_str_bytes document.source) indices warning) document.program.body indices)
-  pub complete : IsTrue (is_code document.media_type) → warnings.more ≡ 0 → (indices : NodePath) (node : Node)
-      → node_at document.program.body indices ≡ Some node
-      → IsLiteralSpelled (rc_str_bytes document.source) node
-      ⊎ ((warning : Warning) × Contains warnings.kept.items warning × IsAbout node indices warning)
+  pub values : List Warning
+  pub literals : List Warning
+  pub of_values : All IsOfValue values
+  pub of_literals : AreAbout (rc_str_bytes document.source) (kinds_of_code document) literals
+  pub keeps : Keeps (values ++ literals) warnings
 
 -- A report without a fault is one on a module document. It has a warning about each string literal that isn't
 -- spelled, and without a warning all are.

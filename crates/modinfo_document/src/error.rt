@@ -40,6 +40,11 @@ impl DocumentError {
 }
 
 impl fmt::Display for DocumentError {
+    ghost use Rattle.std.specs.Prelude.{Some};
+    ghost use Rattle.modinfo_document.specs.Error.{error_name};
+
+    ghost output = { λ error. Some (error_name error) };
+
     fn fmt<W: fmt::Write>(&self, f: &mut fmt::Formatter<W>) -> fmt::Result {
         f.write_str(self.name())
     }

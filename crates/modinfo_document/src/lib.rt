@@ -10,6 +10,7 @@ pub mod document;
 pub mod error;
 mod expression;
 mod kind;
+pub mod laws;
 mod literal;
 mod lookup;
 mod media_type;

@@ -11,7 +11,7 @@ ghost use Rattle.modinfo_document.specs.Comments.{reads_entry};
 ghost use Rattle.modinfo_document.specs.Document.{Contents, reads_document};
 ghost use Rattle.modinfo_document.specs.Lookup.{IsCommentAt, side_entries};
 ghost use Rattle.modinfo_document.specs.Place.{comment_path};
-ghost use Rattle.modinfo_document.specs.internal.Lookup.{entry_items, items_of, member_of as member_data};
+ghost use Rattle.modinfo_document.specs.internal.Lookup.{entry_items, member_items, member_of as member_data};
 
 use crate::comments::member_of;
 use deno_graph_json::{Element, Elements, View};
@@ -95,9 +95,9 @@ pub fn member<'a>(value: Element<'a>, name: &str) -> Option<Element<'a>>
 }
 
 /// The elements of the last member of this name.
-#[tactic(auto, unfolding(crate::specs::internal::Lookup::items_of))]
+#[tactic(auto, unfolding(crate::specs::internal::Lookup::member_items))]
 pub fn elements<'a>(value: Element<'a>, name: &str) -> Option<Elements<'a>>
-    ensures { option_map elements_data result ≡ items_of name.now (data_of value.entry) }
+    ensures { option_map elements_data result ≡ member_items name.now (data_of value.entry) }
 {
     member(value, name)?.elements()
 }

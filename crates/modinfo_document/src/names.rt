@@ -1,5 +1,8 @@
 //! The names of the members that a module document may have.
 
+ghost use Rattle.std.specs.Prelude.{◌≡◌, map};
+ghost use Rattle.modinfo_document.specs.Names.{names_of, names_of_node};
+
 /// What an object of a document describes.
 #[derive(Clone, Copy, Debug)]
 pub enum Role<'a> {
@@ -20,7 +23,9 @@ pub enum Role<'a> {
 
 /// The names of the members that an object may have. A node of an unknown kind has those of every
 /// node.
-pub fn member_names(role: Role<'_>) -> &'static [&'static str] {
+pub fn member_names(role: Role<'_>) -> &'static [&'static str]
+    ensures { map (λ name. name.now) result.now ≡ names_of role.entry }
+{
     match role {
         Role::Document => &[
             "specifier",
@@ -40,7 +45,10 @@ pub fn member_names(role: Role<'_>) -> &'static [&'static str] {
     }
 }
 
-fn member_names_of_node(kind: &str) -> &'static [&'static str] {
+#[tactic(auto, unfolding(crate::specs::Kind::named))]
+fn member_names_of_node(kind: &str) -> &'static [&'static str]
+    ensures { map (λ name. name.now) result.now ≡ names_of_node kind.now }
+{
     match kind {
         "ImportDecl" => &[
             "kind",

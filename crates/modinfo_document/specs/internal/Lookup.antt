@@ -11,8 +11,8 @@ member_of name value = do
   get_member name members
 
 -- The items of the array that is the member of this name.
-unfoldable pub items_of : List ℕ → Data → Option Items
-items_of name value = do
+unfoldable pub member_items : List ℕ → Data → Option Items
+member_items name value = do
   found ← member_of name value
   as_array found
 

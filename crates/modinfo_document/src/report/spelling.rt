@@ -1,14 +1,13 @@
 //! Warnings about string literals that the source doesn't spell.
 
-ghost use Rattle.std.specs.Prelude.{◌≡◌, ◌↔◌, All, IfOk, IsTrue, OnOk, Some};
+ghost use Rattle.std.specs.Prelude.{◌≡◌, ◌↔◌, IfOk, IsTrue, OnOk};
+ghost use Rattle.std.specs.Rc.{rc_str_bytes};
 ghost use Rattle.std.specs.String.{string_bytes};
-ghost use Rattle.deno_graph_source.specs.Node.{kind_of, nodes_in};
-ghost use Rattle.deno_graph_source.specs.NodePath.{node_below};
+ghost use Rattle.deno_graph_source.specs.Node.{kind_of};
+ghost use Rattle.modinfo_document.specs.NodeKinds.{kinds_in};
 ghost use Rattle.modinfo_document.specs.Pointer.{pointer_text};
-ghost use Rattle.modinfo_document.specs.Report.{HasNone};
-ghost use Rattle.modinfo_document.specs.Spelling.{AreSpelled, IsLiteralSpelled, IsSpelledAt, is_code};
-ghost use Rattle.modinfo_document.specs.Spelling.{HasNoLiteral, WarnsOfEach, literal_path};
-ghost use Rattle.modinfo_document.specs.internal.Warned.{AddsBelow, Covers, WarnsOfNode};
+ghost use Rattle.modinfo_document.specs.Spelling.{IsSpelledAt, is_code, kinds_of_code, literal_path};
+ghost use Rattle.modinfo_document.specs.internal.Warned.{AddsAbout, WarnsOfKind};
 
 use crate::document::Document;
 use crate::report::place::{literal_member, node_pointer};
@@ -25,8 +24,8 @@ pub fn warn_of_literals(
     document: &Document,
     warnings: &mut Warnings,
 ) -> Result<(), AllocError>
-    ensures none { OnOk result (HasNone warnings.new → HasNone warnings.old × AreSpelled document.now) }
-    ensures each { OnOk result (HasNoLiteral warnings.old → WarnsOfEach document.now warnings.new) }
+    ensures { OnOk result (AddsAbout (rc_str_bytes document.now.source) (kinds_of_code document.now)
+        warnings.old warnings.new) }
 {
     if !is_code(document.media_type) {
         return Ok(());
@@ -56,13 +55,9 @@ fn warn_below(
     path: &mut Vec<usize>,
     warnings: &mut Warnings,
 ) -> Result<(), AllocError>
-    ensures none { OnOk result (HasNone warnings.new
-        → HasNone warnings.old × All (IsLiteralSpelled source.now) (nodes_in node.now)) }
     ensures path { OnOk result (path.new.items ≡ path.old.items) }
     ensures adds { OnOk result
-        (AddsBelow source.now (node_below (Some node.now)) path.old.items warnings.old warnings.new) }
-    ensures covers { OnOk result
-        (Covers source.now (node_below (Some node.now)) path.old.items warnings.new) }
+        (AddsAbout source.now (kinds_in node.now path.old.items) warnings.old warnings.new) }
 {
     warn_of_node(alloc, source, node, path.as_slice(), warnings)?;
     for (number, child) in node.children.as_slice().iter().enumerate() {
@@ -82,7 +77,8 @@ fn warn_of_node(
     path: &[usize],
     warnings: &mut Warnings,
 ) -> Result<(), AllocError>
-    ensures { OnOk result (WarnsOfNode source.now node.now path.now warnings.old warnings.new) }
+    ensures { OnOk result
+        (WarnsOfKind source.now path.now (kind_of node.now) warnings.old warnings.new) }
 {
     let Some(literal) = node.kind.literal() else {
         return Ok(());

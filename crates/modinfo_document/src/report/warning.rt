@@ -1,7 +1,7 @@
 //! Warnings about the values of a document.
 
-ghost use Rattle.std.specs.Prelude.{◌≡◌, ◌↔◌, IfOk, IsTrue, OnOk};
-ghost use Rattle.modinfo_document.specs.Report.{Adds, HasNone, HasOnly};
+ghost use Rattle.std.specs.Prelude.{◌≡◌, ◌↔◌, IfOk, IsTrue, OnErr, OnOk};
+ghost use Rattle.modinfo_document.specs.Report.{Adds, AreSame, HasNone, HasOnly};
 ghost use Rattle.modinfo_document.specs.ReportText.{value_words, warning_words};
 
 use std::alloc::{AllocError, Global};
@@ -118,7 +118,8 @@ impl Warnings {
 
     /// Adds a warning: counts it if 100 are kept, else keeps it. The only error is a failed allocation.
     pub fn push(&mut self, warning: Warning) -> Result<(), AllocError>
-        ensures { OnOk result (Adds warning self.old self.new) }
+        ensures adds { OnOk result (Adds warning self.old self.new) }
+        ensures err { OnErr result (AreSame self.old self.new) }
     {
         if self.kept.len() >= MAX_KEPT {
             self.more = self.more.saturating_add(1);

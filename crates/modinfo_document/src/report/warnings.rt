@@ -2,7 +2,7 @@
 
 ghost use Rattle.std.specs.Prelude.{IfOk};
 ghost use Rattle.modinfo_document.specs.Report.{HasNone};
-ghost use Rattle.modinfo_document.specs.Spelling.{AreSpelled, HasNoLiteral, WarnsOfEach};
+ghost use Rattle.modinfo_document.specs.Spelling.{AreSpelled, HasOnlyValues, WarnsOfEach};
 
 use crate::lookup::{elements, member};
 use crate::report::pointer::pointer_to;
@@ -11,13 +11,51 @@ use crate::report::warning::{MAX_KEPT, ValueWarning, Warning, WarningKind, Warni
 use crate::{Document, Role, member_names};
 use deno_graph_json::{Element, ReferenceToken};
 use std::alloc::{AllocError, Global};
+use std::marker::Model;
 
-/// A value to warn about.
+/// The warnings about values, in the order of reading.
 #[derive(Drop)]
-struct FoundValue {
-    /// The JSON Pointer of the value.
-    pointer: String,
-    warning: ValueWarning,
+struct ValueWarnings {
+    warnings: Warnings,
+}
+
+impl Model for ValueWarnings {
+    ghost use Rattle.modinfo_document.specs.Spelling.{HasOnlyValues};
+    ghost use Rattle.modinfo_document.specs.declared.report.warning.Warnings.{Warnings};
+
+    ghost Value = { Warnings };
+
+    ghost view = { λ values. values.warnings };
+
+    ghost invariant = { λ values. HasOnlyValues values.warnings };
+}
+
+impl ValueWarnings {
+    fn new(alloc: Global) -> ValueWarnings {
+        ValueWarnings {
+            warnings: Warnings::new(alloc),
+        }
+    }
+
+    /// Whether a further warning is only counted.
+    fn is_full(&self) -> bool {
+        self.warnings.kept.len() >= MAX_KEPT
+    }
+
+    /// Adds a warning about the value to which the pointer leads. The only error is a failed allocation.
+    fn push(&mut self, pointer: String, warning: ValueWarning) -> Result<(), AllocError> {
+        self.warnings.push(Warning {
+            pointer,
+            kind: WarningKind::Value(warning),
+        })
+    }
+
+    /// Returns the warnings.
+    fn into_warnings(self) -> Warnings
+        ensures { HasOnlyValues result }
+    {
+        self.warnings
+    }
 }
 
 /// A search for values to warn about.
@@ -27,10 +65,7 @@ struct Survey<'a> {
     source: &'a str,
     /// The steps to the value that is looked at, from the outermost on.
     path: Vec<ReferenceToken<'a>>,
-    /// The first 100 values, in the order of reading.
-    found: Vec<FoundValue>,
-    /// The number of other values.
-    more: usize,
+    found: ValueWarnings,
 }
 
 /// Finds the warnings about a valid document, which was read from the value `root`. The only error is a
@@ -55,31 +90,16 @@ fn warn_of_values(
     root: Element<'_>,
     document: &Document,
 ) -> Result<Warnings, AllocError>
-    ensures { IfOk result HasNoLiteral }
+    ensures { IfOk result HasOnlyValues }
 {
     let mut survey = Survey {
         alloc,
         source: document.source.as_str(),
         path: Vec::new(alloc),
-        found: Vec::new(alloc),
-        more: 0,
+        found: ValueWarnings::new(alloc),
     };
     survey.document(root)?;
-    warnings_of(alloc, survey.found, survey.more)
-}
-
-/// The warnings about these values, and about as many more. The only error is a failed allocation.
-fn warnings_of(alloc: Global, found: Vec<FoundValue>, more: usize) -> Result<Warnings, AllocError>
-    ensures { IfOk result HasNoLiteral }
-{
-    let mut kept = Vec::with_capacity(alloc, found.len())?;
-    for value in found {
-        kept.push(Warning {
-            pointer: value.pointer,
-            kind: WarningKind::Value(value.warning),
-        })?;
-    }
-    Ok(Warnings { kept, more })
+    Ok(survey.found.into_warnings())
 }
 
 impl<'a> Survey<'a> {
@@ -114,14 +134,14 @@ impl<'a> Survey<'a> {
         self.path.pop();
     }
 
-    /// Warns about the value that is looked at.
+    /// Warns about the value that is looked at. A warning that is only counted needs no pointer.
     fn warn(&mut self, warning: ValueWarning) -> Result<(), AllocError> {
-        if self.found.len() >= MAX_KEPT {
-            self.more = self.more.saturating_add(1);
-            return Ok(());
-        }
-        let pointer = pointer_to(self.alloc, self.path.as_slice())?;
-        Ok(self.found.push(FoundValue { pointer, warning })?)
+        let pointer = if self.found.is_full() {
+            String::new(self.alloc)
+        } else {
+            pointer_to(self.alloc, self.path.as_slice())?
+        };
+        self.found.push(pointer, warning)
     }
 
     /// Warns about the member of this name.
