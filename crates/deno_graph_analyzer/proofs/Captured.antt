@@ -66,9 +66,6 @@ look_up_marks true m key other = marked_in m key (source_at m key) refl other
 some_is : {A : Type 0} {x y : A} → Some x ≡ Some y → x ≡ y
 some_is e = cc
 
-no_some : {A : Type 0} {x : A} {B : Type 0} → None ≡ Some x → B
-no_some e = cc
-
 unmarked_text : (input : Input) (source : ParsedModule) → MatchesInput input (marked source)
     → MatchesInput input source
 unmarked_text input source has = record { text = has.text; media_type = has.media_type }

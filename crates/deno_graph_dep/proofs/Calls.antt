@@ -8,7 +8,6 @@ use Rattle.std.proofs.Common.{
   true,
   false,
   ◌&&◌,
-  cond,
   ◌+◌,
   ◌<◌,
   List,
@@ -43,20 +42,13 @@ use Rattle.deno_graph_source.specs.Node.{
 }
 use Rattle.deno_graph_source.specs.declared.tree.node.Arg.{Arg}
 use Rattle.deno_graph_source.specs.declared.tree.node.Callee.{Callee}
-use Rattle.deno_graph_source.specs.declared.tree.node.Callee.TheVariants as callee
 use Rattle.deno_graph_source.specs.declared.tree.node.Kind.{Kind}
 use Rattle.deno_graph_source.specs.declared.tree.node.Kind.TheVariants.{Call}
 use Rattle.deno_graph_source.specs.declared.tree.node.Node.{Node}
 use Rattle.deno_graph_source.proofs.ValidSource.{All-child_nodes, node-holds}
-use Rattle.deno_graph_info.specs.declared.analysis.dynamic_dependency.DynamicDependencyKind.TheVariants as dynamic_kind
 use Rattle.deno_graph_dep.specs.internal.CallSteps.{IsNoModuleCall}
 use Rattle.deno_graph_dep.specs.DependencyKind.{call_kind}
-use Rattle.deno_graph_dep.specs.DependencyRules.{
-  is_dependency_kind,
-  is_dependency,
-  is_module_call,
-  is_require,
-}
+use Rattle.deno_graph_dep.specs.DependencyRules.{is_dependency_kind, is_dependency}
 use Rattle.deno_graph_dep.specs.DescriptorOf.{argument_at, argument_node}
 
 -- a list has a node at each index below its length
@@ -107,16 +99,6 @@ argument_parts callee args children index arg argument at =
         let same : a ≡ b = same_Some a b is in
         (ap (λ (p : Arg × Node). Some p.0) same, ap (λ (p : Arg × Node). Some p.1) same)
 
-no_kind : (callee : Callee) (children : List Node) → call_kind callee children ≡ None
-    → is_module_call callee children ≡ false
-no_kind (callee.Import phase) children none = cc
-no_kind callee.Expr children none = by_name (is_require (option_map kind_of (slice_get children 0))) none
-  where
-    by_name : (b : Bool) → cond b (Some dynamic_kind.Require) None ≡ None → b ≡ false
-    by_name true e = cc
-    by_name false e = refl
-no_kind callee.Super children none = refl
-
 no_argument : (callee : Callee) (args : List Arg) (children : List Node)
     → (0 < length args → callee_count callee < length children) → argument_at callee args children 0 ≡ None
     → is_some (slice_get args 0) ≡ false
@@ -141,9 +123,9 @@ no_module_call node callee args is shaped none =
     subst P (sym is) (by_case none)
   where
     by_case : IsNoModuleCall callee args (children_of node)
-        → (is_module_call callee (children_of node) && is_some (slice_get args 0)) ≡ false
+        → (is_some (call_kind callee (children_of node)) && is_some (slice_get args 0)) ≡ false
     by_case (inl none) =
-        ap (λ b. b && is_some (slice_get args 0)) (no_kind callee (children_of node) none)
+        ap (λ kind. is_some kind && is_some (slice_get args 0)) none
     by_case (inr none) =
-        and_false (is_module_call callee (children_of node)) (is_some (slice_get args 0))
+        and_false (is_some (call_kind callee (children_of node))) (is_some (slice_get args 0))
         (no_argument callee args (children_of node) (first_argument_within node callee args is shaped) none)

@@ -48,11 +48,6 @@ map_map-as : {A B C : Type 0} (f : A → B) (g : B → C) (h : A → C) → ((x 
 map_map-as f g h e [] = refl
 map_map-as f g h e (x ∷ xs) = let a = e x in let b = map_map-as f g h e xs in cc
 
-map-cond : {A B : Type 0} (f : A → B) (b : Bool) (xs ys : List A)
-    → map f (cond b xs ys) ≡ cond b (map f xs) (map f ys)
-map-cond f true xs ys = refl
-map-cond f false xs ys = refl
-
 -- the parts of a node's entries, mapped
 parts_same : {A B C : Type 0} (f : A → C) (g : B → C) (after : Bool) (own inside : List A)
     (here' inside' : List B) → map f own ≡ map g here' → map f inside ≡ map g inside'

@@ -16,7 +16,6 @@ use Rattle.std.proofs.Common.{
   None,
   map,
   slice_get,
-  get_or,
   ap,
   sym,
   refl,
@@ -27,7 +26,7 @@ use Rattle.std.proofs.Common.{
   option_and_then,
   option_map,
 }
-use Rattle.std.proofs.lemmas.List.Elements.{All-head, All-nil, All-cons, All-contains, Contains-get_or}
+use Rattle.std.proofs.lemmas.List.Elements.{All-head, All-nil, All-cons}
 use Rattle.std.proofs.lemmas.Option.{slice_get_within, get_or_from_slice_get, slice_get-map}
 use Rattle.deno_graph_source.specs.Comments.{FiledComments}
 use Rattle.deno_graph_source.specs.Node.{
@@ -56,7 +55,6 @@ use Rattle.deno_graph_source.specs.declared.tree.node.Kind.TheVariants.{
 use Rattle.deno_graph_source.specs.declared.tree.node.Node.{Node}
 use Rattle.deno_graph_source.specs.declared.tree.node.Program.{Program}
 use Rattle.deno_graph_source.specs.declared.tree.node.StrLit.{StrLit}
-use Rattle.deno_graph_source.proofs.Lists.{Contains-map}
 use Rattle.deno_graph_source.proofs.ValidSource.{
   All-child_ranges,
   All-kind_ranges,
@@ -217,13 +215,6 @@ dependency_ranges text program comments descriptors valid are =
     descriptor_ranges text comments are.nodes descriptors are.described
     (λ k node at. let one = dependency_one program.body are.nodes k node are.are_nodes at in
     valid_node text program comments one.0 node valid one.1)
-
--- a property of all members of a mapped list is one of each image
-pub All-of_map : {X Y : Type 0} (P : Y → Type 0) (f : X → Y) (xs : List X) → All P (map f xs)
-    → All (λ x. P (f x)) xs
-All-of_map P f xs all k d below =
-    All-contains P (map f xs) (f (get_or xs k d)) all
-    (Contains-map f xs (get_or xs k d) (Contains-get_or xs k d below))
 
 -- one more node and its descriptor
 pub AreDescriptorsOf-more : (comments : FiledComments) (nodes : List Node) (descriptors : List Descriptor)

@@ -15,8 +15,6 @@ use Rattle.std.proofs.Common.{
   ◌∙◌,
   refl,
   slice_get,
-  cond,
-  option_map,
 }
 use Rattle.std.specs.Prelude.{All, MatchBool, MatchOption, is_some}
 use Rattle.std.proofs.lemmas.Bool.{false≢true}
@@ -24,7 +22,6 @@ use Rattle.deno_graph_source.specs.Comments.{FiledComments}
 use Rattle.deno_graph_source.specs.Node.{kind_of, children_of, nodes_in, IsShaped}
 use Rattle.deno_graph_source.specs.declared.tree.node.Arg.{Arg}
 use Rattle.deno_graph_source.specs.declared.tree.node.Callee.{Callee}
-use Rattle.deno_graph_source.specs.declared.tree.node.Callee.TheVariants as callee
 use Rattle.deno_graph_source.specs.declared.tree.node.Kind.{Kind}
 use Rattle.deno_graph_source.specs.declared.tree.node.Kind.TheVariants.{
   ImportDecl,
@@ -36,16 +33,7 @@ use Rattle.deno_graph_source.specs.declared.tree.node.Kind.TheVariants.{
   Call,
 }
 use Rattle.deno_graph_source.specs.declared.tree.node.Node.{Node}
-use Rattle.deno_graph_info.specs.declared.analysis.dynamic_dependency.DynamicDependencyKind.{
-  DynamicDependencyKind,
-}
-use Rattle.deno_graph_info.specs.declared.analysis.dynamic_dependency.DynamicDependencyKind.TheVariants as dynamic_kind
-use Rattle.deno_graph_dep.specs.DependencyRules.{
-  is_dependency_kind,
-  is_dependency,
-  is_module_call,
-  is_require,
-}
+use Rattle.deno_graph_dep.specs.DependencyRules.{is_dependency_kind, is_dependency}
 use Rattle.deno_graph_dep.specs.DependencyKind.{call_kind}
 use Rattle.deno_graph_dep.specs.Argument.{HasForm, expression}
 use Rattle.deno_graph_dep.specs.Descriptor.{
@@ -61,17 +49,6 @@ use Rattle.deno_graph_dep.specs.DescriptorOf.{IsDescriptorOf, IsDescriptorOfKind
 
 both : (a b : Bool) → a ≡ true → b ≡ true → (a && b) ≡ true
 both a b e f = rw (e, f)
-
--- a call that has a kind calls `import` or `require`
-module_call : (callee : Callee) (children : List Node) (kind : DynamicDependencyKind)
-    → call_kind callee children ≡ Some kind → is_module_call callee children ≡ true
-module_call (callee.Import phase) children kind is = refl
-module_call callee.Expr children kind is = by_name (is_require (option_map kind_of (slice_get children 0))) is
-  where
-    by_name : (b : Bool) → cond b (Some dynamic_kind.Require) None ≡ Some kind → b ≡ true
-    by_name true e = refl
-    by_name false e = cc
-module_call callee.Super children kind is = cc
 
 kind_from_descriptor : (comments : FiledComments) (node : Node) (kind : Kind) (descriptor : Descriptor)
     → IsDescriptorOfKind comments node kind descriptor
@@ -90,8 +67,8 @@ kind_from_descriptor comments node (ImportType arg has_with) descriptor describe
 kind_from_descriptor comments node (ModuleDecl None) descriptor describes = absurd describes
 kind_from_descriptor comments node (ModuleDecl (Some name)) descriptor describes = describes.0
 kind_from_descriptor comments node (Call callee args) descriptor describes =
-    both (is_module_call callee (children_of node)) (is_some (slice_get args 0))
-    (module_call callee (children_of node) describes.kind describes.is_kind) (ap is_some describes.is_arg)
+    both (is_some (call_kind callee (children_of node))) (is_some (slice_get args 0))
+    (ap is_some describes.is_kind) (ap is_some describes.is_arg)
 kind_from_descriptor comments node _ descriptor describes = absurd describes
 
 pub dependency_from_descriptor : (comments : FiledComments) (node : Node) (descriptor : Descriptor)

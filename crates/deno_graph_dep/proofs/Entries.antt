@@ -10,11 +10,9 @@ use Rattle.std.proofs.Common.{
   false,
   cond,
   map,
-  sym,
   ap,
   ◌∙◌,
   refl,
-  append_assoc,
 }
 use Rattle.std.specs.List.{flat_map}
 use Rattle.deno_graph_source.specs.Node.{children_of}
@@ -49,11 +47,3 @@ entries_at-pieces rules own node =
     entries_at-is rules own node ∙
     ap (λ inside. cond after [] (own node) ++ inside ++ cond after (own node) [])
     (flat_map-unless (entries_at rules own) (rules.is_closed node) (children_of node))
-
--- appending three lists
-pub appended_thrice : {A : Type 0} (old one two new first inside last all : List A) → one ≡ old ++ first
-    → two ≡ one ++ inside → new ≡ two ++ last → all ≡ first ++ inside ++ last → new ≡ old ++ all
-appended_thrice old one two new first inside last all a b c d =
-    c ∙ ap (λ xs. xs ++ last) (b ∙ ap (λ xs. xs ++ inside) a) ∙
-    (ap (λ xs. xs ++ last) (append_assoc old first inside) ∙ append_assoc old (first ++ inside) last) ∙
-    ap (λ xs. old ++ xs) (sym d)

@@ -59,20 +59,6 @@ pub record AreReturned (comments : FiledComments) (first walk : WalkState) (desc
   pub at_paths : map Some nodes ≡ map (dependency_at first.program.body) given
   pub described : AreDescriptorsOf comments nodes descriptors
 
-pub AreReturned-none : (comments : FiledComments) (walk : WalkState)
-    → IsListing dependency_rules walk.program.body walk.to_come
-    → AreReturned comments walk walk []
-AreReturned-none comments walk is =
-    record {
-      same_program = refl;
-      is_listing = is;
-      given = [];
-      rest = refl;
-      nodes = [];
-      at_paths = refl;
-      described = tt;
-    }
-
 -- the node at the first path still to come is a dependency
 dependency_next : (comments : FiledComments) (first walk : WalkState) (descriptors : List Descriptor)
     (path : NodePath)

@@ -2,24 +2,19 @@
 use Rattle.std.proofs.Common.{
   ◌≡◌,
   ℕ,
-  zero,
   suc,
   ◌+◌,
-  ◌<◌,
   Bool,
   true,
   false,
   not,
-  cond,
   List,
   [],
   ◌∷◌,
-  length,
   Some,
   None,
   slice_get,
   refl,
-  ap,
   arith,
   All,
   MatchBool,
@@ -39,7 +34,6 @@ use Rattle.deno_graph_base.specs.JsString.{lossy_text}
 use Rattle.deno_graph_base.specs.declared.text.position.SourceRange.{SourceRange}
 use Rattle.deno_graph_source.specs.declared.tree.node.Arg.{Arg}
 use Rattle.deno_graph_source.specs.declared.tree.node.Callee.{Callee}
-use Rattle.deno_graph_source.specs.declared.tree.node.Callee.TheVariants as callee
 use Rattle.deno_graph_source.specs.declared.tree.node.Kind.{Kind}
 use Rattle.deno_graph_source.specs.declared.tree.node.Kind.TheVariants.{
   ImportDecl,
@@ -59,7 +53,6 @@ use Rattle.deno_graph_source.specs.declared.tree.node.StrLit.{StrLit}
 use Rattle.deno_graph_info.specs.declared.analysis.dynamic_dependency.DynamicDependencyKind.{
   DynamicDependencyKind,
 }
-use Rattle.deno_graph_info.specs.declared.analysis.dynamic_dependency.DynamicDependencyKind.TheVariants as dynamic_kind
 use Rattle.deno_graph_info.specs.declared.analysis.import_attributes.ImportAttributes.{ImportAttributes}
 use Rattle.deno_graph_info.specs.declared.analysis.import_attributes.ImportAttributes.TheVariants as attributes
 use Rattle.deno_graph_info.specs.declared.analysis.static_dependency.StaticDependencyKind.{StaticDependencyKind}
@@ -71,9 +64,8 @@ use Rattle.deno_graph_dep.specs.DependencyKind.{
   export_kind,
   import_equals_kind,
   import_kind,
-  phase_kind,
 }
-use Rattle.deno_graph_dep.specs.DependencyRules.{is_dependency_kind, is_dependency, is_module_call}
+use Rattle.deno_graph_dep.specs.DependencyRules.{is_dependency_kind, is_dependency}
 use Rattle.deno_graph_dep.specs.Descriptor.{Descriptor, dynamic_descriptor, static_descriptor}
 use Rattle.deno_graph_dep.specs.DependencyNodes.{dependencies_below}
 use Rattle.deno_graph_dep.specs.DescriptorOf.{
@@ -123,19 +115,17 @@ some_specified comments node kind range literal is_side_effect AreAttributes giv
 none_given : (given : ImportAttributes) × AreNoAttributes given
 none_given = (attributes.None, refl)
 
-some_kind : (callee : Callee) (children : List Node) → is_module_call callee children ≡ true
-    → (kind : DynamicDependencyKind) × (call_kind callee children ≡ Some kind)
-some_kind (callee.Import phase) children is = (phase_kind phase, refl)
-some_kind callee.Expr children is =
-    (dynamic_kind.Require, ap (λ b. cond b (Some dynamic_kind.Require) None) is)
-some_kind callee.Super children is = absurd (false≢true is)
+some_kind : (kind : Option DynamicDependencyKind) → is_some kind ≡ true
+    → (given : DynamicDependencyKind) × (kind ≡ Some given)
+some_kind None is = absurd (false≢true is)
+some_kind (Some kind) is = (kind, refl)
 
 some_dynamic : (comments : FiledComments) (node : Node) (callee : Callee) (arg : Arg) (others : List Arg)
-    → kind_of node ≡ Call callee (arg ∷ others) → is_module_call callee (children_of node) ≡ true
+    → kind_of node ≡ Call callee (arg ∷ others) → is_some (call_kind callee (children_of node)) ≡ true
     → AllShaped node → (descriptor : Descriptor) × IsDynamicDescriptorOf comments node callee (arg ∷ others)
     descriptor
 some_dynamic comments node callee arg others is called shaped =
-    let kind = some_kind callee (children_of node) called in
+    let kind = some_kind (call_kind callee (children_of node)) called in
     let within = first_argument_within node callee (arg ∷ others) is shaped (omega arith) in
     let argument = node_within (children_of node) (callee_count callee + 0) (omega (arith, within)) in
     let form =
@@ -190,10 +180,10 @@ some_at comments node (ModuleDecl (Some name)) is holds shaped =
     AreNoAttributes none_given in
     (described.0, (holds, described.1))
 some_at comments node (Call callee []) is holds shaped =
-    absurd (false≢true (and_parts (is_module_call callee (children_of node)) false holds).1)
+    absurd (false≢true (and_parts (is_some (call_kind callee (children_of node))) false holds).1)
 some_at comments node (Call callee (arg ∷ others)) is holds shaped =
     some_dynamic comments node callee arg others is
-    (and_parts (is_module_call callee (children_of node)) true holds).0 shaped
+    (and_parts (is_some (call_kind callee (children_of node))) true holds).0 shaped
 some_at comments node _ is holds shaped = absurd (false≢true holds)
 
 pub some_descriptor : (comments : FiledComments) (node : Node) → is_dependency node ≡ true

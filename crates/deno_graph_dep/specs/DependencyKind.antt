@@ -7,15 +7,19 @@ use Rattle.std.specs.Prelude.{
   Option,
   Some,
   None,
+  codes,
   option_map,
   slice_get,
   if◌then◌else◌,
 }
+use Rattle.std.specs.Str.{bytes_eq}
 use Rattle.deno_graph_source.specs.Node.{kind_of}
 use Rattle.deno_graph_source.specs.declared.tree.node.Callee.{Callee}
 use Rattle.deno_graph_source.specs.declared.tree.node.Callee.TheVariants as callee
 use Rattle.deno_graph_source.specs.declared.tree.node.ImportPhase.{ImportPhase}
 use Rattle.deno_graph_source.specs.declared.tree.node.ImportPhase.TheVariants.{Evaluation, Source, Defer}
+use Rattle.deno_graph_source.specs.declared.tree.node.Kind.{Kind}
+use Rattle.deno_graph_source.specs.declared.tree.node.Kind.TheVariants.{Ident}
 use Rattle.deno_graph_source.specs.declared.tree.node.Node.{Node}
 use Rattle.deno_graph_info.specs.declared.analysis.dynamic_dependency.DynamicDependencyKind.{
   DynamicDependencyKind,
@@ -23,7 +27,11 @@ use Rattle.deno_graph_info.specs.declared.analysis.dynamic_dependency.DynamicDep
 use Rattle.deno_graph_info.specs.declared.analysis.dynamic_dependency.DynamicDependencyKind.TheVariants as dynamic_kind
 use Rattle.deno_graph_info.specs.declared.analysis.static_dependency.StaticDependencyKind.{StaticDependencyKind}
 use Rattle.deno_graph_info.specs.declared.analysis.static_dependency.StaticDependencyKind.TheVariants as static_kind
-use Rattle.deno_graph_dep.specs.DependencyRules.{is_require}
+
+-- whether the kind is that of the identifier `require`
+abbrev pub is_require : Option Kind → Bool
+is_require (Some (Ident name)) = bytes_eq name (codes "require")
+is_require _ = false
 
 -- the kind of a call of `import` with this phase
 abbrev pub phase_kind : ImportPhase → DynamicDependencyKind

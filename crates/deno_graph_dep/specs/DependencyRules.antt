@@ -9,11 +9,9 @@ use Rattle.std.specs.Prelude.{
   not,
   ◌&&◌,
   ◌||◌,
-  Option,
   Some,
   None,
   is_some,
-  option_map,
   slice_get,
   if◌then◌else◌,
   codes,
@@ -21,11 +19,8 @@ use Rattle.std.specs.Prelude.{
   ◌==◌,
 }
 use Rattle.std.specs.List.{list_any, starts_with}
-use Rattle.std.specs.Str.{bytes_eq}
 use Rattle.deno_graph_base.specs.JsString.{lossy_text}
 use Rattle.deno_graph_source.specs.Node.{kind_of, children_of}
-use Rattle.deno_graph_source.specs.declared.tree.node.Callee.{Callee}
-use Rattle.deno_graph_source.specs.declared.tree.node.Callee.TheVariants as callee
 use Rattle.deno_graph_source.specs.declared.tree.node.Kind.{Kind}
 use Rattle.deno_graph_source.specs.declared.tree.node.Kind.TheVariants.{
   ImportDecl,
@@ -35,9 +30,9 @@ use Rattle.deno_graph_source.specs.declared.tree.node.Kind.TheVariants.{
   ImportType,
   ModuleDecl,
   Call,
-  Ident,
 }
 use Rattle.deno_graph_source.specs.declared.tree.node.Node.{Node}
+use Rattle.deno_graph_dep.specs.DependencyKind.{call_kind}
 use Rattle.deno_graph_dep.specs.Listing.{Rules}
 
 -- the kinds of closed nodes: nothing inside them is read
@@ -59,26 +54,14 @@ is_relative name =
     || starts_with nat_eq name (codes "../")
     || starts_with nat_eq name (codes "/")
 
--- the byte `*`
-abbrev pub star : ℕ
-star = 42
+-- whether a name has a `*`, whose byte is 42
+abbrev pub has_star : List ℕ → Bool
+has_star name = list_any (λ byte. byte == 42) name
 
 -- whether a module declaration with this name may add to a module; a name with `*` is a pattern for
 -- many modules, unless it begins like a path
 abbrev pub may_name_module : List ℕ → Bool
-may_name_module name = not (list_any (λ byte. byte == star) name) || is_relative name
-
--- whether the kind is that of the identifier `require`
-abbrev pub is_require : Option Kind → Bool
-is_require (Some (Ident name)) = bytes_eq name (codes "require")
-is_require _ = false
-
--- whether a call with this callee and these children calls `import` or `require`; a callee that is an
--- expression is the first child
-abbrev pub is_module_call : Callee → List Node → Bool
-is_module_call (callee.Import phase) children = true
-is_module_call callee.Expr children = is_require (option_map kind_of (slice_get children 0))
-is_module_call callee.Super children = false
+may_name_module name = not (has_star name) || is_relative name
 
 -- Whether a node of this kind with these children is a dependency: an import declaration, an import
 -- type, an export with a specifier, an `import name = require("..")`, a module declaration that may
@@ -92,7 +75,7 @@ is_dependency_kind (ImportType arg has_with) children = true
 is_dependency_kind (ModuleDecl None) children = false
 is_dependency_kind (ModuleDecl (Some name)) children = may_name_module (lossy_text name.value)
 is_dependency_kind (Call callee args) children =
-    is_module_call callee children && is_some (slice_get args 0)
+    is_some (call_kind callee children) && is_some (slice_get args 0)
 is_dependency_kind _ children = false
 
 -- whether a node of this kind comes after the dependencies inside it

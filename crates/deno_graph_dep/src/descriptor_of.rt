@@ -8,7 +8,6 @@ ghost use Rattle.deno_graph_source.specs.Node.{callee_count, children_of, nodes_
 ghost use Rattle.deno_graph_dep.specs.Argument.{form_seen};
 ghost use Rattle.deno_graph_dep.specs.Attributes.{AreDeclarationAttributes};
 ghost use Rattle.deno_graph_dep.specs.internal.CallSteps.{IsNoModuleCall};
-ghost use Rattle.deno_graph_dep.specs.DependencyKind.{call_kind, export_kind, import_equals_kind, import_kind, phase_kind};
 ghost use Rattle.deno_graph_dep.specs.DependencyRules.{is_dependency, may_name_module};
 ghost use Rattle.deno_graph_dep.specs.Descriptor.{descriptor_seen, static_descriptor, static_descriptor_seen};
 ghost use Rattle.deno_graph_dep.specs.DescriptorOf.{argument_at, specified_descriptor, with_clause, ArgumentHasForm, AreNoAttributes, IsDescriptorOf, IsDynamicDescriptorOf, IsStaticDescriptorOf, AreTypeAttributes};
@@ -18,12 +17,13 @@ use crate::attributes::{
     parse_dynamic_import_attributes, parse_import_attributes,
     parse_import_attributes_from_object_lit,
 };
+use crate::dependency_kind::{call_kind, export_kind, import_equals_kind, import_kind};
 use crate::descriptor::{
     DependencyDescriptor, DynamicDependencyDescriptor, StaticDependencyDescriptor,
 };
-use crate::is_dependency::{begins_with_require, may_name_module};
-use deno_graph_info::analysis::{DynamicDependencyKind, ImportAttributes, StaticDependencyKind};
-use deno_graph_source::tree::{Arg, Callee, Comments, ImportPhase, Kind, Node, StrLit};
+use crate::is_dependency::may_name_module;
+use deno_graph_info::analysis::{ImportAttributes, StaticDependencyKind};
+use deno_graph_source::tree::{Arg, Callee, Comments, Kind, Node, StrLit};
 use std::alloc::{AllocError, Global};
 
 /// Returns the descriptor of a node, or `None` where the node is no dependency. Fails only if
@@ -214,35 +214,6 @@ fn argument_known<'a>(
     }
 }
 
-/// Returns the kind of a call with this callee and these children, or `None` where the call is none
-/// of `import` or `require`.
-fn call_kind(callee: Callee, children: &[Node]) -> Option<DynamicDependencyKind>
-    ensures { result ≡ call_kind callee children.now }
-{
-    match callee {
-        Callee::Import(phase) => Some(phase_kind(phase)),
-        Callee::Expr => {
-            if begins_with_require(children) {
-                Some(DynamicDependencyKind::Require)
-            } else {
-                None
-            }
-        }
-        Callee::Super => None,
-    }
-}
-
-/// Returns the kind of a call of `import` with this phase.
-fn phase_kind(phase: ImportPhase) -> DynamicDependencyKind
-    ensures { result ≡ phase_kind phase }
-{
-    match phase {
-        ImportPhase::Evaluation => DynamicDependencyKind::Import,
-        ImportPhase::Source => DynamicDependencyKind::ImportSource,
-        ImportPhase::Defer => DynamicDependencyKind::ImportDefer,
-    }
-}
-
 /// Returns how many of a call's children are its callee.
 fn callee_count(callee: Callee) -> usize
     ensures count { result ≡ callee_count callee }
@@ -288,39 +259,5 @@ fn with_clause(node: &Node) -> Option<&Node>
         node.children.as_slice().first()
     } else {
         None
-    }
-}
-
-/// Returns the kind of an import declaration.
-fn import_kind(type_only: bool, phase: ImportPhase) -> StaticDependencyKind
-    ensures { result ≡ import_kind type_only phase }
-{
-    match (type_only, phase) {
-        (true, _) => StaticDependencyKind::ImportType,
-        (false, ImportPhase::Evaluation) => StaticDependencyKind::Import,
-        (false, ImportPhase::Source) => StaticDependencyKind::ImportSource,
-        (false, ImportPhase::Defer) => StaticDependencyKind::ImportDefer,
-    }
-}
-
-/// Returns the kind of an export with a specifier.
-fn export_kind(type_only: bool) -> StaticDependencyKind
-    ensures { result ≡ export_kind type_only }
-{
-    if type_only {
-        StaticDependencyKind::ExportType
-    } else {
-        StaticDependencyKind::Export
-    }
-}
-
-/// Returns the kind of an `import name = require(..)`.
-fn import_equals_kind(type_only: bool, is_export: bool) -> StaticDependencyKind
-    ensures { result ≡ import_equals_kind type_only is_export }
-{
-    match (type_only, is_export) {
-        (true, _) => StaticDependencyKind::ImportType,
-        (false, true) => StaticDependencyKind::ExportEquals,
-        (false, false) => StaticDependencyKind::ImportEquals,
     }
 }

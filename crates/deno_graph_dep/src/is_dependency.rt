@@ -2,11 +2,11 @@
 //! around it.
 #![tactic(auto, unfolding(crate::proofs::Unfolded::node_meaning))]
 
-ghost use Rattle.std.specs.Prelude.{◌≡◌, Some, option_map, slice_get};
-ghost use Rattle.deno_graph_source.specs.Node.{kind_of, children_of};
-ghost use Rattle.deno_graph_dep.specs.DependencyRules.{is_closed, is_dependency, is_after_inside, is_module_call, is_relative, is_require, may_name_module};
+ghost use Rattle.std.specs.Prelude.{◌≡◌};
+ghost use Rattle.deno_graph_dep.specs.DependencyRules.{is_closed, is_dependency, is_after_inside, is_relative, may_name_module};
 
-use deno_graph_source::tree::{Callee, Kind, Node};
+use crate::dependency_kind::call_kind;
+use deno_graph_source::tree::{Kind, Node};
 
 /// Returns whether a node is a dependency, by its kind and its children.
 pub fn is_dependency(node: &Node) -> bool
@@ -18,7 +18,7 @@ pub fn is_dependency(node: &Node) -> bool
         Kind::ImportEquals { external, .. } => external.is_some(),
         Kind::ModuleDecl { name: Some(name) } => may_name_module(name.value.to_str_lossy()),
         Kind::Call { callee, args } => {
-            is_module_call(*callee, node.children.as_slice()) && args.get(0).is_some()
+            call_kind(*callee, node.children.as_slice()).is_some() && args.get(0).is_some()
         }
         _ => false,
     }
@@ -38,37 +38,6 @@ fn is_relative(name: &str) -> bool
 {
     let bytes = name.as_bytes();
     bytes.starts_with(b"./") || bytes.starts_with(b"../") || bytes.starts_with(b"/")
-}
-
-/// Returns whether a call with this callee and these children calls `import` or `require`.
-fn is_module_call(callee: Callee, children: &[Node]) -> bool
-    ensures { result ≡ is_module_call callee children.now }
-{
-    match callee {
-        Callee::Import(_) => true,
-        Callee::Expr => begins_with_require(children),
-        Callee::Super => false,
-    }
-}
-
-/// Returns whether the first of these nodes is the identifier `require`.
-pub(crate) fn begins_with_require(nodes: &[Node]) -> bool
-    ensures { result ≡ is_require (option_map kind_of (slice_get nodes.now 0)) }
-{
-    match nodes.first() {
-        Some(node) => is_require(node),
-        None => false,
-    }
-}
-
-/// Returns whether a node is the identifier `require`.
-fn is_require(node: &Node) -> bool
-    ensures { result ≡ is_require (Some (kind_of node.now)) }
-{
-    match &node.kind {
-        Kind::Ident(name) => name.as_str() == "require",
-        _ => false,
-    }
 }
 
 /// Returns whether the nodes inside a node of this kind are left unread.

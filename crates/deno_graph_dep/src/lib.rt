@@ -5,6 +5,7 @@
 pub mod argument;
 pub mod attributes;
 mod collector;
+mod dependency_kind;
 pub mod descriptor;
 mod descriptor_of;
 pub mod is_dependency;

@@ -15,16 +15,6 @@ dependencies_named (string s) = refl
 dependencies_named (array ds) = refl
 dependencies_named (object ms) = refl
 
-pub comments_named : (d : Data)
-    → comments_in d ≡ (get (codes "leadingComments") d >>= reads_array reads_stored_comment)
-unfolding comments_in member_at
-comments_named null = refl
-comments_named (boolean b) = refl
-comments_named (number n) = refl
-comments_named (string s) = refl
-comments_named (array ds) = refl
-comments_named (object ms) = refl
-
 -- a value that is no object has no comments
 pub no_comments : (d : Data) → as_object d ≡ None → comments_in d ≡ None
 unfolding comments_in

@@ -12,9 +12,7 @@ use Rattle.std.proofs.Common.{
   true,
   false,
   slice_get,
-  Option,
   Some,
-  None,
   Result,
   Ok,
   Err,
@@ -26,16 +24,7 @@ use Rattle.std.proofs.Common.{
   subst,
 }
 use Rattle.std.proofs.lemmas.Result.{err_from_is_err_and}
-use Rattle.serde_json.specs.Data.{Data}
-use Rattle.std.specs.Prelude.{codes, List}
-use Rattle.deno_graph_info.specs.declared.analysis.specifier_with_range.SpecifierWithRange.{SpecifierWithRange}
-use Rattle.deno_graph_info.specs.Conversion.{
-  without_value_at,
-  with_types,
-  comments_in,
-  IsConvertedDependency,
-  DependencyOverflows,
-}
+use Rattle.std.specs.Prelude.{List}
 use Rattle.deno_graph_info.specs.internal.ConvertFault.{IsColumnFault}
 use Rattle.deno_graph_base.specs.declared.text.position.PositionRange.{PositionRange}
 use Rattle.deno_graph_pragmas.specs.Finders.{deno_types_pattern, quoteless_deno_types_pattern}
@@ -70,20 +59,6 @@ pub exits_column : {A : Type 0} (P Q : Type 0) (fault : ConvertFault) (answer : 
     → IfErr answer (IsColumnFault Q)
 exits_column P Q fault answer on is h =
     let p = err_from_is_err_and answer is in rw (p.1, p.2) (column_fault-on P Q fault on h)
-
--- a dependency with comments that can be read
-pub converted_with : (d after : Data) (comments : List Comment) (types : Option SpecifierWithRange)
-    → comments_in d ≡ Some comments → AreTypes comments types
-    → after ≡ without_value_at (codes "leadingComments") (with_types types d)
-    → IsConvertedDependency d after
-converted_with d after comments types is are made = rw is (types, are, made)
-
-pub converted_without : (d after : Data) → comments_in d ≡ None → after ≡ d → IsConvertedDependency d after
-converted_without d after is made = rw is made
-
-pub overflows_with : (d : Data) (comments : List Comment) → comments_in d ≡ Some comments
-    → HasNoColumn comments → DependencyOverflows d
-overflows_with d comments is h = rw is h
 
 -- ---- the result of the finder
 

@@ -301,19 +301,6 @@ module _ {V : Type 0} where
     work = one.work;
   }
 
-  -- before the first dependency
-  pub grows-none : (ms : Modules) (reached : List (List ℕ × V)) (pending : List ModuleInfo)
-      → Grows ms (NamesIn []) reached reached pending pending
-  grows-none ms reached pending = record {
-    kept = λ k h. h;
-    named = λ k h known. absurd (omega (arith, h.1.1));
-    added = λ k h. inl h;
-    pending_kept = λ info h. h;
-    pending_added = λ k info h is. inl h;
-    pending_known = λ info h. inl h;
-    work = omega arith;
-  }
-
   -- ---- the dependencies of a module, one by one
 
   -- a dependency with a specifier is visited

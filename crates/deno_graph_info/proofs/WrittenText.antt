@@ -1,5 +1,5 @@
 -- Values and members that are written, one after another.
-use Rattle.std.proofs.Common.{◌≡◌, ℕ, ◌^◌, ◌<◌, ◌≤◌, ◌++◌, List, [], ◌∷◌, None, Bool, true, false, ℤ, pos}
+use Rattle.std.proofs.Common.{◌≡◌, ℕ, ◌^◌, ◌<◌, ◌≤◌, ◌++◌, List, [], ◌∷◌, None, Bool, true, ℤ, pos}
 use Rattle.std.proofs.Common.{negsuc, SFits, w64}
 use Rattle.std.proofs.Common.{codes, decimal, refl, sym, ap, ap₂, subst, ◌∙◌, append_assoc, append-nil}
 use Rattle.std.proofs.Common.{arith, if◌then◌else◌}
@@ -9,7 +9,7 @@ use Rattle.json.specs.Json as json
 use Rattle.json.specs.Tree.{items_tokens, members_tokens}
 use Rattle.serde_json.proofs.Numbers.{number_of-decimal, number_of-negative}
 use Rattle.serde_json.proofs.Texts.{unless_float-number_of}
-use Rattle.serde_json.specs.Data.{Data, Items, Members, array, depth, item, member, members_depth, negative}
+use Rattle.serde_json.specs.Data.{Data, Items, Members, array, item, member, members_depth, negative}
 use Rattle.serde_json.specs.Data.{no_items, no_members, number, object, unsigned}
 use Rattle.serde_json.specs.Written.{items_outline, members_outline}
 use Rattle.deno_graph_json.proofs.Texts.{with_tokens-twice}
@@ -133,22 +133,8 @@ module _ (names : Test) (k : List ℕ) (d : Data) (left rest : Members) (first :
       so_far (subst AreReadable (sym (chosen_first true is)) (readable_member k d
       (chosen names rest) here more))
 
-  pub passed_text : (old whole : Text) → passes names k ≡ false
-      → with_tokens (member_tokens (chosen names left)) old ≡ whole
-      → with_tokens (member_tokens (chosen names rest)) old ≡ whole
-  passed_text old whole is so_far =
-      ap (λ ms. with_tokens (member_tokens ms) old) (sym (chosen_first false is)) ∙ so_far
-
-  pub passed_readable : (whole : Members) → passes names k ≡ false
-      → (AreReadable (chosen names left) → AreReadable whole) → AreReadable (chosen names rest)
-      → AreReadable whole
-  passed_readable whole is so_far more = so_far (subst AreReadable (sym (chosen_first false is)) more)
-
   pub depth_next : (all : ℕ) → members_depth left ≤ all → members_depth rest ≤ all
   depth_next all h = omega (arith, h, ap members_depth first)
-
-  pub depth_first : (all : ℕ) → members_depth left ≤ all → depth d ≤ all
-  depth_first all h = omega (arith, h, ap members_depth first)
 
 -- ---- items
 
@@ -176,18 +162,8 @@ pub items_readable : (ds left : Items) → left ≡ no_items → (AreReadableIte
     → AreReadableItems ds
 items_readable ds left none so_far = so_far (subst AreReadableItems (sym none) refl)
 
-pub members_readable : (ms left : Members) (names : Test) → left ≡ no_members
-    → (AreReadable (chosen names left) → AreReadable ms) → AreReadable ms
-members_readable ms left names none so_far =
-    so_far (subst (λ l. AreReadable (chosen names l)) (sym none) refl)
-
 pub with_nothing : (text : Text) → with_tokens [] text ≡ text
 with_nothing text = ap (λ ts. (text.0, ts)) (append-nil text.1)
-
-pub members_passed : (left : Members) (names : Test) (new whole : Text) → left ≡ no_members
-    → with_tokens (member_tokens (chosen names left)) new ≡ whole → new ≡ whole
-members_passed left names new whole none so_far =
-    sym (with_nothing new) ∙ ap (λ l. with_tokens (member_tokens (chosen names l)) new) (sym none) ∙ so_far
 
 -- all members are chosen where there is no test
 pub all_chosen : (ms : Members) → chosen (record { above = None; below = None; except = None }) ms ≡ ms

@@ -13,14 +13,6 @@ use Rattle.deno_graph_jsdoc.specs.JsDocGrammar.{ends_ident}
 abbrev none_from : ℕ → ℕ → Type 0
 none_from low count = agree_below (λ k. is_alphabetic (low + k)) (λ _. false) count ≡ true
 
-controls : none_from 9 5
-unfolding is_alphabetic alphabetic_ranges in_ranges
-controls = refl
-
-quads : none_from 8192 11
-unfolding is_alphabetic alphabetic_ranges in_ranges
-quads = refl
-
 in_range : (low count c : ℕ) → none_from low count → low ≤ c → c < low + count → is_alphabetic c ≡ false
 in_range low count c none from below =
     let sum : low + (c - low) ≡ c = omega arith in

@@ -273,9 +273,6 @@ Paren = Is (codes ")")
 pub Paren-solid : (text : List ℕ) → Paren text → IsSolid text
 Paren-solid text is = subst IsSolid (sym is) refl
 
-abbrev Close : Unit {0} → List ℕ → Type 0
-Close _ = IsSpace · Paren
-
 -- the arguments end with options, or without
 pub tail_apart : {after rest : List ℕ} {mode : Mode} → EndsArguments after mode rest
     → Begins (IsOptions mode · IsSpace · Paren) (skip_leading_whitespace after) rest

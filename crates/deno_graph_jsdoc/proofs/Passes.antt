@@ -68,9 +68,6 @@ module _ (text front before after : List ℕ) (cut : IsCut front)
   pub next_cut : IsCut next
   next_cut = inr (front ++ before, sym (append_assoc front before word))
 
-  pub next_front : IsFront text next
-  next_front = (after, next_whole)
-
   pub next_longer : length front < length next
   next_longer = omega (arith, length-append front (before ++ word), length-append before word)
 

@@ -42,9 +42,6 @@ inside (a ∷ b ∷ c ∷ d ∷ e ∷ []) rest after same some short =
     omega (arith, heads)
 inside (a ∷ b ∷ c ∷ d ∷ e ∷ f ∷ more) rest after same some short = omega arith
 
-length-word : length word ≡ 6
-length-word = refl
-
 -- an occurrence that begins before a cut ends before it
 no_overlap : (front rest before after : List ℕ) → IsCut front → front ++ rest ≡ before ++ (word ++ after)
     → length before < length front

@@ -257,20 +257,3 @@ split_word word input (Some x) utf8 ascii utf8_front
         let sooner : length (encodes before) < i = omega
         (arith, left, right, ap (λ t. length (encodes t)) same, length-le-encodes (c ∷ cs), front_size) in
         absurd (found.0 (length (encodes before)) sooner (encodes ((c ∷ cs) ++ chars x.1.now)) here)
-
--- a mark that a text contains
-pub mark_inside : (mark : ℕ) (text : List ℕ) → IsUtf8 text → mark < 128
-    → (i : ℕ) × (j : ℕ) × FindsChar mark text (Some (i, j)) × (i ≤ j) × (j ≤ length text)
-    → (inside : List ℕ) × (beyond : List ℕ) × (chars text ≡ inside ++ mark ∷ beyond)
-mark_inside mark text utf8 ascii (i, j, found, order, fits) =
-    let at = found.1 in
-    let inside : i < length text = omega (arith, at.ends, len_utf8_bounds mark) in
-    let byte : get_or text i 0 ≡ mark = at.byte ascii in
-    let boundary : IsCharBoundary text i = IsCharBoundary-before_ascii text i inside (omega (arith, byte)) in
-    let after : chars (drop i text) ≡ mark ∷ chars (drop j text) =
-    chars_past_char (drop i text) (drop j text) mark (IsUtf8-drop text i utf8 boundary) at.split in (
-      chars (take i text),
-      chars (drop j text),
-      ap chars (sym (take-append-drop i text)) ∙ chars-append (take i text) (drop i text)
-          (IsUtf8-take text i utf8 boundary) ∙ ap (λ t. chars (take i text) ++ t) after,
-    )

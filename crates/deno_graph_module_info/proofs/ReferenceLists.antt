@@ -9,7 +9,6 @@ use Rattle.std.proofs.Common.{
   Option,
   Some,
   None,
-  refl,
   sym,
   ap,
   subst,
@@ -38,9 +37,6 @@ those-push : {X : Type 0} (each : List (Option X)) (own : Option X)
 those-push [] own = append-nil (option_to_list own)
 those-push (o ∷ each) own = ap (λ t. option_to_list o ++ t) (those-push each own)
     ∙ sym (append_assoc (option_to_list o) (flat_map option_to_list each) (option_to_list own))
-
-pub AreReferences-nil : (source : List ℕ) → AreReferences source [] []
-AreReferences-nil source = record { each = []; of_comments = tt; those = refl }
 
 pub AreReferences-push : (source : List ℕ) (comments : List DependencyComment)
     (references : List TypeScriptReference) (comment : DependencyComment) (own : Option TypeScriptReference)

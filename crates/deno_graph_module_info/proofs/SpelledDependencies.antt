@@ -1,5 +1,5 @@
 -- The arguments of the dependencies of a valid source spell the texts of their expressions.
-use Rattle.std.proofs.Common.{◌≡◌, ℕ, List, [], ◌∷◌, map, refl, sym, ap, subst}
+use Rattle.std.proofs.Common.{ℕ, List, [], ◌∷◌, refl, sym, subst}
 use Rattle.std.specs.List.{AllZip}
 use Rattle.deno_graph_source.specs.Comments.{FiledComments}
 use Rattle.deno_graph_source.specs.Source.{IsValid}
@@ -8,43 +8,16 @@ use Rattle.deno_graph_source.specs.declared.tree.node.Program.{Program}
 use Rattle.deno_graph_info.specs.declared.analysis.dependency.DependencyDescriptor.{DependencyDescriptor}
 use Rattle.deno_graph_info.specs.declared.analysis.specifier_with_range.SpecifierWithRange.{SpecifierWithRange}
 use Rattle.std.specs.Prelude.{Option}
-use Rattle.deno_graph_dep.specs.Argument.{Form, ArgumentPart, text, parts, expression, known, unknown}
 use Rattle.deno_graph_dep.specs.Descriptor.{Descriptor, static_descriptor, dynamic_descriptor}
-use Rattle.deno_graph_dep.specs.SpelledArguments.{SpellsArgument, SpellsIn}
+use Rattle.deno_graph_dep.specs.SpelledArguments.{SpellsIn}
 use Rattle.deno_graph_dep.proofs.SpelledArguments.{dependencies_spell}
-use Rattle.deno_graph_module_info.specs.ModuleInfo.{
-  AreDescribed,
-  Describes,
-  argument_of_form,
-  dependency_of,
-  template_part_of,
-}
-use Rattle.deno_graph_module_info.specs.SpelledDependencies.{
-  SpellDependencies,
-  SpellsDependency,
-  form_said,
-  part_said,
-}
-
-same_part : (p : ArgumentPart) → part_said (template_part_of p) ≡ p
-same_part (known known_text) = refl
-same_part unknown = refl
-
-same_parts : (ps : List ArgumentPart) → map part_said (map template_part_of ps) ≡ ps
-same_parts [] = refl
-same_parts (p ∷ ps) = λ i. same_part p i ∷ same_parts ps i
-
--- the form of the argument made of a form is that form
-same_form : (form : Form) → form_said (argument_of_form form) ≡ form
-same_form (text known_text) = refl
-same_form (parts ps) = ap parts (same_parts ps)
-same_form expression = refl
+use Rattle.deno_graph_module_info.specs.ModuleInfo.{AreDescribed, Describes, dependency_of}
+use Rattle.deno_graph_module_info.specs.SpelledDependencies.{SpellDependencies, SpellsDependency}
 
 spells_as : (source : List ℕ) (node : Node) (item : Descriptor) (types : Option SpecifierWithRange)
     → SpellsIn node item → SpellsDependency node (dependency_of source item types)
 spells_as source node (static_descriptor item) types spells = tt
-spells_as source node (dynamic_descriptor item) types spells =
-    subst (SpellsArgument node) (sym (same_form item.argument)) spells
+spells_as source node (dynamic_descriptor item) types spells = (item.argument, refl, spells)
 
 all_as : (source : List ℕ) (nodes : List Node) (items : List Descriptor)
     (dependencies : List DependencyDescriptor)

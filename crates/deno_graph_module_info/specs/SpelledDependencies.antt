@@ -1,5 +1,5 @@
 -- Arguments of dependencies that spell the texts of their expressions.
-use Rattle.std.specs.Prelude.{List, map}
+use Rattle.std.specs.Prelude.{◌≡◌, List}
 use Rattle.std.specs.List.{AllZip}
 use Rattle.deno_graph_source.specs.declared.tree.node.Node.{Node}
 use Rattle.deno_graph_info.specs.declared.analysis.dependency.DependencyDescriptor.{DependencyDescriptor}
@@ -7,29 +7,16 @@ use Rattle.deno_graph_info.specs.declared.analysis.dependency.DependencyDescript
   Static,
   Dynamic,
 }
-use Rattle.deno_graph_info.specs.declared.analysis.dynamic_argument.DynamicArgument.{DynamicArgument}
-use Rattle.deno_graph_info.specs.declared.analysis.dynamic_argument.DynamicArgument.TheVariants as argument
-use Rattle.deno_graph_info.specs.declared.analysis.dynamic_argument.DynamicTemplatePart.{DynamicTemplatePart}
-use Rattle.deno_graph_info.specs.declared.analysis.dynamic_argument.DynamicTemplatePart.TheVariants as part
-use Rattle.deno_graph_dep.specs.Argument.{Form, ArgumentPart, text, parts, expression, known, unknown}
+use Rattle.deno_graph_dep.specs.Argument.{Form}
 use Rattle.deno_graph_dep.specs.DependencyNodes.{AreDependencyNodes}
 use Rattle.deno_graph_dep.specs.SpelledArguments.{SpellsArgument}
+use Rattle.deno_graph_module_info.specs.ModuleInfo.{argument_of_form}
 
--- a part of a `DynamicArgument` as a part of an argument
-abbrev pub part_said : DynamicTemplatePart → ArgumentPart
-part_said (part.String known_text) = known known_text
-part_said part.Expr = unknown
-
--- a `DynamicArgument` as the form of an argument
-abbrev pub form_said : DynamicArgument → Form
-form_said (argument.String known_text) = text known_text
-form_said (argument.Template ps) = parts (map part_said ps)
-form_said argument.Expr = expression
-
--- the argument of a dynamic dependency spells the text of the call's argument
+-- the argument of a dynamic dependency is that of a form, which spells the text of the call's argument
 abbrev pub SpellsDependency : Node → DependencyDescriptor → Type 0
 SpellsDependency node (Static dependency) = Unit {0}
-SpellsDependency node (Dynamic dependency) = SpellsArgument node (form_said dependency.argument)
+SpellsDependency node (Dynamic dependency) =
+    (form : Form) × (dependency.argument ≡ argument_of_form form) × SpellsArgument node form
 
 -- the argument of each dynamic dependency spells the text of the argument of its call, the node with
 -- the same index in the listing

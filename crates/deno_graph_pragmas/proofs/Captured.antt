@@ -17,7 +17,7 @@ use Rattle.deno_graph_pragmas.specs.Match.{match_part_of}
 use Rattle.deno_graph_pragmas.specs.Piece.{Piece, white_space, any_white_space, keyword, literal, quote}
 use Rattle.deno_graph_pragmas.specs.Piece.{is_quote}
 use Rattle.deno_graph_pragmas.specs.Split.{Pattern, ArePieces, Split, IsCaptured, IsSliceOf, IsInQuotes}
-use Rattle.deno_graph_pragmas.specs.Split.{StartDetermines, HasOnePart, TextPart, byte_count, with_beside}
+use Rattle.deno_graph_pragmas.specs.Split.{StartDetermines, HasOnePart, TextPart, with_beside}
 use Rattle.deno_graph_pragmas.proofs.Barriers.{attribute_apart, quoted_pragma_apart, quoteless_pragma_apart}
 use Rattle.deno_graph_pragmas.proofs.Barriers.{jsx_pragma_apart, source_mapping_url_apart}
 use Rattle.deno_graph_pragmas.proofs.Splits.{IsDetermined, after_before, same_captured}
@@ -43,23 +43,25 @@ same_part one other text start end = λ i. record { text = text i; start = start
 
 -- the bytes of the characters `b` are a slice of the text
 slice_of_chars : (text a b c : List ℕ) → IsUtf8 text → chars text ≡ a ++ (b ++ c)
-    → IsSliceOf text (record { text = encodes b; start = byte_count a; end = byte_count (a ++ b) })
+    → IsSliceOf text
+    (record { text = encodes b; start = length (encodes a); end = length (encodes (a ++ b)) })
 slice_of_chars text a b c utf8 whole =
     let first = cut text a (b ++ c) utf8 whole in
     let second = cut text (a ++ b) c utf8 (whole ∙ sym (append_assoc a b c)) in
-    let size : byte_count (a ++ b) ≡ byte_count a + length (encodes b) =
+    let size : length (encodes (a ++ b)) ≡ length (encodes a) + length (encodes b) =
     ap length (encodes-append a b) ∙ length-append (encodes a) (encodes b) in
-    let span : byte_count (a ++ b) - byte_count a ≡ length (encodes b) = omega (arith, size) in
+    let span : length (encodes (a ++ b)) - length (encodes a) ≡ length (encodes b) = omega (arith, size) in
     let tail : text ≡ encodes a ++ (encodes b ++ encodes c) =
     first.0 ∙ ap (λ t. encodes a ++ t) (encodes-append b c) in
-    let dropped : drop (byte_count a) text ≡ encodes b ++ encodes c =
-    ap (drop (byte_count a)) tail ∙ drop_at (encodes a) (encodes b ++ encodes c) (byte_count a) refl in
+    let dropped : drop (length (encodes a)) text ≡ encodes b ++ encodes c =
+    ap (drop (length (encodes a))) tail
+    ∙ drop_at (encodes a) (encodes b ++ encodes c) (length (encodes a)) refl in
     record {
       start = IsCharBoundary-at_seam text (encodes a) (encodes (b ++ c)) first.0 first.1;
       end = IsCharBoundary-at_seam text (encodes (a ++ b)) (encodes c) second.0 second.1;
       ordered = omega (arith, size);
-      is = sym (take_at (encodes b) (encodes c) (byte_count (a ++ b) - byte_count a) (sym span))
-          ∙ ap (take (byte_count (a ++ b) - byte_count a)) (sym dropped);
+      is = sym (take_at (encodes b) (encodes c) (length (encodes (a ++ b)) - length (encodes a)) (sym span))
+          ∙ ap (take (length (encodes (a ++ b)) - length (encodes a))) (sym dropped);
     }
 
 pub captured_slice : (pattern : Pattern) (text : List ℕ) (part : TextPart) → IsUtf8 text
@@ -72,8 +74,8 @@ captured_slice pattern text part utf8 is =
     split.whole ∙ sym (append_assoc split.before split.front (split.captured ++ tail)) in
     let slice : TextPart = record {
       text = encodes split.captured;
-      start = byte_count head;
-      end = byte_count (head ++ split.captured);
+      start = length (encodes head);
+      end = length (encodes (head ++ split.captured));
     } in
     subst (IsSliceOf text) (same_part slice part (sym is.bytes) (sym is.start) (sym is.end))
     (slice_of_chars text head split.captured tail utf8 whole)
@@ -151,25 +153,26 @@ in_quotes pattern text part utf8 is around =
     ∙ ap (λ t. (head ++ left ∷ []) ++ (split.captured ++ (t ++ split.after))) around.back_is
     ∙ append_assoc head (left ∷ []) (split.captured ++ right ∷ split.after)
     ∙ ap (λ t. head ++ left ∷ t) (sym (append_assoc split.captured (right ∷ []) split.after)) in
-    let first : byte_count (split.before ++ split.front) ≡ byte_count head + 1 = ap byte_count around.front_is
+    let first : length (encodes (split.before ++ split.front)) ≡ length (encodes head) + 1 =
+    ap (λ t. length (encodes t)) around.front_is
     ∙ ap length (encodes-append head (left ∷ [])) ∙ length-append (encodes head) (encodes (left ∷ []))
-    ∙ ap (λ t. byte_count head + length (t ++ [])) (quote_ascii left around.left_quote) in
-    let second : byte_count (split.before ++ split.front ++ split.captured) ≡ byte_count
-    (split.before ++ split.front) + length part.text =
+    ∙ ap (λ t. length (encodes head) + length (t ++ [])) (quote_ascii left around.left_quote) in
+    let second : length (encodes (split.before ++ split.front ++ split.captured))
+    ≡ length (encodes (split.before ++ split.front)) + length part.text =
     ap length (encodes-append (split.before ++ split.front) split.captured)
     ∙ length-append (encodes (split.before ++ split.front)) (encodes split.captured)
-    ∙ ap (λ t. byte_count (split.before ++ split.front) + length t) (sym is.bytes) in
+    ∙ ap (λ t. length (encodes (split.before ++ split.front)) + length t) (sym is.bytes) in
     let bytes : encodes wide ≡ left ∷ (part.text ++ right ∷ []) =
     ap (λ t. t ++ encodes (split.captured ++ right ∷ [])) (quote_ascii left around.left_quote)
     ∙ ap (λ t. left ∷ t) (encodes-append split.captured (right ∷ []) ∙ ap (λ t. encodes split.captured
     ++ (t ++ [])) (quote_ascii right around.right_quote) ∙ ap (λ t. t ++ right ∷ []) (sym is.bytes)) in
     let size : length (left ∷ (part.text ++ right ∷ [])) ≡ length part.text + 2 =
     omega (arith, length-append part.text (right ∷ [])) in
-    let third : byte_count (head ++ wide) ≡ byte_count head + (length part.text + 2) =
+    let third : length (encodes (head ++ wide)) ≡ length (encodes head) + (length part.text + 2) =
     ap length (encodes-append head wide) ∙ length-append (encodes head) (encodes wide)
-    ∙ ap (λ t. byte_count head + length t) bytes ∙ ap (λ n. byte_count head + n) size in
+    ∙ ap (λ t. length (encodes head) + length t) bytes ∙ ap (λ n. length (encodes head) + n) size in
     let slice : TextPart =
-    record { text = encodes wide; start = byte_count head; end = byte_count (head ++ wide) } in
+    record { text = encodes wide; start = length (encodes head); end = length (encodes (head ++ wide)) } in
     record {
       left = left;
       right = right;
@@ -212,9 +215,9 @@ one_part pattern apart text one other first second =
     ap (λ t. t ++ a.front) starts ∙ ap (λ t. b.before ++ t) parts.front in
     same_part one other
     (first.bytes ∙ ap encodes parts.captured ∙ sym second.bytes)
-    (first.start ∙ ap byte_count heads ∙ sym second.start)
-    (first.end ∙ ap (λ t. byte_count (t ++ a.captured)) heads
-    ∙ ap (λ t. byte_count (b.before ++ b.front ++ t)) parts.captured ∙ sym second.end)
+    (first.start ∙ ap (λ t. length (encodes t)) heads ∙ sym second.start)
+    (first.end ∙ ap (λ t. length (encodes (t ++ a.captured))) heads
+    ∙ ap (λ t. length (encodes (b.before ++ b.front ++ t))) parts.captured ∙ sym second.end)
 
 -- a property of the pattern of each finder that captures a part
 of_each : (P : Pattern → Type 0) → ((pattern : Pattern) → IsDetermined pattern → P pattern)

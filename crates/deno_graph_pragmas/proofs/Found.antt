@@ -14,7 +14,6 @@ use Rattle.deno_graph_pragmas.specs.declared.finders.matches.Match.{Match}
 use Rattle.deno_graph_pragmas.specs.Piece.{Piece, IsPiece}
 use Rattle.deno_graph_pragmas.specs.internal.Reading.{after_piece, after_pieces, IsCapturedAt}
 use Rattle.deno_graph_pragmas.specs.Split.{Pattern, ArePieces, Split, HasSplit, TextPart, IsCaptured}
-use Rattle.deno_graph_pragmas.specs.Split.{byte_count}
 use Rattle.deno_graph_pragmas.proofs.ReadPieces.{after_piece-front, after_pieces-front}
 use Rattle.deno_graph_pragmas.proofs.Splits.{IsDetermined, after_before, after_front, front_read}
 use Rattle.deno_graph_pragmas.proofs.Splits.{captured_read, back_read}
@@ -132,12 +131,13 @@ IsCaptured-read pattern text rest before tail part text_utf8 rest_utf8 whole anc
     ∙ sym (append_assoc before split.front (chars rest)) in
     let bytes : text ≡ encodes (before ++ split.front) ++ rest =
     bytes_of text rest (before ++ split.front) text_utf8 rest_utf8 head in
-    let size : length text ≡ byte_count (before ++ split.front) + length rest =
+    let size : length text ≡ length (encodes (before ++ split.front)) + length rest =
     ap length bytes ∙ length-append (encodes (before ++ split.front)) rest in
-    let more : byte_count (before ++ split.front ++ chars part.text) ≡ byte_count (before ++ split.front)
-    + length part.text = ap length (encodes-append (before ++ split.front) (chars part.text))
+    let more : length (encodes (before ++ split.front ++ chars part.text))
+    ≡ length (encodes (before ++ split.front)) + length part.text =
+    ap length (encodes-append (before ++ split.front) (chars part.text))
     ∙ length-append (encodes (before ++ split.front)) (encodes (chars part.text))
-    ∙ ap (λ t. byte_count (before ++ split.front) + length t) (encodes-chars part.text read.utf8) in
+    ∙ ap (λ t. length (encodes (before ++ split.front)) + length t) (encodes-chars part.text read.utf8) in
     record {
       split = split;
       first = first;

@@ -39,7 +39,6 @@ use Rattle.deno_graph_pragmas.specs.Split.{
   HasSplit,
   TextPart,
   IsCaptured,
-  byte_count,
 }
 
 abbrev pub Decided : Type 0 → Type 0
@@ -271,8 +270,8 @@ some_part pattern text = by (some_first pattern (chars text))
     by (inl (split, first)) = inl (
       record {
         text = encode_utf8_all split.captured;
-        start = byte_count (split.before ++ split.front);
-        end = byte_count (split.before ++ split.front ++ split.captured);
+        start = length (encode_utf8_all (split.before ++ split.front));
+        end = length (encode_utf8_all (split.before ++ split.front ++ split.captured));
       },
       record { split = split; first = first; bytes = refl; start = refl; end = refl },
     )

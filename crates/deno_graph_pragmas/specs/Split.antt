@@ -40,10 +40,6 @@ HasSplit pattern text = Split pattern (chars text)
 abbrev pub IsFirst : {pattern : Pattern} {text : List ℕ} → Split pattern text → Type 0
 IsFirst {pattern} {text} split = (other : Split pattern text) → length split.before ≤ length other.before
 
--- the number of bytes of these characters
-abbrev pub byte_count : List ℕ → ℕ
-byte_count text = length (encode_utf8_all text)
-
 -- a part of a text in bytes, and where it begins and ends
 pub record TextPart : Type 0 where
   pub text : List ℕ
@@ -55,8 +51,8 @@ pub record IsCaptured (pattern : Pattern) (text : List ℕ) (part : TextPart) : 
   pub split : Split pattern (chars text)
   pub first : IsFirst split
   pub bytes : part.text ≡ encode_utf8_all split.captured
-  pub start : part.start ≡ byte_count (split.before ++ split.front)
-  pub end : part.end ≡ byte_count (split.before ++ split.front ++ split.captured)
+  pub start : part.start ≡ length (encode_utf8_all (split.before ++ split.front))
+  pub end : part.end ≡ length (encode_utf8_all (split.before ++ split.front ++ split.captured))
 
 -- the part is what lies between its ends, and these are boundaries of the text
 pub record IsSliceOf (text : List ℕ) (part : TextPart) : Type 0 where
