@@ -25,6 +25,11 @@ MatchReport WhenValid WhenInvalid (Invalid fault) = WhenInvalid
 abbrev pub HasNone : Warnings → Type 0
 HasNone warnings = (warnings.kept.items ≡ []) × (warnings.more ≡ 0)
 
+-- A report without a fault has no warnings.
+abbrev pub HasNoWarnings : Report → Type 0
+HasNoWarnings (Valid warnings) = HasNone warnings
+HasNoWarnings (Invalid _) = Unit {0}
+
 -- This warning is kept, and no other.
 abbrev pub HasOnly : Warning → Warnings → Type 0
 HasOnly warning warnings = (warnings.kept.items ≡ warning ∷ []) × (warnings.more ≡ 0)
