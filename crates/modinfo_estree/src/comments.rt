@@ -183,8 +183,8 @@ fn begins_with_semicolon(text: &str) -> bool
     false
 }
 
-/// Returns the comment of a text at a range, or `None` if the text has no comment there. Returns an empty
-/// line comment if the range is none of the text.
+/// Returns the comment of a text at a range, or `None` if the text has a `#!` line or a comment as in HTML
+/// there. Returns an empty line comment if the text doesn't have the range.
 #[tactic(auto, unfolding(crate::specs::Comments::comment_at))]
 fn comment_at(
     alloc: Global,
