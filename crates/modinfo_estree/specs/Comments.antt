@@ -27,7 +27,7 @@ use Rattle.std.specs.Prelude.{
   None,
 }
 use Rattle.std.specs.Str.{chars}
-use Rattle.std.specs.List.{ends_with, filter_map, flat_map, list_any, starts_with}
+use Rattle.std.specs.List.{ends_with, filter_map, flat_map, starts_with}
 use Rattle.deno_graph_base.specs.SourceRange.{slice_of}
 use Rattle.deno_graph_base.specs.declared.text.position.SourceRange.{SourceRange}
 use Rattle.deno_graph_source.specs.declared.tree.comments.CommentKind.{CommentKind}
@@ -40,14 +40,22 @@ use Rattle.modinfo_document.specs.declared.comments.FiledEntry.{FiledEntry}
 use Rattle.modinfo_estree.specs.LastToken.{is_closing, is_name, is_operator, last_byte}
 use Rattle.modinfo_estree.specs.Order.{sorted_by_start}
 use Rattle.modinfo_estree.specs.Range.{is_range, is_text_range, rest_range}
-use Rattle.modinfo_estree.specs.Tokens.{Layout, is_line_break, is_on_line, is_space, token_end, token_start}
+use Rattle.modinfo_estree.specs.Tokens.{
+  Layout,
+  has_line_break,
+  is_line_break,
+  is_on_line,
+  is_space,
+  token_end,
+  token_start,
+}
 use Rattle.modinfo_estree.specs.declared.comments.Place.{Place}
 
 -- The comment of this kind with this range and text.
 abbrev pub comment_with : CommentKind → SourceRange → List ℕ → DependencyComment
 comment_with kind range text = record { kind = kind; range = range; text = text }
 
--- A `*/` stands among the bytes.
+-- A `*/` occurs in the bytes.
 abbrev pub has_close : List ℕ → Bool
 has_close [] = false
 has_close (byte ∷ bytes) = starts_with nat_eq (byte ∷ bytes) (codes "*/") || has_close bytes
@@ -58,10 +66,14 @@ abbrev pub block_text : List ℕ → List ℕ
 block_text rest = let inside = take (length rest - 2) rest in
     if ends_with nat_eq rest (codes "*/") && not (has_close inside) then inside else []
 
--- The bytes begin a `#!` line or a comment as in HTML, which are no comments.
-abbrev pub is_no_comment : List ℕ → Bool
-is_no_comment bytes = starts_with nat_eq bytes (codes "#!")
+-- The bytes begin as a `#!` line or a comment as in HTML does.
+abbrev pub begins_no_comment : List ℕ → Bool
+begins_no_comment bytes = starts_with nat_eq bytes (codes "#!")
     || (starts_with nat_eq bytes (codes "<!--") || starts_with nat_eq bytes (codes "-->"))
+
+-- The bytes are a `#!` line or a comment as in HTML, which are no comments: they begin as such, on one line.
+abbrev pub is_no_comment : List ℕ → Bool
+is_no_comment bytes = begins_no_comment bytes && not (has_line_break bytes)
 
 -- Some characters are at the end of a line: none is left, or the first is a line terminator.
 abbrev pub ends_line : List ℕ → Bool
@@ -71,7 +83,7 @@ ends_line (c ∷ _) = is_line_break c
 -- The range of a line comment is as far as the end of the line: it has no line terminator, and one follows,
 -- or nothing.
 abbrev pub is_whole_line : List ℕ → SourceRange → Bool
-is_whole_line text range = not (list_any is_line_break (chars (slice_of text range)))
+is_whole_line text range = not (has_line_break (slice_of text range))
     && (is_text_range text (rest_range text range.end)
     && ends_line (chars (slice_of text (rest_range text range.end))))
 
@@ -81,7 +93,7 @@ abbrev pub line_comment : List ℕ → SourceRange → List ℕ → DependencyCo
 line_comment text range rest =
     if is_whole_line text range then comment_with Line range rest else comment_with Block range []
 
--- The comment with these bytes. Other bytes that don't begin what is no comment are read as an empty line
+-- The comment with these bytes, none if they are what is no comment. Other bytes are read as an empty line
 -- comment, and the check of the source reports the comment.
 unfoldable pub comment_of : List ℕ → SourceRange → List ℕ → Option DependencyComment
 comment_of text range bytes =

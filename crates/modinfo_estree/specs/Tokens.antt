@@ -26,6 +26,10 @@ use Rattle.deno_graph_base.specs.declared.text.position.SourceRange.{SourceRange
 abbrev pub is_line_break : ℕ → Bool
 is_line_break c = (((c == 0x0A) || (c == 0x0D)) || (c == 0x2028)) || (c == 0x2029)
 
+-- A text has a line terminator.
+abbrev pub has_line_break : List ℕ → Bool
+has_line_break text = list_any is_line_break (chars text)
+
 -- White space or a line terminator of ECMAScript: Unicode's `White_Space` without U+0085, and U+FEFF.
 abbrev pub is_space : ℕ → Bool
 is_space c = (is_whitespace c && not (c == 0x85)) || (c == 0xFEFF)

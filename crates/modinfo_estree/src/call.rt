@@ -99,7 +99,8 @@ impl<'a, 't, 'v> Reading<'a, 't, 'v> {
     #[tactic(auto, unfolding(deno_graph_source::specs::Node::range_of))]
     fn push_callee(&self, callees: Vec<Child>, nodes: &mut Items<Node>) -> Result<(), AllocError>
         ensures { OnOk result (nodes.new ≡ nodes.old
-            ++ map (spec.in_call (source_of self.now.source.now) self.now.range self.now.range) callees.items) }
+            ++ map (spec.in_call (source_of self.now.source.now) self.now.range self.now.range)
+            callees.items) }
     {
         for child in callees {
             let extent = extent_in(self.source, self.range, child.node.range);

@@ -4,7 +4,8 @@ ghost use Rattle.std.specs.Prelude.{◌≡◌, ◌==◌, Bool, IfOk, IfSome, OnO
 ghost use Rattle.std.specs.List.{list_any};
 ghost use Rattle.deno_graph_base.specs.TextMap.{insert_entry};
 ghost use Rattle.deno_graph_json.specs.Data.{data_of, members_data};
-ghost use Rattle.modinfo_estree.specs.internal.Candidates.{AreCandidates, entry_of, has_inside, is_inner, is_named};
+ghost use Rattle.modinfo_estree.specs.internal.Candidates.{AreCandidates, entry_of, has_inside};
+ghost use Rattle.modinfo_estree.specs.internal.Candidates.{is_inner, is_named};
 
 use deno_graph_base::values::TextMap;
 use deno_graph_json::{Element, Members, View};

@@ -2,21 +2,20 @@
 
 ghost use Rattle.std.specs.Prelude.{◌≡◌, ◌-◌, ◌&&◌, true, false, drop, length, nat_eq, take};
 ghost use Rattle.std.specs.Prelude.{IfOk, OnOk, MatchOption};
-ghost use Rattle.std.specs.List.{ends_with, list_any, starts_with};
+ghost use Rattle.std.specs.List.{ends_with, starts_with};
 ghost use Rattle.std.specs.Str.{chars};
 ghost use Rattle.deno_graph_base.specs.SourceRange.{slice_of};
 ghost use Rattle.modinfo_document.specs.Comments.{AreThoseOf};
-ghost use Rattle.modinfo_estree.specs.Comments.{after_space, block_text, block_trails, comment_at, comment_of};
-ghost use Rattle.modinfo_estree.specs.Comments.{comment_with, has_close, is_before_semicolon, is_semicolon};
-ghost use Rattle.modinfo_estree.specs.Comments.{line_trails, place_of, sides_of, trails};
-ghost use Rattle.modinfo_estree.specs.Comments.{ends_line, is_whole_line, trails_token};
+ghost use Rattle.modinfo_estree.specs.Comments.{after_space, block_text, block_trails, comment_at};
+ghost use Rattle.modinfo_estree.specs.Comments.{comment_of, comment_with, ends_line, has_close};
+ghost use Rattle.modinfo_estree.specs.Comments.{is_before_semicolon, is_semicolon, is_whole_line};
+ghost use Rattle.modinfo_estree.specs.Comments.{line_trails, place_of, sides_of, trails, trails_token};
 ghost use Rattle.modinfo_estree.specs.Range.{is_text_range, rest_range};
-ghost use Rattle.modinfo_estree.specs.Tokens.{is_line_break};
 ghost use Rattle.modinfo_estree.specs.internal.Comments.{IsFiled};
 
 use crate::comment_order::is_no_comment;
 use crate::last_token::{is_closing, is_name, is_operator, last_byte};
-use crate::marks::{is_line_break, is_space};
+use crate::marks::{has_line_break, is_line_break, is_space};
 use crate::slice::slice_at;
 use crate::tokens::Tokens;
 use crate::value_ends::ValueEnds;
@@ -25,9 +24,10 @@ use deno_graph_base::values::Text;
 use deno_graph_source::tree::{CommentKind, CommentSide, Comments, DependencyComment};
 use std::alloc::{AllocError, Global};
 
-/// Files the comments at some ranges, in the order of the ranges. Passes over a range where the text has a
-/// `#!` line or a comment as in HTML. Files an empty line comment where the text has no comment or no such
-/// range, so that a check of the source reports the range. `is_empty` says that the text has no token. Fails only if an allocation fails.
+/// Files the comments at some ranges of a text, in the order of the ranges. Passes over a range where the
+/// text has a `#!` line or a comment as in HTML. For a range that the text doesn't have, or where it has no
+/// comment, files an empty comment, so that a check of the source reports the range. `is_empty` says that the
+/// text has no token. Fails only if an allocation fails.
 pub fn file_comments(
     alloc: Global,
     text: &str,
@@ -183,8 +183,8 @@ fn begins_with_semicolon(text: &str) -> bool
     false
 }
 
-/// Returns the comment of a text at a range, or `None` if the text has no comment there. Returns an empty
-/// line comment if the range is none of the text.
+/// Returns the comment of a text at a range, or `None` if the text has a `#!` line or a comment as in HTML
+/// there. Returns an empty line comment if the text doesn't have the range.
 #[tactic(auto, unfolding(crate::specs::Comments::comment_at))]
 fn comment_at(
     alloc: Global,
@@ -199,8 +199,8 @@ fn comment_at(
     }
 }
 
-/// Returns the comment with these bytes of a text, or `None` if they begin a `#!` line or a comment as in HTML.
-/// Other bytes are read as an empty line comment, so that a check of the source reports the comment.
+/// Returns the comment with these bytes of a text, or `None` if they are a `#!` line or a comment as in HTML.
+/// Other bytes are read as an empty comment, so that a check of the source reports the comment.
 #[tactic(auto, unfolding(crate::specs::Comments::comment_of))]
 fn comment_of(
     alloc: Global,
@@ -230,18 +230,6 @@ fn is_whole_line(text: &str, range: SourceRange, bytes: &str) -> bool
     ensures { result ≡ is_whole_line text.now range }
 {
     !has_line_break(bytes) && is_before_line_break(text, range.end)
-}
-
-/// Returns whether a text has a line terminator.
-fn has_line_break(text: &str) -> bool
-    ensures { result ≡ list_any is_line_break (chars text.now) }
-{
-    for c in text.chars() {
-        if is_line_break(c) {
-            return true;
-        }
-    }
-    false
 }
 
 /// Returns whether a line terminator, or the end of the text, is at an offset.
@@ -278,7 +266,8 @@ fn comment_with(
     Ok(Some(DependencyComment { kind, range, text }))
 }
 
-/// Returns the text of a block comment by what follows its `/*`, empty if that has no `*/` or goes on after it.
+/// Returns the text of a block comment by what follows its `/*`, empty if no `*/` follows or more follows its
+/// first `*/`.
 fn block_text(rest: &str) -> &str
     ensures { result.now ≡ block_text rest.now }
 {
@@ -288,7 +277,7 @@ fn block_text(rest: &str) -> &str
     }
 }
 
-/// Returns whether a `*/` stands in a text.
+/// Returns whether a `*/` occurs in a text.
 fn has_close(text: &str) -> bool
     ensures { result ≡ has_close text.now }
 {

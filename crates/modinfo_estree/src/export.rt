@@ -60,7 +60,8 @@ fn decorators_start(
     offsets: &Offsets<'_>,
     members: &Members<'_>,
 ) -> Result<Option<usize>, AllocError>
-    ensures { IfOk result (λ start. start ≡ spec.decorators_start (byte_in offsets.now) (readable members.now)) }
+    ensures { IfOk result (λ start. start
+        ≡ spec.decorators_start (byte_in offsets.now) (readable members.now)) }
 {
     match first_decorator(members) {
         Some(first) => found(read_start(alloc, offsets, first)),
@@ -79,7 +80,8 @@ fn first_decorator<'v>(members: &Members<'v>) -> Option<Element<'v>>
 /// Reads the start of a node.
 #[tactic(auto, using(deno_graph_json::proofs::Reading::reading))]
 fn read_start(alloc: Global, offsets: &Offsets<'_>, value: Element<'_>) -> Result<usize, ReadError>
-    ensures { IsReadResult (data_of value.entry) (spec.start_in (byte_in offsets.now) (data_of value.entry)) result }
+    ensures { IsReadResult (data_of value.entry)
+        (spec.start_in (byte_in offsets.now) (data_of value.entry)) result }
 {
     let members = Members::new(alloc, value)?;
     let range = read_range(offsets, &members)?;

@@ -29,8 +29,8 @@ pub fn each_byte_is_marked()
     ensures lines { (text : List ℕ) → IsUtf8 text → length (breaks text) ≡ length text }
 {}
 
-/// A comment that the text has at the range of the comment is read with its kind and its text, if the range goes
-/// as far as the comment does.
+/// A comment that the text has at the range of the comment is read with its kind and its text, if the range
+/// goes as far as the comment does.
 pub fn each_comment_is_read()
     ensures { (text : List ℕ) → (comment : DependencyComment) → IsSpelled text comment
         → IsWhole text comment → comment_at text comment.range ≡ Some comment }

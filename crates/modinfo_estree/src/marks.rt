@@ -3,7 +3,8 @@
 ghost use Rattle.std.specs.Prelude.{◌≡◌, ◌++◌, ◌||◌, ℕ, IfOk, OnOk, false, replicate, slice_index_or, true};
 ghost use Rattle.std.specs.Char.{len_utf8};
 ghost use Rattle.std.specs.List.{list_any};
-ghost use Rattle.modinfo_estree.specs.Tokens.{breaks, bytes_of, gaps, has_byte, is_line_break, is_space};
+ghost use Rattle.modinfo_estree.specs.Tokens.{breaks, bytes_of, gaps, has_byte, has_line_break};
+ghost use Rattle.modinfo_estree.specs.Tokens.{is_line_break, is_space};
 ghost use Rattle.modinfo_estree.specs.internal.Marks.{AreMarked, breaks_of, gaps_of, is_break, is_gap};
 
 use deno_graph_base::text::SourceRange;
@@ -130,6 +131,18 @@ pub fn is_line_break(c: char) -> bool
     matches!(c, '\n' | '\r' | '\u{2028}' | '\u{2029}')
 }
 
+/// Returns whether a text has a line terminator.
+pub fn has_line_break(text: &str) -> bool
+    ensures { result ≡ has_line_break text.now }
+{
+    for c in text.chars() {
+        if is_line_break(c) {
+            return true;
+        }
+    }
+    false
+}
+
 /// Pushes `mark` for each byte of a character.
 fn push_char(marks: &mut Vec<Mark>, c: char, mark: Mark) -> Result<(), AllocError>
     ensures { OnOk result (marks.new.items ≡ marks.old.items ++ replicate (len_utf8 c) mark) }
@@ -156,7 +169,8 @@ fn mark_ranges(marks: &mut Vec<Mark>, ranges: &[SourceRange])
 
 /// Returns the part of a range after the range `marked`, or the whole range if it starts before `marked`.
 fn part_after(marked: SourceRange, range: SourceRange) -> SourceRange
-    ensures { (at : ℕ) → (has_byte at marked || has_byte at result) ≡ (has_byte at marked || has_byte at range) }
+    ensures { (at : ℕ)
+        → (has_byte at marked || has_byte at result) ≡ (has_byte at marked || has_byte at range) }
 {
     if range.start < marked.start {
         return range;

@@ -173,7 +173,8 @@ fn read_directives(
     members: &Members<'_>,
 ) -> Result<Items<Node>, ReadError>
     ensures { IsReadResult (value_of members.now)
-        (member_or (reads_array (reads_node (source_of source.now) Role.Other)) (codes "directives") [] (readable members.now)) result }
+        (member_or (reads_array (reads_node (source_of source.now) Role.Other)) (codes "directives") []
+        (readable members.now)) result }
 {
     match members.get("directives") {
         Some(_) => read_nodes_at(alloc, source, members, "directives"),

@@ -124,7 +124,8 @@ impl Tokens {
 
 /// Returns for each 32nd offset up to the end the start of the next token.
 fn token_starts(alloc: Global, marks: &[Mark]) -> Result<Vec<usize>, AllocError>
-    ensures { IfOk result (λ starts. starts.items ≡ at_32nds (token_start (gaps_of marks.now)) (length marks.now)) }
+    ensures { IfOk result (λ starts. starts.items
+        ≡ at_32nds (token_start (gaps_of marks.now)) (length marks.now)) }
 {
     let mut start = marks.len();
     let mut starts = vec![in alloc; start; start / STRIDE + 1]?;

@@ -12,8 +12,9 @@ use std::alloc::{AllocError, Global};
 use std::collections::BTreeSet;
 use std::marker::Model;
 
-/// Where such values end: regular expressions without flags, numbers with a dot at the end and tags of JSX, by
-/// the nodes of a tree. Offsets count bytes. Takes room for each of them, and none for other bytes of the text.
+/// The offsets in bytes at which values of a text end that by their last bytes alone could be operators or
+/// dots: regular expressions without flags, numbers with a dot at the end, and tags of JSX, by the nodes of a
+/// tree. Takes memory for each end, none for other bytes of the text.
 #[derive(Drop)]
 pub struct ValueEnds {
     /// The number of offsets of the text, its end among them.

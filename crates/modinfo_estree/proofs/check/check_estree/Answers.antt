@@ -1,18 +1,12 @@
-use Rattle.std.proofs.Common.{Err, Ok, ap}
+use Rattle.std.proofs.Common.{Err, ap}
 use Rattle.modinfo_document.specs.Check.{points_nowhere}
 use Rattle.modinfo_estree.specs.Document.{reads_estree}
-use Rattle.modinfo_document.specs.declared.report.Report.TheVariants.{Invalid}
-use Rattle.modinfo_document.proofs.Reported.{json_reported, verdict_of}
+use Rattle.modinfo_document.proofs.Reported.{json_reported}
 use Rattle.modinfo_estree.proofs.check.check_estree.Goals as goal
 
 -- The value that was read is the value of the text.
 pub returns-in-Ok-clause-report : goal.returns-in-Ok-clause-report
-returns-in-Ok-clause-report c = c.check_tape.ensures c.args.text.now c.in-Ok.ensures.json
-
-pub returns-in-Ok-clause-verdict : goal.returns-in-Ok-clause-verdict
-returns-in-Ok-clause-verdict c =
-    verdict_of reads_estree points_nowhere c.args.text.now c.check_tape.result
-    (c.check_tape.ensures c.args.text.now c.in-Ok.ensures.json)
+returns-in-Ok-clause-report c = c.check_tape.ensures.report c.args.text.now c.in-Ok.ensures.json
 
 pub returns-in-Err-Json-clause-report : goal.returns-in-Err-Json-clause-report
 returns-in-Err-Json-clause-report c =
@@ -21,12 +15,3 @@ returns-in-Err-Json-clause-report c =
     json_reported reads_estree points_nowhere c.args.text.now offset report.field-0
     (c.in-Err-Json.ensures.no_json offset (ap Err c.in-Err-Json.field-0-is)) report.ensures.name
     report.ensures.place
-
-pub returns-in-Err-Json-clause-verdict : goal.returns-in-Err-Json-clause-verdict
-returns-in-Err-Json-clause-verdict c =
-    let report = c.in_ok-json_report_at-in-Err-Json in
-    let offset = c.in-Err-Json.offset in
-    verdict_of reads_estree points_nowhere c.args.text.now (Ok (Invalid report.field-0))
-    (json_reported reads_estree points_nowhere c.args.text.now offset report.field-0
-    (c.in-Err-Json.ensures.no_json offset (ap Err c.in-Err-Json.field-0-is)) report.ensures.name
-    report.ensures.place)

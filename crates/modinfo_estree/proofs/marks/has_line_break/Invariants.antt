@@ -4,7 +4,7 @@ use Rattle.std.specs.List.{list_any}
 use Rattle.std.specs.Str.{IsUtf8, chars}
 use Rattle.std.specs.Str.Iter.{chars_rest}
 use Rattle.modinfo_estree.specs.Tokens.{is_line_break}
-use Rattle.modinfo_estree.proofs.comments.has_line_break.Given as goal
+use Rattle.modinfo_estree.proofs.marks.has_line_break.Given as goal
 
 abbrev pub invariant-loop-c : goal.invariant-loop-c
 invariant-loop-c l = IsUtf8 (chars_rest l.c-iterator)

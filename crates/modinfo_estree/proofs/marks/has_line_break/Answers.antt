@@ -4,7 +4,7 @@ use Rattle.std.specs.List.{list_any}
 use Rattle.std.specs.Str.{chars}
 use Rattle.std.specs.Str.Iter.{chars_rest}
 use Rattle.modinfo_estree.specs.Tokens.{is_line_break}
-use Rattle.modinfo_estree.proofs.comments.has_line_break.Goals as goal
+use Rattle.modinfo_estree.proofs.marks.has_line_break.Goals as goal
 
 -- other characters count for nothing
 passed : (c : ℕ) (cs : List ℕ) → is_line_break c ≡ false
