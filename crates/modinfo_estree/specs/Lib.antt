@@ -10,7 +10,6 @@ pub mod Offsets
 pub mod Order
 pub mod Parentheses
 pub mod Range
-pub mod Report
 pub mod Source
 pub mod Tokens
 pub mod ValueEnds

@@ -7,8 +7,8 @@ ghost use Rattle.url.specs.Parts.{Parts};
 ghost use Rattle.url.specs.Parser.{parse_url};
 ghost use Rattle.modinfo_document.specs.Document.{IsDocumentIn};
 ghost use Rattle.modinfo_document.specs.Check.{IsReportIn, points_nowhere};
+ghost use Rattle.modinfo_document.specs.Report.{HasNoWarnings};
 ghost use Rattle.modinfo_estree.specs.Document.{reads_estree};
-ghost use Rattle.modinfo_estree.specs.Report.{HasNoWarnings};
 
 use crate::document::read_estree;
 use deno_graph_json::{ReadError, Tape, TapeError};

@@ -1,4 +1,4 @@
-use Rattle.std.proofs.Common.{◌≡◌, [], ◌∷◌, ◌++◌, map, take, true, false, if◌then◌else◌, refl, sym, ap, subst, ◌∙◌}
+use Rattle.std.proofs.Common.{◌≡◌, [], ◌∷◌, map, take, true, false, if◌then◌else◌, sym, ap, subst, ◌∙◌}
 use Rattle.modinfo_document.proofs.NodeKinds.{kinds_all, kinds_more}
 use Rattle.modinfo_document.proofs.Warned.{adds_later, adds_nothing, popped, pushed}
 use Rattle.modinfo_document.specs.NodeKinds.{kinds_in, kinds_of_body, kinds_of_items}

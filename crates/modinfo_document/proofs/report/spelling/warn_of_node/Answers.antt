@@ -23,10 +23,10 @@ not_spelled source kind literal is not all =
 
 -- A warning that is added is the one about the kind.
 pushed : (source : List ℕ) (path : NodePath) (kind : Kind) (new : Warning) (before after : Warnings)
-    (answer : Result ⊤ AllocError) → IsDeserved source path kind new → OnOk answer (Adds new before after)
+    (answer : Result ⊤ AllocError) → OnOk answer (Adds new before after) → IsDeserved source path kind new
     → OnOk answer (WarnsOfKind source path kind before after)
-pushed source path kind new before after (Ok done) deserved adds = inr (new, deserved, adds)
-pushed source path kind new before after (Err failed) deserved adds = tt
+pushed source path kind new before after (Ok done) adds deserved = inr (new, deserved, adds)
+pushed source path kind new before after (Err failed) adds deserved = tt
 
 pub returns : goal.returns
 unfolding kind_of
@@ -37,10 +37,9 @@ returns c =
     let is : literal_of kind ≡ Some literal = sym c.in-Some.ensures in
     let not : ¬ (IsSpelledAt source literal) =
     λ spelled. false≢true (sym c.if-branch.false ∙ c.in_ok-is_spelled.ensures.1 spelled) in
-    let deserved = record {
+    pushed source c.args.path.now kind _ c.args.warnings.now c.push.new.self c.push.result c.push.ensures.adds
+    (record {
       unspelled = not_spelled source kind literal is not;
       about = refl;
       pointer = c.in_ok-pointer.ensures;
-    } in
-    pushed source c.args.path.now kind _ c.args.warnings.now c.push.new.self c.push.result deserved
-    c.push.ensures.adds
+    })
