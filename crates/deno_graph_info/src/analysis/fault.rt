@@ -30,6 +30,11 @@ impl InfoFault {
 }
 
 impl fmt::Display for InfoFault {
+    ghost use Rattle.std.specs.Prelude.{Some};
+    ghost use Rattle.deno_graph_info.specs.FaultName.{info_fault_name};
+
+    ghost output = { λ fault. Some (info_fault_name fault) };
+
     fn fmt<W: fmt::Write>(&self, f: &mut fmt::Formatter<W>) -> fmt::Result {
         f.write_str(self.name())
     }

@@ -29,6 +29,11 @@ impl ConvertFault {
 }
 
 impl fmt::Display for ConvertFault {
+    ghost use Rattle.std.specs.Prelude.{Some};
+    ghost use Rattle.deno_graph_info.specs.FaultName.{convert_fault_name};
+
+    ghost output = { λ fault. Some (convert_fault_name fault) };
+
     fn fmt<W: fmt::Write>(&self, f: &mut fmt::Formatter<W>) -> fmt::Result {
         f.write_str(self.name())
     }
