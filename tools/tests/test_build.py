@@ -175,10 +175,8 @@ def test_another_processor(repository: Repository) -> None:
 
 
 def test_stamps_of_the_library(repository: Repository) -> None:
-    """An archive is linked only with a word for what it is, which its stamp repeats. What isn't proved is made anew."""
+    """What isn't proved, by its stamp, is made anew."""
     command = "tools/build_library"
-    status, _, errors = repository.run(command, "--link", "some.a")
-    assert status == 2 and "--link needs --proved or --unchecked" in errors
     stamp = repository.folder / "build/libmodinfo.a.origin"
     repository.run(command)
     assert stamp.read_text().startswith("proved\nsources ")
