@@ -146,32 +146,25 @@ def staged() -> Iterator[None]:
         shutil.rmtree(STAGE, ignore_errors=True)
 
 
-def keep(made: Path, name: str, closure: Closure, kind: str = PROVED) -> None:
-    """Puts a built file into build/, with the time at which the build began, and a stamp of this kind beside it."""
+def keep(made: Path, name: str, closure: Closure) -> None:
+    """Puts a built file into build/, with the time at which the build began, and a stamp beside it."""
     (ROOT / "build" / name).parent.mkdir(exist_ok=True)
     (STAGE / "sources").write_bytes(closure.listing())
     shutil.copy(made, STAGE / "made")
     set_time(STAGE / "made", STAGE / "start")
     os.replace(STAGE / "sources", ROOT / f"build/{name}.sources")
     os.replace(STAGE / "made", ROOT / f"build/{name}")
-    stamp_file(ROOT / "build" / name, kind, closure.checksum())
+    stamp_file(ROOT / "build" / name, PROVED, closure.checksum())
 
 
 def make_current(
-    script: str,
-    closure: Closure,
-    names: list[str],
-    tools: list[str],
-    make: Callable[[Kit], list[Path]],
-    kind: str = PROVED,
+    script: str, closure: Closure, names: list[str], tools: list[str], make: Callable[[Kit], list[Path]]
 ) -> bool:
     """Makes files of build/ where one is missing or older than the sources of a closure. Returns whether it did. `make`
     returns the files, in the order of the names."""
 
     def is_current() -> bool:
-        return all(closure.is_current(name) for name in names) and all(
-            origin(ROOT / "build" / name, sources) in (PROVED, kind) for name in names
-        )
+        return all(closure.is_current(name) and origin(ROOT / "build" / name, sources) == PROVED for name in names)
 
     sources = closure.checksum()
     if is_current():
@@ -184,7 +177,7 @@ def make_current(
             return False
         with staged():
             for name, file in zip(names, make(kit)):
-                keep(file, name, closure, kind)
+                keep(file, name, closure)
     return True
 
 

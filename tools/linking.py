@@ -9,6 +9,7 @@ from sources import ROOT, BuildError
 
 TABLE = ROOT / "docs/commands.json"
 COMMANDS = [row[kind]["function"] for row in json.loads(TABLE.read_text())["commands"] for kind in ("answer", "check")]
+LIBRARIES = ("libmodinfo.a", "libmodinfo.so")
 EXPORTED = [f"modinfo_{function}" for function in (*COMMANDS, "run", "run_lines", "lines", "version")]
 
 

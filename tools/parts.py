@@ -59,22 +59,27 @@ def with_or_without(setup: str, command: str) -> str:
     return f"{{ flock build/test {setup} || [[ $? -eq {UNAVAILABLE} ]]; }} && {command}"
 
 
-PYTEST = "exec /usr/bin/python3 -B -m pytest -q -p no:cacheprovider -r s"
-NODE = "cd bindings/node && exec node --test"
-BROWSER = after("bindings/node/setup", f"{NODE} tests/browser/*.test.mjs")
+def pytest(words: str) -> str:
+    """Tests in Python, by Debian's pytest."""
+    return after("bindings/setup python", f"exec /usr/bin/python3 -B -m pytest -q -p no:cacheprovider -r s {words}")
+
+
+def node(words: str) -> str:
+    """Tests of the package for node, by paths in its folder."""
+    return after("bindings/node/setup", f"cd bindings/node && exec node --test {words}")
+
+
+BROWSER = node("tests/browser/*.test.mjs")
 HAS_BROWSER = f"{{ command -v chromium && command -v chromedriver || exit {UNAVAILABLE}; }}"
 
-# Parts that take long come first.
+# Parts that take long come first, of those that need no build as of the others.
 QUICK = [
-    Part("node", after("bindings/node/setup", f"{NODE} tests/*.test.mjs"), ("modinfo",)),
-    Part("rust", after("bindings/setup rust", "exec bindings/rust/run_tests"), ("libmodinfo",)),
+    Part("rust_lint", after("bindings/setup rust", "exec bindings/rust/run_tests lint")),
+    Part("node", node("tests/*.test.mjs"), ("modinfo",)),
+    Part("rust", after("bindings/setup rust", "exec bindings/rust/run_tests test"), ("libmodinfo",)),
     Part("python", after("bindings/setup python", "exec bindings/python/run_tests"), ("libmodinfo",)),
-    Part(
-        "formats",
-        after("bindings/node/setup", after("bindings/setup python", f"{PYTEST} bindings/tests/test_formats.py")),
-        ("modinfo",),
-    ),
-    Part("texts", after("bindings/node/setup", f"{NODE} tests/differential/rows.mjs"), ("modinfo",)),
+    Part("formats", after("bindings/node/setup", pytest("bindings/tests/test_formats.py")), ("modinfo",)),
+    Part("texts", node("tests/differential/rows.mjs"), ("modinfo",)),
     Part(
         "replay",
         'set -o pipefail; cd crates/test_replay/data && "$TEST_REPLAY" | diff ../stdout -',
@@ -82,37 +87,24 @@ QUICK = [
     ),
     Part("examples", 'exec examples/run "$MODINFO"', ("modinfo",)),
     Part("files", "tools/copy_examples --check && tools/generate_formats --check && tools/set_version --check"),
-    Part("scripts", after("bindings/setup python", f"{PYTEST} tools/tests -m 'not slow'")),
-    Part("header", after("bindings/setup python", f"{PYTEST} packaging/tests/test_header.py")),
-    Part("manual", after("bindings/setup python", f"{PYTEST} packaging/tests/test_manual.py"), ("modinfo",)),
-    Part(
-        "commands",
-        after("bindings/setup python", f"{PYTEST} packaging/tests/test_commands.py packaging/tests/test_program.py"),
-        ("modinfo",),
-    ),
+    Part("scripts", pytest("tools/tests -m 'not slow'")),
+    Part("header", pytest("packaging/tests/test_header.py")),
+    Part("manual", pytest("packaging/tests/test_manual.py"), ("modinfo",)),
+    Part("commands", pytest("packaging/tests/test_commands.py packaging/tests/test_program.py"), ("modinfo",)),
 ]
 UNCHECKED_PARTS = [Part("browser", f"{HAS_BROWSER} && {BROWSER}", ("modinfo",)), *QUICK]
 # Other parts take long, or test what is installed and packed, which is the proved program alone.
 PROVED_PARTS = [
     Part("fail_allocations", "exec crates/test_replay/fail_allocations", ("test_replay",)),
-    Part(
-        "parsers",
-        after(
-            "bindings/node/setup",
-            f"{NODE} tests/differential/gaps.mjs tests/differential/machine.mjs tests/differential/mutations.mjs",
-        ),
-        ("modinfo",),
-    ),
+    Part("parsers", node("tests/differential/{gaps,machine,mutations}.mjs"), ("modinfo",)),
     Part("browser", after("bindings/node/setup_report", BROWSER), ("modinfo",)),
     *QUICK,
-    Part("fresh_clone", after("bindings/setup python", f"{PYTEST} tools/tests -m slow")),
-    Part("library", after("bindings/setup python", f"{PYTEST} packaging/tests/test_library.py"), ("libmodinfo",)),
+    Part("fresh_clone", pytest("tools/tests -m slow")),
+    Part("library", pytest("packaging/tests/test_library.py"), ("libmodinfo",)),
     *(
         Part(
             name,
-            with_or_without(
-                "packaging/setup", after("bindings/setup python", f"{PYTEST} packaging/tests/test_{name}.py")
-            ),
+            with_or_without("packaging/setup", pytest(f"packaging/tests/test_{name}.py")),
             ("modinfo", "libmodinfo"),
         )
         for name in ("install", "package")
@@ -123,6 +115,6 @@ PROVED_PARTS = [
         ("modinfo", "libmodinfo"),
     ),
     Part("embed", "exec examples/embed", ("libmodinfo",)),
-    Part("pages", after("bindings/setup python", f"{PYTEST} bindings/tests/test_pages.py"), ("modinfo", "libmodinfo")),
+    Part("pages", pytest("bindings/tests/test_pages.py"), ("modinfo", "libmodinfo")),
     Part("cluster", after("examples/cluster/setup", "exec examples/cluster/test"), ("modinfo", "libmodinfo")),
 ]

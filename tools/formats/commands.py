@@ -95,26 +95,24 @@ def entries_of_page(entries: list[Entry]) -> Iterator[str]:
             yield in_troff(part)
 
 
-def prototype(name: str, first: str, document: str) -> list[str]:
-    """The lines of a declaration in C. `first` is the parameter before the document, if there is one."""
-    indent = " " * (len("uint8_t ") + len(name) + 1)
-    return [
-        f"uint8_t {name}({first}const uint8_t *{document}, size_t {document}_length,",
-        f"{indent}uint8_t *answer, size_t room, size_t *length)",
-    ]
+def prototype(function: Entry) -> list[str]:
+    """The lines of a declaration in C."""
+    before = f"uint8_t modinfo_{function['function']}("
+    rest = "uint8_t *answer, size_t room, size_t *length)"
+    return [f"{before}const uint8_t *document, size_t document_length,", " " * len(before) + rest]
 
 
 def in_header() -> Iterator[str]:
     for function in functions(OF_DOCUMENTS):
         lines = wrap(f"/* {function['text']} */", 110, subsequent_indent=" * ")
-        first, second = prototype(f"modinfo_{function['function']}", "", "document")
+        first, second = prototype(function)
         yield from ("", *lines, first, f"{second} MODINFO_NONNULL;")
 
 
 def in_manual() -> Iterator[str]:
     parameters = r"\b(document_length|document|answer|room|length)\b"
     for function in functions(OF_DOCUMENTS):
-        for line in prototype(f"modinfo_{function['function']}", "", "document"):
+        for line in prototype(function):
             parts = [part for part in re.split(parameters, line + (";" if line.endswith(")") else "")) if part]
             yield ".BI " + " ".join(f'"{part}"' for part in parts)
 

@@ -23,7 +23,6 @@ class Language:
     COMMENT = "//"
     # Renders the name of a type that is declared later.
     FORWARD = "{}"
-    IMPORTS: list[str] = []
 
     def __init__(self, of: Format) -> None:
         self.format = of
@@ -36,7 +35,7 @@ class Language:
 
     def module(self) -> str:
         """The text of a file with all types."""
-        blocks = [f"{self.COMMENT} {GENERATED} from {self.format.path}.", *self.IMPORTS]
+        blocks = [f"{self.COMMENT} {GENERATED} from {self.format.path}."]
         for schema in self.format.titled():
             name = self.name(schema)
             if name not in {"", *self.declared}:

@@ -4,13 +4,15 @@ endings of their names, and of `data:` URLs by MIME types."""
 import json
 from collections.abc import Iterator
 
+from sources import ROOT
+
 from formats.blocks import Block
 from formats.pages import PAGE, table
-from formats.schema import ROOT, Format
+from formats.schema import Format
+from formats.typescript import MEDIA_TYPES
 
 CRATE = "crates/deno_graph_source/src/tree/media_type"
 RUST = "bindings/rust/src/media_type.rs"
-NODE = "bindings/node/tests/equipment/document/media_types.mjs"
 
 
 def blocks(_: Format, __: Format, ___: Format) -> Iterator[Block]:
@@ -19,7 +21,7 @@ def blocks(_: Format, __: Format, ___: Format) -> Iterator[Block]:
     yield f"{CRATE}/file_name.rt", f"ENDINGS: [(&str, MediaType); {len(endings)}] =", in_rattle(endings)
     yield f"{CRATE}/data_url.rt", f"MIME_TYPES: [(&str, MediaType); {len(mime_types)}] =", in_rattle(mime_types)
     for name, found in ("endings", endings), ("declarations", declarations), ("MIME types", mime_types):
-        yield NODE, name, [f'  ["{key}", "{found[key]}"],' for key in found if found[key] != "Json"]
+        yield MEDIA_TYPES, name, [f'  ["{key}", "{found[key]}"],' for key in found if found[key] != "Json"]
         yield RUST, name, [f"    ({rust_key(key, name)}, MediaType::{found[key]})," for key in found]
     rows = [[f"`{key}`", f"`{endings[key]}`", *declared(endings[key], declarations)] for key in endings]
     yield PAGE, "endings", table("Ending | Media type | Of declarations", rows)

@@ -12,10 +12,10 @@
 
 import json
 from collections.abc import Iterator
-from pathlib import Path
 from typing import Any
 
-ROOT = Path(__file__).resolve().parents[2]
+from sources import ROOT
+
 Schema = dict[str, Any]
 
 

@@ -5,7 +5,7 @@ import shutil
 import signal
 
 import pytest
-from repository import CRATES, Repository, steps
+from repository import CRATES, Repository, copy_tracked, steps
 
 MADE = "modinfo: the proved program is made: build/modinfo\n"
 SLEEP = "echo $$ > $ROOM/process; exec sleep 60"
@@ -175,10 +175,8 @@ def test_another_processor(repository: Repository) -> None:
 
 
 def test_stamps_of_the_library(repository: Repository) -> None:
-    """An archive is linked only with a word for what it is, which its stamp repeats. What isn't proved is made anew."""
+    """What isn't proved, by its stamp, is made anew."""
     command = "tools/build_library"
-    status, _, errors = repository.run(command, "--link", "some.a")
-    assert status == 2 and "--link needs --proved or --unchecked" in errors
     stamp = repository.folder / "build/libmodinfo.a.origin"
     repository.run(command)
     assert stamp.read_text().startswith("proved\nsources ")
@@ -186,3 +184,21 @@ def test_stamps_of_the_library(repository: Repository) -> None:
     stamp.write_text(stamp.read_text().replace("proved", "unchecked", 1))
     assert "modinfo_c" in repository.run(command)[2]
     assert stamp.read_text().startswith("proved\nsources ")
+
+
+def test_what_rt_ci_has_proved(repository: Repository) -> None:
+    """.ci/keep_proved leaves what ./modinfo --prove and tools/build_library do. It proves the library's own crate."""
+    repository.prove()
+    crates = repository.folder / "crates"
+    for crate in "modinfo", "short", "long", "apart", "lowest":
+        (crates / crate / "out").mkdir()
+        (crates / crate / "out/rlib").symlink_to(repository.folder / "build/crates")
+    (crates / "modinfo_cli/out").mkdir()
+    (repository.folder / "build/modinfo").rename(crates / "modinfo_cli/out/modinfo_cli")
+    copy_tracked(repository, ".ci/keep_proved")
+    repository.runs()
+    assert repository.run(".ci/keep_proved") == (0, "", "")
+    assert repository.runs() == ["modinfo_c 1", "modinfo_c 1"]
+    assert repository.is_proved()
+    for words in [], ["--target", "aarch64"]:
+        assert repository.run("tools/build_library", *words) == (0, "", "")

@@ -1,10 +1,7 @@
 """Tests the help of each script, tools/mutations and tools/set_version."""
 
-import os
 import re
-import shutil
 import subprocess
-from pathlib import Path
 
 import pytest
 from repository import Repository, copy_tracked
@@ -50,40 +47,35 @@ def test_scripts_are_found() -> None:
 
 
 @pytest.fixture
-def crates(tmp_path: Path) -> Path:
-    """Three crates, of which two have mutations that CI leaves out, and an rt that prints those that it tries."""
-    folder = tmp_path / "repository"
-    (folder / "tools").mkdir(parents=True)
-    for name in "mutations", "help.bash":
-        shutil.copy(ROOT / "tools" / name, folder / "tools")
-    for crate in "plain", "other", "lowest":
-        (folder / f"crates/{crate}/must-fail").mkdir(parents=True)
-        (folder / f"crates/{crate}/must-fail/tried.edit").touch()
-        if crate != "lowest":
-            (folder / f"crates/{crate}/must-fail-rest").mkdir()
-            (folder / f"crates/{crate}/must-fail-rest/{crate}.edit").touch()
-    (tmp_path / "rt").write_text('#!/bin/sh\necho "$@"\nls crates/*/must-fail/*\nexit "${STATUS:-0}"\n')
-    (tmp_path / "rt").chmod(0o755)
+def mutations(repository: Repository) -> Repository:
+    """A clone with three crates, of which two have mutations that CI leaves out, and an rt that prints those that it
+    tries."""
+    for crate in "short", "long", "lowest":
+        repository.write(f"crates/{crate}/must-fail/tried.edit", "")
+    for crate in "short", "long":
+        repository.write(f"crates/{crate}/must-fail-rest/{crate}.edit", "")
+    copy_tracked(repository, "tools/mutations", "tools/help.bash")
+    repository.put_program(
+        repository.room / "kit/rt", '#!/bin/sh\necho "$@"\nls crates/*/must-fail/*\nexit "${STATUS:-0}"\n'
+    )
     for words in ["init", "-q"], ["add", "."], ["-c", "user.name=a", "-c", "user.email=a", "commit", "-qm", "A test"]:
-        subprocess.run(["git", *words], cwd=folder, check=True)
-    return folder
+        repository.run("git", *words)
+    return repository
 
 
 @pytest.mark.parametrize(
     ("words", "status", "printed"),
     [
-        ([], 0, "ci other plain\ncrates/other/must-fail/other.edit\ncrates/plain/must-fail/plain.edit\n"),
-        (["plain"], 0, "ci plain\ncrates/plain/must-fail/plain.edit\n"),
-        (["plain"], 1, "ci plain\ncrates/plain/must-fail/plain.edit\n"),
+        ([], 0, "ci long short\ncrates/long/must-fail/long.edit\ncrates/short/must-fail/short.edit\n"),
+        (["short"], 0, "ci short\ncrates/short/must-fail/short.edit\n"),
+        (["short"], 1, "ci short\ncrates/short/must-fail/short.edit\n"),
         (["lowest"], 2, "tools/mutations: crates/lowest/must-fail-rest: no such folder\n"),
     ],
 )
-def test_mutations(crates: Path, words: list[str], status: int, printed: str) -> None:
-    environment = {**os.environ, "PATH": f"{crates.parent}:{os.environ['PATH']}", "STATUS": str(status)}
-    command = [crates / "tools/mutations", *words]
-    run = subprocess.run(command, env=environment, stdout=subprocess.PIPE, stderr=subprocess.STDOUT, text=True)
-    assert (run.returncode, run.stdout) == (status, printed)
-    assert not subprocess.run(["git", "status", "--porcelain"], cwd=crates, stdout=subprocess.PIPE, check=True).stdout
+def test_mutations(mutations: Repository, words: list[str], status: int, printed: str) -> None:
+    found, output, errors = mutations.run("tools/mutations", *words, STATUS=str(status))
+    assert (found, output + errors) == (status, printed)
+    assert mutations.run("git", "status", "--porcelain") == (0, "", "")
 
 
 def test_a_new_version(repository: Repository) -> None:

@@ -342,59 +342,62 @@ describe("the package and that of its program", { skip: noNpm && "npm isn't ther
     assert.equal(output(named), block("text"));
   });
 
-  const notBuilt = !existsSync(MODINFO) && "build/modinfo isn't made";
-
-  test("in an empty folder the README's example runs", { skip: notBuilt }, () => {
+  describe("of the tested program", { skip: !existsSync(MODINFO) && "build/modinfo isn't made" }, () => {
     const folder = folderOf({ "src/a.ts": TEXT });
-    npm(["install", ...pack(MODINFO, folder)], folder);
-    const { MODINFO: _, ...env } = process.env;
-    /**
-     * @param {string} program
-     * @param {string[]} words
-     * @param {string} input
-     */
-    const run = (program, words, input) => spawnSync(program, words, { cwd: folder, env, input });
-    const { stdout, stderr } = run(process.execPath, ["--input-type=module"], block("js"));
-    assert.deepEqual([String(stderr), String(stdout)], ["", block("text")]);
-    const files = run(join(folder, "node_modules/.bin/modinfo-files"), ["src"], "");
-    assert.deepEqual(linesOf(String(files.stdout)).map(({ info }) => info), [INFO]);
+
+    before(() => npm(["install", ...pack(MODINFO, folder)], folder));
+
+    test("in an empty folder the README's example runs", () => {
+      const { MODINFO: _, ...env } = process.env;
+      /**
+       * @param {string} program
+       * @param {string[]} words
+       * @param {string} input
+       */
+      const run = (program, words, input) => spawnSync(program, words, { cwd: folder, env, input });
+      const { stdout, stderr } = run(process.execPath, ["--input-type=module"], block("js"));
+      assert.deepEqual([String(stderr), String(stdout)], ["", block("text")]);
+      const files = run(join(folder, "node_modules/.bin/modinfo-files"), ["src"], "");
+      assert.deepEqual(linesOf(String(files.stdout)).map(({ info }) => info), [INFO]);
+    });
+
+    const notStamped = !existsSync(`${MODINFO}.origin`) && `${MODINFO} has no stamp`;
+
+    test("the installed program has the stamp of the build, which is of its bytes", { skip: notStamped }, () => {
+      const installed = join(folder, "node_modules/modinfo-linux-x64");
+      const [kind, sources, file] = readFileSync(join(installed, "modinfo.origin"), "utf8").split("\n");
+      assert.match(kind, /^(?:proved|unchecked)$/);
+      assert.match(sources, /^sources [0-9a-f]{64}$/);
+      const bytes = createHash("sha256").update(readFileSync(join(installed, "modinfo"))).digest("hex");
+      assert.equal(file, `file ${bytes}`);
+    });
   });
 
   test("the package of the program has the stamp beside the program, and no stamp of other bytes", () => {
     const program = standInWithVersion();
     const stamp = `${program}.origin`;
-    const inPackage = (/** @type {string} */ folder, /** @type {string} */ name) => {
+    /** Makes the packages, and returns how to read a file in that of the program; one that isn't there is undefined. */
+    const packed = () => {
+      const folder = folderOf();
       const [, tarball] = pack(program, folder);
-      const path = outputOf("tar", ["--list", "--gzip", "--file", tarball], { cwd: folder }).split("\n")
-        .find((each) => each === `package/${name}`);
-      return path && outputOf("tar", ["--extract", "--to-stdout", "--file", tarball, path], { cwd: folder });
+      const names = outputOf("tar", ["--list", "--gzip", "--file", tarball], { cwd: folder }).split("\n");
+      return (/** @type {string} */ name) => names.includes(`package/${name}`)
+        ? outputOf("tar", ["--extract", "--to-stdout", "--file", tarball, `package/${name}`], { cwd: folder })
+        : undefined;
     };
-    assert.equal(inPackage(folderOf(), "modinfo"), readFileSync(program, "utf8"));
-    assert.equal(inPackage(folderOf(), "modinfo.origin"), undefined);
+    const fileOf = packed();
+    assert.equal(fileOf("modinfo"), readFileSync(program, "utf8"));
+    assert.equal(fileOf("modinfo.origin"), undefined);
     const bytes = createHash("sha256").update(readFileSync(program)).digest("hex");
     for (const kind of ["proved", "unchecked"]) {
       writeFileSync(stamp, `${kind}\nsources 0\nfile ${bytes}\n`);
-      assert.equal(inPackage(folderOf(), "modinfo.origin"), `${kind}\nsources 0\nfile ${bytes}\n`);
+      assert.equal(packed()("modinfo.origin"), `${kind}\nsources 0\nfile ${bytes}\n`);
     }
     writeFileSync(stamp, `proved\nsources 0\nfile ${"0".repeat(64)}\n`);
     const folder = folderOf();
     const { stderr, status } = spawnSync(join(PACKAGE, "pack"), ["--program", program, folder]);
     assert.deepEqual([String(stderr), status], [`bindings/node/pack: ${stamp} is the stamp of another program\n`, 1]);
     assert.deepEqual(readdirSync(folder), []);
-  });
-
-  const stampOf = `${MODINFO}.origin`;
-  const notStamped = (!existsSync(stampOf) && `${MODINFO} has no stamp`) || notBuilt;
-
-  test("the installed program has the stamp of the build, which is of its bytes", { skip: notStamped }, () => {
-    const folder = folderOf();
-    npm(["install", ...pack(MODINFO, folder)], folder);
-    const installed = join(folder, "node_modules/modinfo-linux-x64");
-    const [kind, sources, file] = readFileSync(join(installed, "modinfo.origin"), "utf8").split("\n");
-    assert.match(kind, /^(?:proved|unchecked)$/);
-    assert.match(sources, /^sources [0-9a-f]{64}$/);
-    const bytes = createHash("sha256").update(readFileSync(join(installed, "modinfo"))).digest("hex");
-    assert.equal(file, `file ${bytes}`);
   });
 
   test("a program of another version, and none, are refused", () => {

@@ -1,8 +1,5 @@
 //! What the tests take from the repository.
 
-// Each test uses some of its parts.
-#![allow(dead_code)]
-
 use modinfo::{Command, Fault};
 use serde_json::Value;
 use std::fs;

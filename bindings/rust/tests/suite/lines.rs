@@ -1,9 +1,7 @@
 //! The test cases and examples of one document, many documents at once.
 
-mod repository;
-
+use crate::repository::{examples, test_cases, Call};
 use modinfo::{answer_lines, Command};
-use repository::{examples, test_cases, Call};
 use std::thread;
 
 const COMMANDS: [(&str, Command); 6] = [

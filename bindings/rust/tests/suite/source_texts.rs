@@ -1,10 +1,8 @@
 //! Source texts: those of the examples, and those of the test cases with a document of `analyze --source`.
 
-mod repository;
-
+use crate::repository::{blocks, field, root};
 use modinfo::{check_source, module_info, module_info_json, Fault, MediaType, ModuleInfo};
 use modinfo::{Position, Url};
-use repository::{blocks, field, root};
 use serde_json::Value;
 use std::fs;
 

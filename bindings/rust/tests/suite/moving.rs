@@ -1,9 +1,8 @@
 //! A program over `deno_graph` after the move: only the name of the crate has changed.
 
-mod repository;
-
 use modinfo as deno_graph;
 
+use crate::repository::{blocks, field, root};
 use async_trait::async_trait;
 use deno_graph::analysis::{
     module_graph_1_to_2, DependencyDescriptor, ImportAttribute, ImportAttributes, ModuleAnalyzer,
@@ -12,7 +11,6 @@ use deno_graph::analysis::{
 use deno_graph::ast::DefaultModuleAnalyzer;
 use deno_graph::source::ResolutionMode;
 use deno_graph::{MediaType, ModuleSpecifier, Position, PositionRange};
-use repository::{blocks, field, root};
 use serde_json::{json, Value};
 use std::cell::RefCell;
 use std::collections::HashMap;

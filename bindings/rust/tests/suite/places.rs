@@ -1,5 +1,6 @@
 //! Where the crate finds the library: each in a copy of the crate, in a folder of its own.
 
+use crate::program::{cargo, here, room, write, write_program};
 use std::env;
 use std::fs;
 use std::path::{Path, PathBuf};
@@ -10,13 +11,8 @@ use std::sync::{Mutex, PoisonError};
 fn library() -> PathBuf {
     match env::var_os("MODINFO_LIB_DIR").filter(|folder| !folder.is_empty()) {
         Some(folder) => folder.into(),
-        None => Path::new(env!("CARGO_MANIFEST_DIR")).join("../../build"),
+        None => here().join("../../build"),
     }
-}
-
-/// The folder that all rooms build in, so that the crates below this one are compiled once.
-fn target() -> PathBuf {
-    Path::new(env!("CARGO_TARGET_TMPDIR")).join("target")
 }
 
 /// One room builds and runs its program at a time.
@@ -27,25 +23,15 @@ struct Room(PathBuf);
 
 impl Room {
     fn new(name: &str) -> Room {
-        let room = Path::new(env!("CARGO_TARGET_TMPDIR"))
-            .join("places")
-            .join(name);
-        let _ = fs::remove_dir_all(&room);
-        let here = Path::new(env!("CARGO_MANIFEST_DIR"));
-        copy_files(
-            here,
-            &room.join("modinfo"),
-            &["Cargo.toml", "build.rs", "MOVING.md", "README.md"],
-        );
-        let sources: Vec<_> = names(&here.join("src"));
+        let room = room(name);
+        let files = ["Cargo.toml", "build.rs", "MOVING.md", "README.md"];
+        copy_files(here(), &room.join("modinfo"), &files);
+        let sources = names(&here().join("src"));
         let sources: Vec<_> = sources.iter().map(String::as_str).collect();
-        copy_files(&here.join("src"), &room.join("modinfo/src"), &sources);
-        write(
-            &room.join("program/Cargo.toml"),
-            "[package]\nname = \"program\"\nversion = \"0.1.0\"\nedition = \"2021\"\n\n[dependencies]\nmodinfo = { path = \"../modinfo\" }\n\n[workspace]\n",
-        );
-        write(
-            &room.join("program/src/main.rs"),
+        copy_files(&here().join("src"), &room.join("modinfo/src"), &sources);
+        write_program(
+            &room.join("program"),
+            Path::new("../modinfo"),
             "fn main() {\n    print!(\"{} {}\", modinfo::version(), modinfo::analyze_json(b\"\").unwrap_err().fault());\n}\n",
         );
         Room(room)
@@ -53,13 +39,8 @@ impl Room {
 
     fn cargo(&self, folder: &str, words: &[&str], environment: &[(&str, &Path)]) -> Output {
         let _building = BUILDING.lock().unwrap_or_else(PoisonError::into_inner);
-        Command::new(env!("CARGO"))
-            .args(words)
-            .args(["--offline", "--target-dir"])
-            .arg(target())
-            .current_dir(self.0.join(folder))
+        cargo(&self.0.join(folder), words)
             .env_remove("MODINFO_LIB_DIR")
-            .env_remove("CARGO_TARGET_DIR")
             .env("PKG_CONFIG_LIBDIR", self.0.join("none"))
             .env("PKG_CONFIG_PATH", self.0.join("pkgconfig"))
             .envs(environment.iter().copied())
@@ -93,11 +74,6 @@ fn names(folder: &Path) -> Vec<String> {
         .collect()
 }
 
-fn write(path: &Path, text: &str) {
-    fs::create_dir_all(path.parent().expect("a folder")).expect("a folder");
-    fs::write(path, text).expect("a file");
-}
-
 fn copy_files(from: &Path, to: &Path, names: &[&str]) {
     fs::create_dir_all(to).expect("a folder");
     for name in names {
@@ -121,8 +97,7 @@ fn a_folder_of_the_crate() {
 #[test]
 fn the_crate_as_one_file() {
     let room = Room::new("file");
-    let here = Path::new(env!("CARGO_MANIFEST_DIR"));
-    let made = Command::new(here.join("make_crate"))
+    let made = Command::new(here().join("make_crate"))
         .arg(&room.0)
         .env(
             "MODINFO_LIB_DIR",

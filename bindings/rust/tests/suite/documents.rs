@@ -1,12 +1,10 @@
 //! The types of documents and reports: each test case is read and written back.
 
-mod repository;
-
+use crate::repository::{examples, test_cases};
 use modinfo::{
     analyze, analyze_json, check, ByteRange, DocumentNode, Fault, ImportPhase, MediaType,
     ModuleDocument, ModuleInfo, NodeKind, ProgramTree, Report, StringLiteral,
 };
-use repository::{examples, test_cases};
 use serde_json::Value;
 
 #[test]

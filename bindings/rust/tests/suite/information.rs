@@ -1,15 +1,13 @@
 //! The types of what `analyze` returns: what is found in each example and test case, and in generated documents, is read and
 //! written back.
 
-mod repository;
-
+use crate::repository::{examples, root, test_cases, Call};
 use modinfo::{
     DependencyDescriptor, DynamicArgument, DynamicDependencyKind, DynamicTemplatePart,
     ImportAttribute, ImportAttributes, JsDocImportInfo, ModuleInfo, Position, PositionRange,
     SpecifierWithRange, StaticDependencyDescriptor, StaticDependencyKind, TypeScriptReference,
     TypeScriptTypesResolutionMode,
 };
-use repository::{examples, root, test_cases, Call};
 use std::process::Command;
 
 fn read(json: &str) -> ModuleInfo {

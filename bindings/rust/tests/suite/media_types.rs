@@ -1,9 +1,7 @@
 //! Media types: which one a specifier has, and their numbers.
 
-mod repository;
-
+use crate::repository::{blocks, field, root};
 use modinfo::{MediaType, TypeScriptTypesResolutionMode, Url};
-use repository::{blocks, field, root};
 use std::fs;
 
 /// The lines `answer MEDIATYPE URL` of the test cases.

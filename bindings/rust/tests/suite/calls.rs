@@ -1,12 +1,10 @@
 //! The examples and the test cases, one by one and in many threads at once.
 
-mod repository;
-
+use crate::repository::{blocks, examples, field, root, test_cases};
 use modinfo::{
     analyze_estree, analyze_json, check, check_convert, check_estree, check_reach, convert, reach,
     Fault,
 };
-use repository::{blocks, examples, field, root, test_cases};
 use std::collections::BTreeSet;
 use std::sync::Barrier;
 use std::{fs, thread};
@@ -54,7 +52,7 @@ fn the_test_cases_have_each_fault_but_that_of_memory() {
         .inspect(|fault| assert!(!matches!(fault, Fault::Unknown(_)), "{fault}"))
         .map(|fault| fault.to_string())
         .collect();
-    let source = include_str!("../src/fault.rs");
+    let source = include_str!("../../src/fault.rs");
     let (_, lines) = source.split_once("faults! {").expect("the list");
     let (lines, _) = lines.split_once('}').expect("its end");
     let lines = lines

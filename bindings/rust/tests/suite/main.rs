@@ -1,0 +1,15 @@
+//! The tests of the crate, but those of memory. They are one program, which is compiled and linked once.
+
+mod calls;
+mod check;
+mod documents;
+mod estree;
+mod information;
+mod lines;
+mod media_types;
+mod moving;
+mod places;
+mod program;
+mod readme;
+mod repository;
+mod source_texts;
