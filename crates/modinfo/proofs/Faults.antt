@@ -1,9 +1,11 @@
 -- The faults of a document, by the step that failed.
 use Rattle.std.proofs.Common.{◌≡◌, ◌≢◌, ◌∙◌, inl, inr, ℕ, List, Option, Some, None, refl, subst, sym}
-use Rattle.std.proofs.Common.{Result, Ok, Err, MatchResult, String, Global, string_bytes}
+use Rattle.std.proofs.Common.{IsUtf8, Result, Ok, Err, MatchResult, String, Global, string_bytes}
 use Rattle.serde_json.specs.Data.{Data, Members}
 use Rattle.serde_json.specs.Read.{read as read_text}
 use Rattle.deno_graph_base.specs.TextMap.{entries_of}
+use Rattle.deno_graph_json.specs.declared.error.ReadError.{ReadError}
+use Rattle.deno_graph_json.specs.declared.error.ReadError.TheVariants as read
 use Rattle.deno_graph_json.specs.declared.flat.error.TapeError.{TapeError}
 use Rattle.deno_graph_json.specs.declared.flat.error.TapeError.TheVariants as tape
 use Rattle.modinfo_document.specs.declared.error.DocumentError.{DocumentError}
@@ -27,12 +29,13 @@ use Rattle.modinfo.specs.Fault.{
   IsWriteFault,
   fault_of_conversion,
   fault_of_document,
-  fault_of_info,
+  fault_of_error,
+  fault_of_question,
   fault_of_tape,
 }
-use Rattle.modinfo.specs.Reach.{Asks, IsFirstFault, IsNoQuestion, IsQuestionFault, Question, reads_question}
-use Rattle.modinfo.specs.internal.Reach.{IsNoInfos, IsQuestionOf}
-use Rattle.modinfo.specs.declared.reach.Question.{Question as Asked}
+use Rattle.modinfo.specs.Reach.{IsQuestionFault}
+use Rattle.modinfo.specs.internal.Reach.{IsErrorIn, IsFaultIn}
+use Rattle.modinfo.specs.declared.reach.QuestionError.{QuestionError}
 use Rattle.modinfo.specs.declared.command.Command.{Command}
 use Rattle.modinfo.specs.declared.command.Command.TheVariants.{Answer, Check}
 use Rattle.modinfo.specs.declared.fault.Fault.{Fault}
@@ -103,81 +106,22 @@ no_reach text Output none = none
 no_reach text Closed none = none
 no_reach text OutOfMemory none = none
 
-pub asks_nothing : (text : List ℕ) (value : Data) (fault : Fault) → read_text text ≡ Some value
-    → IsNoQuestion value fault → IsNoReach text fault
-asks_nothing text value (Info inner) read none = (value, read, none)
-asks_nothing text value OutOfMemory read none = tt
-asks_nothing text value Input read none = absurd none
-asks_nothing text value Json read none = absurd none
-asks_nothing text value Tree read none = absurd none
-asks_nothing text value Specifier read none = absurd none
-asks_nothing text value Syntax read none = absurd none
-asks_nothing text value (Source inner) read none = absurd none
-asks_nothing text value (Convert inner) read none = absurd none
-asks_nothing text value Output read none = absurd none
-asks_nothing text value Closed read none = absurd none
+-- The fault of a value is that of its text.
+no_question : (text : List ℕ) (value : Data) (fault : InfoFault) (found : ReadError)
+    → read_text text ≡ Some value → IsFaultIn (IsQuestionFault value) value fault found
+    → IsNoReach text (fault_of_error fault found)
+no_question text value fault (read.Mismatch mismatch) is has = (has.0, value, is, has.1)
+no_question text value fault read.OutOfMemory is has = tt
 
--- The question of a value is that of its text.
-pub asks_text : (text : List ℕ) (value : Data) (asked : Result Asked Fault) → read_text text ≡ Some value
-    → MatchResult asked (λ question. Asks value (entries_of question.infos) question.root)
-    (IsNoQuestion value)
-    → MatchResult asked (IsQuestionOf text) (IsNoReach text)
-asks_text text value (Ok question) read asks = (value, read, asks)
-asks_text text value (Err fault) read none = asks_nothing text value fault read none
+pub asks_nothing : (text : List ℕ) (value : Data) (found : QuestionError) → read_text text ≡ Some value
+    → IsErrorIn (IsQuestionFault value) value found → IsNoReach text (fault_of_question found)
+asks_nothing text value found is has = no_question text value found.fault found.error is has
 
 -- A text of which no flat list can be made.
 pub no_tape : (text : List ℕ) (inner : TapeError)
     → ((offset : ℕ) → inner ≡ tape.Json offset → read_text text ≡ None) → IsNoReach text (fault_of_tape inner)
 no_tape text (tape.Json offset) none = none offset refl
 no_tape text tape.OutOfMemory none = tt
-
--- A value without a root or without modules.
-pub no_question : (value : Data) → reads_question value ≡ None → IsNoQuestion value (Info info.Shape)
-no_question value none =
-    let lacks : IsQuestionFault value info.Shape = rw none refl in
-    ((λ same. cc (same)), lacks)
-
-pub no_infos : (ms : Members) (inner : InfoFault) → (inner ≢ info.OutOfMemory → IsFirstFault ms inner)
-    → IsNoInfos ms (fault_of_info inner)
-no_infos ms info.Shape first =
-    let apart : info.Shape ≢ info.OutOfMemory = λ same. cc (same) in
-    (apart, first apart)
-no_infos ms info.Float first =
-    let apart : info.Float ≢ info.OutOfMemory = λ same. cc (same) in
-    (apart, first apart)
-no_infos ms info.OutOfMemory first = tt
-
--- A value whose modules can't be read.
-pub no_modules : (value : Data) (question : Question) (fault : Fault) → reads_question value ≡ Some question
-    → IsNoInfos question.modules fault → IsNoQuestion value fault
-no_modules value question (Info inner) asks none =
-    let first : IsQuestionFault value inner = rw asks none.1 in
-    (none.0, first)
-no_modules value question OutOfMemory asks none = tt
-no_modules value question Input asks none = absurd none
-no_modules value question Json asks none = absurd none
-no_modules value question Tree asks none = absurd none
-no_modules value question Specifier asks none = absurd none
-no_modules value question Syntax asks none = absurd none
-no_modules value question (Source inner) asks none = absurd none
-no_modules value question (Convert inner) asks none = absurd none
-no_modules value question Output asks none = absurd none
-no_modules value question Closed asks none = absurd none
-
--- A fault other than a failed allocation is one of the value.
-pub question_fault : (value : Data) (fault : Fault) → fault ≢ OutOfMemory → IsNoQuestion value fault
-    → (inner : InfoFault) × (inner ≢ info.OutOfMemory) × IsQuestionFault value inner
-question_fault value (Info inner) apart none = (inner, none.0, none.1)
-question_fault value OutOfMemory apart none = absurd (apart refl)
-question_fault value Input apart none = absurd none
-question_fault value Json apart none = absurd none
-question_fault value Tree apart none = absurd none
-question_fault value Specifier apart none = absurd none
-question_fault value Syntax apart none = absurd none
-question_fault value (Source inner) apart none = absurd none
-question_fault value (Convert inner) apart none = absurd none
-question_fault value Output apart none = absurd none
-question_fault value Closed apart none = absurd none
 
 -- A document without a result is a fault of the run.
 pub run_fault : (command : Command) (document : List ℕ) (fault : Fault)
@@ -201,6 +145,15 @@ no_memory Estree document = tt
 no_memory Source document = inl tt
 no_memory Stored document = tt
 no_memory Modules document = tt
+
+-- Bytes that aren't UTF-8 are a fault of a document, for each format.
+pub no_text : (format : Format) (document : List ℕ) → ¬ IsUtf8 document
+    → IsDocumentFault format document Input
+no_text Module document other = other
+no_text Estree document other = other
+no_text Source document other = inl other
+no_text Stored document other = other
+no_text Modules document other = other
 
 -- A failed allocation is a fault of the run, for each command.
 pub run_without_memory : (command : Command) (document : List ℕ) → IsRunFault command document OutOfMemory

@@ -6,6 +6,5 @@ mod GivenWords
 pub mod Modules
 mod Outputs
 mod Texts
-pub mod StoredModules
 pub mod StoredOverflow
 pub mod Written

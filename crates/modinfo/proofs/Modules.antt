@@ -1,15 +1,28 @@
 -- Reading the information on modules, one after the other.
-use Rattle.std.proofs.Common.{◌≡◌, ℕ, List, ◌∷◌, Some, None, false, inl, inr, refl, sym, subst, ◌∙◌, ap}
+use Rattle.std.proofs.Common.{◌≡◌, ◌∙◌, ℕ, List, ◌∷◌, Bool, true, false, Option, Some, None, codes, inl, inr}
+use Rattle.std.proofs.Common.{refl, sym, subst, ap, Result, Ok, Err, MatchResult}
 use Rattle.std.proofs.lemmas.Option.{none-some}
-use Rattle.serde_json.specs.Data.{Data, Members}
+use Rattle.serde_json.specs.Data.{Data, null, boolean, number, string, array, object, Members}
+use Rattle.serde_json.specs.Find.{as_object, as_str, get_member}
 use Rattle.serde_json.specs.Written.{has_float}
 use Rattle.deno_graph_json.proofs.ObjectMembers.{Entry}
+use Rattle.deno_graph_json.proofs.Reading.{is_object}
 use Rattle.deno_graph_json.specs.Data.{data_of, named_data}
+use Rattle.deno_graph_json.specs.Read.Error.{Expects, IsIn, IsMismatch}
+use Rattle.deno_graph_json.specs.Read.Partial.{◌>>=◌, member_at, reads_map, reads_members, unless_float}
+use Rattle.deno_graph_json.specs.Read.Result.{IsReadError}
+use Rattle.deno_graph_json.specs.declared.error.ReadError.{ReadError}
+use Rattle.deno_graph_json.specs.declared.error.ReadError.TheVariants.{Mismatch, OutOfMemory}
+use Rattle.deno_graph_json.specs.declared.expected.Expected.{Expected}
+use Rattle.deno_graph_json.specs.declared.expected.Expected.TheVariants.{Integer}
 use Rattle.deno_graph_info.specs.InfoFault.{IsInfoFault}
 use Rattle.deno_graph_info.specs.Json.ModuleInfo.{reads_info}
 use Rattle.deno_graph_info.specs.declared.analysis.fault.InfoFault.{InfoFault}
+use Rattle.deno_graph_info.specs.declared.analysis.fault.InfoFault.TheVariants as info
 use Rattle.deno_graph_info.specs.declared.analysis.module_info.ModuleInfo.{ModuleInfo}
-use Rattle.modinfo.specs.Reach.{IsFirstFault, modules_in, reads_question, reads_stored, root_in}
+use Rattle.modinfo.specs.Reach.{IsFirstFault, IsQuestionFault, Question, reads_question, reads_stored}
+use Rattle.modinfo.specs.internal.Reach.{IsErrorIn, IsFaultIn, IsModulesFault}
+use Rattle.modinfo.specs.declared.reach.QuestionError.{QuestionError}
 
 pub stored_info : (d : Data) (m : ModuleInfo) → has_float d ≡ false → reads_info d ≡ Some m
     → reads_stored d ≡ Some m
@@ -38,19 +51,141 @@ module _ (inner : InfoFault) (all : Members) (left rest : List Entry) (e : Entry
   pub fault_here : IsInfoFault (data_of e.1) inner → IsFirstFault all inner
   fault_here fault = of_all (subst (λ es. IsFirstFault (named_data es) inner) (sym first) (inl fault))
 
+-- ---- The errors of one value
+
+float_of : (b : Bool) → unless_float b ≡ None → b ≡ true
+float_of true is = refl
+float_of false is = absurd (none-some _ (sym is))
+
+pub whole_of : (b : Bool) → unless_float b ≡ Some tt → b ≡ false
+whole_of true is = absurd (none-some _ is)
+whole_of false is = refl
+
+pub float_error : (d : Data) (found : ReadError) → IsReadError d (unless_float (has_float d)) found
+    → Expects Integer found → IsFaultIn (IsInfoFault d) d info.Float found
+float_error d (Mismatch found) h expects = (
+  (λ same. cc (same)),
+  float_of (has_float d) h.0,
+  h.1,
+  λ same. expects,
+)
+float_error d OutOfMemory h expects = tt
+
+pub shape_error_of : (d : Data) (found : ReadError) → has_float d ≡ false → IsReadError d (reads_info d) found
+    → IsFaultIn (IsInfoFault d) d info.Shape found
+shape_error_of d (Mismatch found) whole h = (
+  (λ same. cc (same)),
+  (whole, h.0),
+  h.1,
+  λ same. absurd (cc (same)),
+)
+shape_error_of d OutOfMemory whole h = tt
+
+-- The error of a member is one of the object.
+pub error_around : (IsFault IsOuter : InfoFault → Type 0) (outer inner : Data) (fault : InfoFault)
+    (old new : ReadError) → (IsMismatch new → IsMismatch old) → (IsIn inner old → IsIn outer new)
+    → ((wanted : Expected) → Expects wanted old → Expects wanted new) → (IsFault fault → IsOuter fault)
+    → IsFaultIn IsFault inner fault old → IsFaultIn IsOuter outer fault new
+error_around IsFault IsOuter outer inner fault (Mismatch old) (Mismatch new) same place expects is h =
+    (h.0, is h.1, place h.2, λ float. expects Integer (h.3 float))
+error_around IsFault IsOuter outer inner fault OutOfMemory (Mismatch new) same place expects is h =
+    absurd (same tt)
+error_around IsFault IsOuter outer inner fault (Mismatch old) OutOfMemory same place expects is h = tt
+error_around IsFault IsOuter outer inner fault OutOfMemory OutOfMemory same place expects is h = tt
+
+-- ---- The modules
+
+pub no_modules : (d : Data) (found : ReadError) → as_object d ≡ None → IsIn d found
+    → IsFaultIn (IsModulesFault d) d info.Shape found
+no_modules d (Mismatch found) none place =
+    let fault : IsModulesFault d info.Shape = rw none refl in
+    ((λ same. cc (same)), fault, place, λ same. absurd (cc (same)))
+no_modules d OutOfMemory none place = tt
+
+abbrev AreRead : Option (List (List ℕ × ModuleInfo)) → (InfoFault → Type 0) → Data
+    → Result (List (List ℕ × ModuleInfo)) QuestionError → Type 0
+AreRead wanted IsFault d answer = MatchResult answer (λ infos. wanted ≡ Some infos) (IsErrorIn IsFault d)
+
+-- What is read from an object is read from its members.
+modules_of : (ms : Members) (answer : Result (List (List ℕ × ModuleInfo)) QuestionError)
+    → AreRead (reads_members reads_stored ms) (IsFirstFault ms) (object ms) answer
+    → AreRead (reads_map reads_stored (object ms)) (IsModulesFault (object ms)) (object ms) answer
+unfolding reads_map
+modules_of ms (Ok infos) h = h
+modules_of ms (Err found) h = h
+
+pub modules_answer : (d : Data) (ms : Members) (answer : Result (List (List ℕ × ModuleInfo)) QuestionError)
+    → as_object d ≡ Some ms → AreRead (reads_members reads_stored ms) (IsFirstFault ms) (object ms) answer
+    → AreRead (reads_map reads_stored d) (IsModulesFault d) d answer
+modules_answer d ms answer is h = rw (is_object d ms is) (modules_of ms answer h)
+
 -- ---- The two members of a document
 
-pub lacks_root : (d : Data) → root_in d ≡ None → reads_question d ≡ None
+pub lacks_object : (d : Data) → as_object d ≡ None → reads_question d ≡ None
 unfolding reads_question
-lacks_root d none = rw none refl
+lacks_object null none = refl
+lacks_object (boolean b) none = refl
+lacks_object (number n) none = refl
+lacks_object (string s) none = refl
+lacks_object (array ds) none = refl
+lacks_object (object ms) none = absurd (none-some ms (sym none))
 
-pub lacks_modules : (d : Data) (root : List ℕ) → root_in d ≡ Some root → modules_in d ≡ None
-    → reads_question d ≡ None
-unfolding reads_question
-lacks_modules d root is none = rw (is, none) refl
+-- An error where the value is no question.
+pub no_question : (d : Data) (found : ReadError) → reads_question d ≡ None → IsIn d found
+    → IsFaultIn (IsQuestionFault d) d info.Shape found
+no_question d (Mismatch found) none place =
+    let fault : IsQuestionFault d info.Shape = rw none refl in
+    ((λ same. cc (same)), fault, place, λ same. absurd (cc (same)))
+no_question d OutOfMemory none place = tt
 
-pub asks_both : (d : Data) (root : List ℕ) (modules : Members) → root_in d ≡ Some root
-    → modules_in d ≡ Some modules
-    → reads_question d ≡ Some (record { modules = modules; root = root })
-unfolding reads_question
-asks_both d root modules is has = rw (is, has) refl
+module _ (ms : Members) where
+  lacks_root : member_at as_str (codes "root") ms ≡ None → reads_question (object ms) ≡ None
+  unfolding reads_question member_at
+  lacks_root none = rw none refl
+
+  -- The root can't be read.
+  pub root_error : (found : ReadError) → IsReadError (object ms) (member_at as_str (codes "root") ms) found
+      → IsFaultIn (IsQuestionFault (object ms)) (object ms) info.Shape found
+  root_error (Mismatch found) h = no_question (object ms) (Mismatch found) (lacks_root h.0) h.1
+  root_error OutOfMemory h = tt
+
+  module _ (root : List ℕ) (rooted : member_at as_str (codes "root") ms ≡ Some root) where
+    pub lacks_modules : get_member (codes "modules") ms ≡ None → reads_question (object ms) ≡ None
+    unfolding reads_question member_at
+    lacks_modules none = rw (rooted, none) refl
+
+    abbrev AsksFor : List (List ℕ × ModuleInfo) → Type 0
+    AsksFor infos = (question : Question) × (reads_question (object ms) ≡ Some question)
+        × (root ≡ question.root) × (reads_members reads_stored question.modules ≡ Some infos)
+
+    module _ (d : Data) (found : get_member (codes "modules") ms ≡ Some d) where
+      -- The question, if the modules are an object.
+      pub question_of : (modules : Option Members) → as_object d ≡ modules
+          → reads_question (object ms) ≡ (modules >>= λ ms. Some (record { modules = ms; root = root }))
+      unfolding reads_question member_at
+      question_of modules is = rw (rooted, found, is) refl
+
+      fault_by : (fault : InfoFault) (modules : Option Members) → as_object d ≡ modules
+          → IsModulesFault d fault → IsQuestionFault (object ms) fault
+      fault_by fault None is h =
+          let same = rw is at h in
+          rw (question_of None is) same
+      fault_by fault (Some members) is h =
+          let first = rw is at h in
+          rw (question_of (Some members) is) first
+
+      asks_by : (infos : List (List ℕ × ModuleInfo)) (modules : Option Members) → as_object d ≡ modules
+          → reads_map reads_stored d ≡ Some infos → AsksFor infos
+      unfolding reads_map
+      asks_by infos None is read = absurd (none-some infos (rw is at read))
+      asks_by infos (Some members) is read =
+          (record { modules = members; root = root }, question_of (Some members) is, refl, rw is at read)
+
+      -- The question, if the modules can be read.
+      pub asks_for : (infos : List (List ℕ × ModuleInfo)) → reads_map reads_stored d ≡ Some infos
+          → AsksFor infos
+      asks_for infos read = asks_by infos (as_object d) refl read
+
+      -- A fault of the modules is one of the question.
+      pub fault_of_modules : (fault : InfoFault) → IsModulesFault d fault → IsQuestionFault (object ms) fault
+      fault_of_modules fault h = fault_by fault (as_object d) refl h

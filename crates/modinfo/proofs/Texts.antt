@@ -19,6 +19,7 @@ use Rattle.deno_graph_json.specs.declared.flat.error.TapeError.TheVariants as ta
 use Rattle.modinfo_document.specs.Error.{of_read, of_tape, of_url}
 use Rattle.modinfo_document.proofs.Urls.{by_url}
 use Rattle.modinfo.specs.Fault.{fault_of_document}
+use Rattle.modinfo.specs.FileUrl.{IsNoUrl}
 use Rattle.modinfo.specs.Source.{
   IsInfoOfText,
   IsNoInfoOfText,
@@ -52,6 +53,12 @@ pub no_info : (text : SourceText) (error : ParseError)
     → IsNoInfoOfText text (fault_of_document (of_url error))
 no_info text error why =
     by_url (λ inner. IsNoInfoOfText text (fault_of_document inner)) text.specifier error tt (λ none. none) why
+
+-- The text is no URL, or an allocation failed.
+pub no_url : (text : List ℕ) (error : ParseError) → ((parse_url None text ≡ Err error) ⊎ IsOutOfRoom error)
+    → IsNoUrl text (fault_of_document (of_url error))
+no_url text error why =
+    by_url (λ inner. IsNoUrl text (fault_of_document inner)) text error tt (λ none. none) why
 
 -- The answer to a text is that to its document.
 pub text_answer : (document : List ℕ) (text : SourceText) (answer : Result (String Global) Fault)

@@ -8,11 +8,13 @@ use Rattle.serde_json.specs.Written.{compact_text, has_float, IsInOrder}
 use Rattle.deno_graph_source.specs.ParsedSource.{ParsedModule}
 use Rattle.deno_graph_info.specs.Conversion.{IsConverted, IsConvertFault}
 use Rattle.deno_graph_info.specs.Json.ModuleInfo.{json_of_info}
+use Rattle.deno_graph_info.specs.declared.analysis.fault.InfoFault.TheVariants as info
 use Rattle.deno_graph_info.specs.declared.analysis.module_info.ModuleInfo.{ModuleInfo}
 use Rattle.deno_graph_info.specs.declared.conversion.fault.ConvertFault.TheVariants as convert
 use Rattle.deno_graph_module_info.specs.InfoOfModule.{IsInfoOfModule}
 use Rattle.modinfo_document.specs.Check.{IsFaultReport, IsValidIn, points_in_module, points_nowhere}
 use Rattle.modinfo_document.specs.Document.{Contents, HasErrorIn, IsDocumentIn, IsSourceOf, reads_document}
+use Rattle.modinfo_document.specs.Report.{HasNoWarnings}
 use Rattle.modinfo_document.specs.Spelling.{WarnsOfLiterals}
 use Rattle.modinfo_estree.specs.Document.{reads_estree}
 use Rattle.modinfo_document.specs.declared.document.Document.{Document}
@@ -35,7 +37,7 @@ use Rattle.modinfo.specs.declared.fault.Fault.TheVariants as fault_of
 use Rattle.modinfo.specs.declared.format.Format.{Format}
 use Rattle.modinfo.specs.declared.format.Format.TheVariants.{Module, Estree, Source, Stored, Modules}
 use Rattle.modinfo.specs.Fault.{fault_of_document}
-use Rattle.modinfo.specs.Reach.{IsNoQuestion, IsReachText}
+use Rattle.modinfo.specs.Reach.{IsQuestionFault, IsReachText}
 use Rattle.modinfo.specs.Source.{IsNoTextInfo, IsSourceDocument, IsTextInfo}
 
 -- The text is a document of a form, and the module is its source. `reads` reads the contents of a document
@@ -88,17 +90,21 @@ IsNoConversion document fault = IsNoJson document fault
 
 -- Why a document of `reach` has no answer: it isn't JSON, or its value has a fault; or an allocation failed.
 abbrev pub IsNoReach : List ℕ → Fault → Type 0
-IsNoReach document (fault_of.Info inner) = (value : Data) × (read_text document ≡ Some value)
-    × IsNoQuestion value (fault_of.Info inner)
+IsNoReach document (fault_of.Info inner) = (inner ≢ info.OutOfMemory)
+    × (value : Data) × (read_text document ≡ Some value) × IsQuestionFault value inner
 IsNoReach document fault = IsNoJson document fault
 
--- The answer of a format to a document: compact JSON.
+-- The answer of a format to the text of a document: compact JSON.
+abbrev pub IsAnswerTo : Format → List ℕ → List ℕ → Type 0
+IsAnswerTo Module document text = IsInfoText reads_document document text
+IsAnswerTo Estree document text = IsInfoText reads_estree document text
+IsAnswerTo Source document text = IsTextInfo document text
+IsAnswerTo Stored document text = IsConvertedText document text
+IsAnswerTo Modules document text = IsReachText document text
+
+-- The bytes are UTF-8, and this is the answer to them.
 abbrev pub IsAnswerText : Format → List ℕ → List ℕ → Type 0
-IsAnswerText Module document text = IsInfoText reads_document document text
-IsAnswerText Estree document text = IsInfoText reads_estree document text
-IsAnswerText Source document text = IsTextInfo document text
-IsAnswerText Stored document text = IsConvertedText document text
-IsAnswerText Modules document text = IsReachText document text
+IsAnswerText format document text = IsUtf8 document × IsAnswerTo format document text
 
 -- The document has this fault, or an allocation failed.
 abbrev pub IsDocumentFault : Format → List ℕ → Fault → Type 0
@@ -108,13 +114,17 @@ IsDocumentFault Source document fault = IsNoTextInfo document fault
 IsDocumentFault Stored document fault = IsNoConversion document fault
 IsDocumentFault Modules document fault = IsNoReach document fault
 
--- The bytes are a document of the format without a fault.
+-- The text is a document of the format without a fault.
+abbrev pub IsValidText : Format → List ℕ → Type 0
+IsValidText Module text = IsValidIn reads_document text
+IsValidText Estree text = IsValidIn reads_estree text
+IsValidText Source text = IsSourceDocument text
+IsValidText Stored text = IsConvertibleText text
+IsValidText Modules text = IsQuestionText text
+
+-- The bytes are UTF-8, and a document of the format without a fault.
 abbrev pub IsValidDocument : Format → List ℕ → Type 0
-IsValidDocument Module document = IsValidIn reads_document document
-IsValidDocument Estree document = IsValidIn reads_estree document
-IsValidDocument Source document = IsSourceDocument document
-IsValidDocument Stored document = IsConvertibleText document
-IsValidDocument Modules document = IsQuestionText document
+IsValidDocument format document = IsUtf8 document × IsValidText format document
 
 -- The text has a fault as a document of the format, and the report has the fault's name and its place.
 abbrev pub ReportsTextFault : Format → List ℕ → FaultReport → Type 0
@@ -130,11 +140,11 @@ IsFaultReportOn format document report = ((¬ IsUtf8 document) × ReportsEncodin
     ⊎ ReportsTextFault format document report
 
 -- The warnings in a report without a fault: of a module document those of its literals, of a document of
--- `reach` that of its root.
+-- `reach` that of its root; of others there is none.
 abbrev pub WarnsOf : Format → List ℕ → Report → Type 0
 WarnsOf Module document report = WarnsOfLiterals document report
 WarnsOf Modules document report = WarnsOfQuestion document report
-WarnsOf format document report = Unit {0}
+WarnsOf format document report = HasNoWarnings report
 
 -- The report on a document is `Valid` only if the document has no fault, `Invalid` only with a fault of the
 -- document, its name and its place; and it has these warnings.

@@ -13,15 +13,21 @@ use Rattle.std.specs.Prelude.{
   Some,
   false,
 }
+use Rattle.std.specs.Str.{IsValidUpTo}
 use Rattle.std.specs.String.{string_bytes}
 use Rattle.serde_json.specs.Data.{Data}
 use Rattle.serde_json.specs.Read.{read as read_text}
 use Rattle.serde_json.specs.Written.{has_float}
 use Rattle.deno_graph_base.specs.Position.{IsAt}
 use Rattle.deno_graph_base.specs.TextMap.{value_at}
+use Rattle.deno_graph_json.specs.Read.Error.{IsIn}
+use Rattle.deno_graph_json.specs.declared.error.Mismatch.{Mismatch}
+use Rattle.deno_graph_json.specs.declared.error.ReadError.TheVariants as read
+use Rattle.deno_graph_json.specs.declared.expected.Expected.TheVariants.{Integer}
 use Rattle.deno_graph_info.specs.Conversion.{IsConverted, IsConvertFault}
 use Rattle.deno_graph_info.specs.FaultName.{convert_fault_name, info_fault_name}
 use Rattle.deno_graph_info.specs.declared.analysis.fault.InfoFault.{InfoFault}
+use Rattle.deno_graph_info.specs.declared.analysis.fault.InfoFault.TheVariants.{Float}
 use Rattle.deno_graph_info.specs.declared.analysis.fault.InfoFault.TheVariants.{OutOfMemory as NoMemory}
 use Rattle.deno_graph_info.specs.declared.analysis.module_info.ModuleInfo.{ModuleInfo}
 use Rattle.deno_graph_info.specs.declared.conversion.fault.ConvertFault.{ConvertFault}
@@ -29,6 +35,7 @@ use Rattle.deno_graph_info.specs.declared.conversion.fault.ConvertFault.TheVaria
 use Rattle.modinfo_document.specs.ExpectedJson.{HasJsonPlace}
 use Rattle.modinfo_document.specs.Place.{specifier_path}
 use Rattle.modinfo_document.specs.Report.{HasNone, HasOnly, HasPath, HasTextPlace, IsNamed, PointsInto}
+use Rattle.modinfo_document.specs.Report.{Reports}
 use Rattle.modinfo_document.specs.declared.report.FaultReport.{FaultReport}
 use Rattle.modinfo_document.specs.declared.report.Report.{Report}
 use Rattle.modinfo_document.specs.declared.report.Report.TheVariants.{Valid, Invalid}
@@ -61,10 +68,16 @@ pub record ReportsNoJson (text : List ℕ) (report : FaultReport) : Type 0 where
   pub name : IsNamed (codes "Json") report
   pub place : HasJsonPlace text report
 
--- The report says that the bytes aren't UTF-8, with a place in them.
+-- The report says that the bytes aren't UTF-8, with the place up to which they are.
 pub record ReportsEncoding (bytes : List ℕ) (report : FaultReport) : Type 0 where
   pub name : IsNamed (codes "Input") report
   pub place : HasTextPlace bytes report
+  pub first : IsSomeAnd report.at (λ at. IsValidUpTo bytes at.offset)
+
+-- The report has the path of a float in the value, and says that a whole number is expected there.
+abbrev pub PointsToFloat : Data → FaultReport → Type 0
+PointsToFloat value report = (mismatch : Mismatch) × IsIn value (read.Mismatch mismatch)
+    × (mismatch.expected ≡ Integer) × Reports mismatch report
 
 -- The value has a fault as stored information, and the report has the fault's name; for a float also its
 -- path.
@@ -73,7 +86,7 @@ pub record ReportsStored (value : Data) (report : FaultReport) : Type 0 where
   pub no_memory : fault ≢ convert.OutOfMemory
   pub has_fault : IsConvertFault value fault
   pub name : IsNamed (convert_fault_name fault) report
-  pub place : fault ≡ convert.Float → PointsInto value report
+  pub place : fault ≡ convert.Float → PointsToFloat value report
 
 -- The text isn't JSON, or its value has a fault; and the report says which.
 abbrev pub IsStoredFaultReport : List ℕ → FaultReport → Type 0
@@ -93,13 +106,14 @@ abbrev pub IsQuestionText : List ℕ → Type 0
 IsQuestionText text = (value : Data) × (read_text text ≡ Some value) × AsksSome value
 
 -- The value has a fault as a document of `reach`. The report has the fault's name, and the path of a value
--- that isn't what the report expects there.
+-- that isn't what the report expects there: of a float where that is the fault.
 pub record ReportsQuestion (value : Data) (report : FaultReport) : Type 0 where
   pub fault : InfoFault
   pub no_memory : fault ≢ NoMemory
   pub has_fault : IsQuestionFault value fault
   pub name : IsNamed (info_fault_name fault) report
   pub place : PointsInto value report
+  pub float : fault ≡ Float → PointsToFloat value report
 
 -- The text isn't JSON, or its value has a fault; and the report says which.
 abbrev pub IsQuestionFaultReport : List ℕ → FaultReport → Type 0

@@ -9,9 +9,11 @@ use Rattle.deno_graph_json.specs.declared.flat.error.TapeError.TheVariants as ta
 use Rattle.modinfo_document.specs.declared.error.DocumentError.{DocumentError}
 use Rattle.modinfo_document.specs.declared.error.DocumentError.TheVariants as error
 use Rattle.deno_graph_info.specs.declared.analysis.fault.InfoFault.{InfoFault}
-use Rattle.deno_graph_info.specs.declared.analysis.fault.InfoFault.TheVariants as info
 use Rattle.deno_graph_info.specs.declared.conversion.fault.ConvertFault.{ConvertFault}
 use Rattle.deno_graph_info.specs.declared.conversion.fault.ConvertFault.TheVariants as convert
+use Rattle.deno_graph_json.specs.declared.error.ReadError.{ReadError}
+use Rattle.deno_graph_json.specs.declared.error.ReadError.TheVariants as read
+use Rattle.modinfo.specs.declared.reach.QuestionError.{QuestionError}
 use Rattle.modinfo.specs.declared.fault.Fault.{Fault}
 use Rattle.modinfo.specs.declared.fault.Fault.TheVariants.{
   Input,
@@ -50,10 +52,13 @@ abbrev pub fault_of_conversion : ConvertFault → Fault
 fault_of_conversion convert.OutOfMemory = OutOfMemory
 fault_of_conversion fault = Convert fault
 
--- The fault for an error in reading information.
-abbrev pub fault_of_info : InfoFault → Fault
-fault_of_info info.OutOfMemory = OutOfMemory
-fault_of_info fault = Info fault
+-- The fault for an error of a document of `reach`.
+abbrev pub fault_of_error : InfoFault → ReadError → Fault
+fault_of_error fault (read.Mismatch _) = Info fault
+fault_of_error fault read.OutOfMemory = OutOfMemory
+
+abbrev pub fault_of_question : QuestionError → Fault
+fault_of_question error = fault_of_error error.fault error.error
 
 -- A write failed.
 abbrev pub IsWriteFault : Fault → Type 0

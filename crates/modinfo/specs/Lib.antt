@@ -3,6 +3,7 @@ pub mod Check
 pub mod CommandLine
 pub mod Commands
 pub mod Fault
+pub mod FileUrl
 pub mod Lines
 pub mod Reach
 pub mod Run

@@ -24,8 +24,6 @@ use Rattle.deno_graph_info.specs.Reach.{IsReach}
 use Rattle.deno_graph_info.specs.declared.analysis.fault.InfoFault.{InfoFault}
 use Rattle.deno_graph_info.specs.declared.analysis.fault.InfoFault.TheVariants as info
 use Rattle.deno_graph_info.specs.declared.analysis.module_info.ModuleInfo.{ModuleInfo}
-use Rattle.modinfo.specs.declared.fault.Fault.{Fault}
-use Rattle.modinfo.specs.declared.fault.Fault.TheVariants.{Info, OutOfMemory}
 
 -- The JSON of the modules by their keys, and the key of the root.
 pub record Question : Type 0 where
@@ -73,9 +71,3 @@ IsFirstFault (member key d ms) fault = IsInfoFault d fault
 abbrev pub IsQuestionFault : Data → InfoFault → Type 0
 IsQuestionFault d fault = MatchOption (reads_question d) (fault ≡ info.Shape)
     (λ question. IsFirstFault question.modules fault)
-
--- Why a value can't be read: its fault, or a failed allocation.
-abbrev pub IsNoQuestion : Data → Fault → Type 0
-IsNoQuestion d (Info inner) = (inner ≢ info.OutOfMemory) × IsQuestionFault d inner
-IsNoQuestion d OutOfMemory = Unit {0}
-IsNoQuestion d fault = ⊥

@@ -123,6 +123,7 @@ media_type_at number =
 
 -- The text has these parts: its bytes, those of its specifier, and the number of its media type.
 pub record HasParts (bytes name : List ℕ) (number : ℕ) (text : SourceText) : Type 0 where
+  pub are_utf8 : IsUtf8 bytes × IsUtf8 name
   pub source : text.source ≡ bytes
   pub specifier : text.specifier ≡ name
   pub media_type : media_type_at number ≡ Some text.media_type

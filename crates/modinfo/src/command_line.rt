@@ -48,6 +48,16 @@ impl CommandLine {
         }
     }
 
+    /// Where the names of files are, if the command line is one of `files`.
+    pub fn names(self) -> Option<Names>
+        ensures { (names : Names) → (result ≡ Some names) ↔ (self ≡ CommandLine.Files names) }
+    {
+        match self {
+            CommandLine::Files(names) => Some(names),
+            _ => None,
+        }
+    }
+
     /// Whether these arguments ask for this command line.
     fn is_asked_by(self, words: &[&str]) -> bool
         ensures { result ≡ asks_for self (map (λ word. word.now) words.now) }

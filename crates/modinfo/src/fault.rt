@@ -3,8 +3,9 @@ ghost use Rattle.std.specs.IoError.{error_kind};
 ghost use Rattle.std.specs.declared.io.ErrorKind.TheVariants.{BrokenPipe};
 ghost use Rattle.modinfo.specs.Fault.{IsWriteFault, is_closed, name_of_fault};
 
+use crate::reach::QuestionError;
 use deno_graph_info::analysis::{ConvertFault, InfoFault};
-use deno_graph_json::TapeError;
+use deno_graph_json::{ReadError, TapeError};
 use deno_graph_source::tree::{ParseError, SourceFault};
 use modinfo_document::DocumentError;
 use std::alloc::{AllocError, AllocFailed};
@@ -81,6 +82,11 @@ impl Fault {
 }
 
 impl fmt::Display for Fault {
+    ghost use Rattle.std.specs.Prelude.{Some};
+    ghost use Rattle.modinfo.specs.Fault.{name_of_fault};
+
+    ghost output = { λ fault. Some (name_of_fault fault) };
+
     fn fmt<W: fmt::Write>(&self, f: &mut fmt::Formatter<W>) -> fmt::Result {
         f.write_str(self.name())
     }
@@ -161,16 +167,16 @@ impl From<ConvertFault> for Fault {
     }
 }
 
-impl From<InfoFault> for Fault {
+impl From<QuestionError> for Fault {
     ghost use Rattle.std.specs.Prelude.{◌≡◌};
-    ghost use Rattle.modinfo.specs.Fault.{fault_of_info};
+    ghost use Rattle.modinfo.specs.Fault.{fault_of_question};
 
-    ghost from_gives = { λ info_fault fault. fault ≡ fault_of_info info_fault };
+    ghost from_gives = { λ error fault. fault ≡ fault_of_question error };
 
-    fn from(fault: InfoFault) -> Fault {
-        match fault {
-            InfoFault::OutOfMemory => Fault::OutOfMemory,
-            fault => Fault::Info(fault),
+    fn from(error: QuestionError) -> Fault {
+        match error.error {
+            ReadError::Mismatch(_) => Fault::Info(error.fault),
+            ReadError::OutOfMemory => Fault::OutOfMemory,
         }
     }
 }

@@ -1,40 +1,73 @@
 //! The URL of a file.
 
+ghost use Rattle.std.specs.Prelude.{◌≡◌, IfOk, MatchResult, None, Ok};
+ghost use Rattle.std.specs.String.{string_bytes};
+ghost use Rattle.url.specs.Parser.{parse_url};
+ghost use Rattle.modinfo.specs.Fault.{fault_of_document};
+ghost use Rattle.modinfo.specs.FileUrl.{IsNoUrl, file_text, is_absolute};
+
 use crate::fault::Fault;
 use modinfo_document::DocumentError;
+use percent_encoding::{AsciiSet, NON_ALPHANUMERIC, ascii_set, utf8_percent_encode};
 use std::alloc::{AllocError, Global};
 use url::Url;
 
+/// The characters that mean something else in the path of a URL: all but letters, digits and these.
+const ENCODED: AsciiSet = ascii_set!(
+    NON_ALPHANUMERIC
+        .remove(b'/')
+        .remove(b'-')
+        .remove(b'.')
+        .remove(b'_')
+        .remove(b'~')
+        .remove(b'!')
+        .remove(b'$')
+        .remove(b'&')
+        .remove(b'\'')
+        .remove(b'(')
+        .remove(b')')
+        .remove(b'*')
+        .remove(b'+')
+        .remove(b',')
+        .remove(b';')
+        .remove(b'=')
+        .remove(b':')
+        .remove(b'@')
+);
+
 /// The `file:` URL of a path. A relative path begins in the folder, whose path has no slash at its end.
-pub fn file_url(alloc: Global, folder: &str, path: &str) -> Result<Url, Fault> {
-    let mut text = String::from_str(alloc, "file://")?;
-    if !path.starts_with('/') {
-        push_path(&mut text, folder)?;
-        text.push('/')?;
-    }
-    push_path(&mut text, path)?;
+/// `OutOfMemory` if an allocation fails, `Specifier` if the text is no URL.
+pub fn file_url(alloc: Global, folder: &str, path: &str) -> Result<Url, Fault>
+    ensures { MatchResult result (λ url. parse_url None (file_text ENCODED folder.now path.now) ≡ Ok url)
+        (IsNoUrl (file_text ENCODED folder.now path.now)) }
+{
+    let text = url_text(alloc, folder, path)?;
     Ok(parse(alloc, text.as_str())?)
 }
 
-fn parse(alloc: Global, text: &str) -> Result<Url, DocumentError> {
+/// The text of the URL. The only error is a failed allocation.
+fn url_text(alloc: Global, folder: &str, path: &str) -> Result<String, AllocError>
+    ensures { IfOk result (λ text. string_bytes text ≡ file_text ENCODED folder.now path.now) }
+{
+    let mut text = String::from_str(alloc, "file://")?;
+    if !is_absolute(path) {
+        utf8_percent_encode(folder, ENCODED).append_to(&mut text)?;
+        text.push_str("/")?;
+    }
+    utf8_percent_encode(path, ENCODED).append_to(&mut text)?;
+    Ok(text)
+}
+
+/// Whether a path begins with a slash.
+fn is_absolute(path: &str) -> bool
+    ensures { result ≡ is_absolute path.now }
+{
+    matches!(path.as_bytes(), [b'/', ..])
+}
+
+fn parse(alloc: Global, text: &str) -> Result<Url, DocumentError>
+    ensures { MatchResult result (λ url. parse_url None text.now ≡ Ok url)
+        (λ error. IsNoUrl text.now (fault_of_document error)) }
+{
     Ok(Url::parse(alloc, text)?)
 }
-
-/// Appends a path. Each byte that may mean something else in a URL is percent-encoded.
-fn push_path(text: &mut String, path: &str) -> Result<(), AllocError> {
-    for byte in path.as_bytes() {
-        match *byte {
-            byte if byte.is_ascii_alphanumeric() || b"/-._~!$&'()*+,;=:@".contains(&byte) => {
-                text.push(byte as char)?;
-            }
-            byte => {
-                text.push('%')?;
-                text.push(HEX[(byte >> 4) as usize] as char)?;
-                text.push(HEX[(byte & 15) as usize] as char)?;
-            }
-        }
-    }
-    Ok(())
-}
-
-const HEX: &[u8; 16] = b"0123456789ABCDEF";

@@ -1,12 +1,17 @@
 //! The command `files`: the information on each of many files, one per line.
 
+ghost use Rattle.std.specs.Prelude.{IsTrue, map};
+ghost use Rattle.modinfo.specs.CommandLine.{asks_for};
+ghost use Rattle.modinfo.specs.Run.{IsFilesRun, IsWrongRun};
+
 use crate::command_line::{CommandLine, Names};
 use crate::fault::Fault;
 use crate::file_url::file_url;
 use crate::help::USAGE;
 use crate::input::read_to_end;
 use crate::lines::buffered;
-use crate::output::{print, print_fault, print_line};
+use crate::output::{print, print_fault};
+use crate::program::print_usage;
 use deno_graph_info::analysis::ModuleInfo;
 use deno_graph_json::text_of;
 use deno_graph_module_info::module_info;
@@ -44,13 +49,21 @@ pub fn serve_files<R: Files + Env + AllocGlobal, I: Read, W: Write, E: Write>(
 ) -> u8
 where
     I: Drop,
+    ensures files { (names : Names)
+        → IsTrue (asks_for (CommandLine.Files names) (map (λ word. word.now) words.now))
+        → IsFilesRun (E.contents errors.old) (E.contents errors.new) result }
+    ensures wrong { ((names : Names)
+        → ¬ IsTrue (asks_for (CommandLine.Files names) (map (λ word. word.now) words.now)))
+        → IsWrongRun USAGE.now (W.contents output.old) (W.contents output.new)
+        (E.contents errors.old) (E.contents errors.new) result }
 {
-    let (Some(CommandLine::Files(names)), [_, words @ ..]) = (CommandLine::from_words(words), words)
-    else {
-        print_line(errors, USAGE);
-        return 2;
+    let Some(line) = CommandLine::from_words(words) else {
+        return print_usage(errors);
     };
-    match run_files(rt, names, words, input, output) {
+    let Some(names) = line.names() else {
+        return print_usage(errors);
+    };
+    match run_files(rt, names, words.get(1..).unwrap_or(&[]), input, output) {
         Ok(true) => 0,
         Ok(false) => 1,
         Err(fault) => {

@@ -75,7 +75,7 @@ pub fn serve<R: Read, W: Write, E: Write>(
 }
 
 /// Prints the usage, and returns the exit status of wrong words.
-fn print_usage<E: Write>(errors: &mut E) -> u8
+pub(crate) fn print_usage<E: Write>(errors: &mut E) -> u8
     ensures { (result ≡ 2) × AppendsFront (E.contents errors.old) (E.contents errors.new) (USAGE.now ++ codes "\n") }
 {
     print_line(errors, USAGE);

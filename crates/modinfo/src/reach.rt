@@ -1,28 +1,31 @@
 //! Documents of `reach`: a root, and the information on modules by their keys.
 
-ghost use Rattle.std.specs.Prelude.{◌≡◌, ℕ, map, IfOk, List, MatchResult, None, Some, option_map};
+ghost use Rattle.std.specs.Prelude.{◌≡◌, ℕ, map, IfOk, List, MatchResult, Some};
 ghost use Rattle.std.specs.String.{string_bytes};
-ghost use Rattle.serde_json.specs.Data.{string};
-ghost use Rattle.serde_json.specs.Find.{as_object};
+ghost use Rattle.serde_json.specs.Data.{Data, object, string};
+ghost use Rattle.serde_json.specs.Find.{get};
 ghost use Rattle.serde_json.specs.Written.{compact_text};
 ghost use Rattle.deno_graph_base.specs.TextMap.{entries_of};
 ghost use Rattle.deno_graph_json.specs.Data.{data_of, members_data};
 ghost use Rattle.deno_graph_json.specs.Object.{array_of};
-ghost use Rattle.deno_graph_json.specs.Read.Result.{IsReadResult};
-ghost use Rattle.deno_graph_json.specs.Read.Partial.{reads_members};
+ghost use Rattle.deno_graph_json.specs.Read.Error.{Expects, IsIn, IsMismatch};
+ghost use Rattle.deno_graph_json.specs.Read.Partial.{reads_map, reads_members};
+ghost use Rattle.deno_graph_json.specs.declared.expected.Expected.{Expected};
+ghost use Rattle.deno_graph_info.specs.InfoFault.{IsInfoFault};
 ghost use Rattle.modinfo.specs.Answer.{IsNoReach};
-ghost use Rattle.modinfo.specs.Reach.{Asks, IsNoQuestion, IsReachText, modules_in, reads_stored, root_in};
-ghost use Rattle.modinfo.specs.internal.Reach.{IsNoInfos, IsQuestionOf, reads_modules, reads_stored_info};
+ghost use Rattle.modinfo.specs.Reach.{Asks, IsFirstFault, IsQuestionFault, IsReachText, reads_stored};
+ghost use Rattle.modinfo.specs.internal.Reach.{IsErrorIn, IsModulesFault, IsQuestionOf};
 
 use crate::fault::Fault;
 use deno_graph_info::analysis::{InfoFault, ModuleInfo};
 use deno_graph_info::reach::reach;
+use deno_graph_json::read::read_object;
 use deno_graph_json::{
-    Element, FromJson, Members, ObjectReader, ReadError, Tape, View, find_float, text_of,
+    Element, Expected, FromJson, Members, ObjectReader, ReadError, Tape, find_float, text_of,
 };
 use deno_graph_source::values::{Items, Text, TextMap};
 use json::Scratch;
-use std::alloc::{AllocError, Global};
+use std::alloc::{AllocError, AllocFailed, Global};
 use std::collections::BTreeMap;
 
 /// A document of `reach`.
@@ -50,99 +53,130 @@ pub fn parse_question(alloc: Global, text: &str) -> Result<Question, Fault>
 {
     let mut scratch = Scratch::new(alloc);
     let tape = Tape::read(alloc, text, &mut scratch)?;
-    read_question(alloc, tape.root())
+    Ok(read_question(alloc, tape.root())?)
 }
 
-/// Reads the value of a document. The error is the fault of the value, or `OutOfMemory` if an
-/// allocation fails.
-pub fn read_question(alloc: Global, document: Element<'_>) -> Result<Question, Fault>
+/// Why a document can't be read: a fault, and the value that isn't as expected, or a failed allocation.
+#[derive(Drop)]
+pub struct QuestionError {
+    pub fault: InfoFault,
+    pub error: ReadError,
+}
+
+impl QuestionError {
+    /// The error of a value in the member of this name, as the error of the object.
+    fn in_member(self, alloc: Global, name: &str) -> QuestionError
+        ensures fault { result.fault ≡ self.fault }
+        ensures place { (object member : Data) → get name.now object ≡ Some member
+            → IsIn member self.error → IsIn object result.error }
+        ensures mismatch { IsMismatch result.error → IsMismatch self.error }
+        ensures expected { (wanted : Expected) → Expects wanted self.error → Expects wanted result.error }
+    {
+        QuestionError {
+            fault: self.fault,
+            error: self.error.in_member(alloc, name),
+        }
+    }
+}
+
+impl From<ReadError> for QuestionError {
+    ghost use Rattle.std.specs.Prelude.{◌≡◌};
+    ghost use Rattle.modinfo.specs.internal.Reach.{shape_error};
+
+    ghost from_gives = { λ error given. given ≡ shape_error error };
+
+    fn from(error: ReadError) -> QuestionError {
+        QuestionError {
+            fault: InfoFault::Shape,
+            error,
+        }
+    }
+}
+
+impl From<AllocError> for QuestionError {
+    ghost use Rattle.std.specs.Prelude.{◌≡◌};
+    ghost use Rattle.deno_graph_json.specs.declared.error.ReadError.TheVariants.{OutOfMemory};
+    ghost use Rattle.modinfo.specs.internal.Reach.{shape_error};
+
+    ghost from_gives = { λ _ given. given ≡ shape_error OutOfMemory };
+
+    fn from(_error: AllocError) -> QuestionError {
+        QuestionError::from(ReadError::OutOfMemory)
+    }
+}
+
+impl<T: Drop> From<AllocFailed<T>> for QuestionError {
+    ghost use Rattle.std.specs.Prelude.{◌≡◌};
+    ghost use Rattle.deno_graph_json.specs.declared.error.ReadError.TheVariants.{OutOfMemory};
+    ghost use Rattle.modinfo.specs.internal.Reach.{shape_error};
+
+    ghost from_gives = { λ _ given. given ≡ shape_error OutOfMemory };
+
+    fn from(_error: AllocFailed<T>) -> QuestionError {
+        QuestionError::from(ReadError::OutOfMemory)
+    }
+}
+
+/// Reads the value of a document: first the root, then the modules in the order of their keys. The error is
+/// the first fault, with the value that isn't as expected, or `OutOfMemory` if an allocation fails.
+pub fn read_question(alloc: Global, document: Element<'_>) -> Result<Question, QuestionError>
     ensures { MatchResult result
         (λ question. Asks (data_of document.entry) (entries_of question.infos) question.root)
-        (IsNoQuestion (data_of document.entry)) }
-{
-    let Some(root) = root_of(document) else {
-        return Err(Fault::Info(InfoFault::Shape));
-    };
-    let Some(modules) = modules_of(document) else {
-        return Err(Fault::Info(InfoFault::Shape));
-    };
-    let root = Text::from_str(alloc, root)?;
-    let infos = read_infos(alloc, modules)?.into_map();
-    Ok(Question { infos, root })
-}
-
-/// Reads the modules and the root of a document. The error is the first mismatch, or a failed
-/// allocation.
-#[tactic(auto, using(deno_graph_json::proofs::Reading::reading), unfolding(crate::specs::internal::Reach::reads_modules))]
-pub fn read_modules(
-    alloc: Global,
-    document: Element<'_>,
-) -> Result<(TextMap<StoredInfo>, Text), ReadError>
-    ensures { IsReadResult (data_of document.entry) (reads_modules (data_of document.entry)) result }
+        (IsErrorIn (IsQuestionFault (data_of document.entry)) (data_of document.entry)) }
 {
     let object = ObjectReader::<Question>::new(alloc, document)?;
     let root = object.read("root")?;
-    let modules = object.read("modules")?;
-    Ok((modules, root))
-}
-
-/// The stored information of a module.
-#[derive(Drop)]
-pub struct StoredInfo {
-    info: ModuleInfo,
-}
-
-impl FromJson<Question> for StoredInfo {
-    ghost reads = { reads_stored_info };
-
-    #[tactic(auto, using(deno_graph_json::proofs::Reading::reading), unfolding(crate::specs::internal::Reach::reads_stored_info))]
-    fn from_json(alloc: Global, value: Element<'_>) -> Result<StoredInfo, ReadError> {
-        find_float(alloc, value)?;
-        let info = ModuleInfo::from_json(alloc, value)?;
-        Ok(StoredInfo { info })
+    let Some(modules) = object.get("modules") else {
+        return Err(QuestionError::from(ReadError::expected(alloc, Expected::Member("modules"))));
+    };
+    match read_modules(alloc, modules) {
+        Ok(infos) => Ok(Question {
+            infos: infos.into_map(),
+            root,
+        }),
+        Err(error) => Err(error.in_member(alloc, "modules")),
     }
 }
 
-/// The member `root`. `None` if the document has no such string.
-fn root_of<'a>(document: Element<'a>) -> Option<&'a str>
-    ensures { option_map (λ root. root.now) result ≡ root_in (data_of document.entry) }
+/// Reads the value of `modules`.
+fn read_modules(alloc: Global, modules: Element<'_>) -> Result<TextMap<ModuleInfo>, QuestionError>
+    ensures { MatchResult result
+        (λ infos. reads_map reads_stored (data_of modules.entry) ≡ Some infos)
+        (IsErrorIn (IsModulesFault (data_of modules.entry)) (data_of modules.entry)) }
 {
-    match object_of(document)?.get("root")?.view() {
-        View::String(root) => Some(root),
-        _ => None,
-    }
-}
-
-/// The members of the member `modules`. `None` if the document has no such object.
-fn modules_of<'a>(document: Element<'a>) -> Option<Members<'a>>
-    ensures { option_map members_data result ≡ modules_in (data_of document.entry) }
-{
-    object_of(object_of(document)?.get("modules")?)
-}
-
-/// The members of an object. `None` if the value is no object.
-fn object_of<'a>(value: Element<'a>) -> Option<Members<'a>>
-    ensures { option_map members_data result ≡ as_object (data_of value.entry) }
-{
-    match value.view() {
-        View::Object(members) => Some(members),
-        _ => None,
-    }
+    let members = read_object(alloc, modules)?;
+    read_infos(alloc, members)
 }
 
 /// Reads the information on each module, in the order of the keys.
-fn read_infos(alloc: Global, modules: Members<'_>) -> Result<TextMap<ModuleInfo>, Fault>
+fn read_infos(alloc: Global, modules: Members<'_>) -> Result<TextMap<ModuleInfo>, QuestionError>
     ensures { MatchResult result
         (λ infos. reads_members reads_stored (members_data modules.entry) ≡ Some infos)
-        (IsNoInfos (members_data modules.entry)) }
+        (IsErrorIn (IsFirstFault (members_data modules.entry)) (object (members_data modules.entry))) }
 {
     let found = modules.sorted(alloc)?;
     let mut infos = TextMap::new(alloc);
     for (key, value) in &found {
-        let info = ModuleInfo::from_element(alloc, *value)?;
-        drop(infos.insert(Text::from_str(alloc, key)?, info)?);
+        match read_info(alloc, *value) {
+            Ok(info) => drop(infos.insert(Text::from_str(alloc, key)?, info)?),
+            Err(error) => return Err(error.in_member(alloc, key)),
+        }
     }
     Ok(infos)
+}
+
+/// Reads the information on a module.
+fn read_info(alloc: Global, value: Element<'_>) -> Result<ModuleInfo, QuestionError>
+    ensures { MatchResult result (λ info. reads_stored (data_of value.entry) ≡ Some info)
+        (IsErrorIn (IsInfoFault (data_of value.entry)) (data_of value.entry)) }
+{
+    if let Err(error) = find_float(alloc, value) {
+        return Err(QuestionError {
+            fault: InfoFault::Float,
+            error,
+        });
+    }
+    Ok(ModuleInfo::from_json(alloc, value)?)
 }
 
 /// The keys as an array in compact JSON.

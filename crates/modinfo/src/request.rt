@@ -1,24 +1,26 @@
 //! From a document to the answer.
 
-ghost use Rattle.std.specs.Prelude.{◌≡◌, ℕ, List, MatchResult, Option};
+ghost use Rattle.std.specs.Prelude.{◌≡◌, ℕ, IsUtf8, List, MatchResult, Option};
 ghost use Rattle.std.specs.String.{string_bytes};
 ghost use Rattle.deno_graph_source.specs.ParsedSource.{ParsedModule};
 ghost use Rattle.deno_graph_module_info.specs.InfoOfModule.{IsInfoOfModule};
 ghost use Rattle.serde_json.specs.Data.{Data};
 ghost use Rattle.modinfo_document.specs.Document.{Contents, IsDocumentIn};
-ghost use Rattle.modinfo.specs.Answer.{IsAnswerText, IsDocumentFault, IsInfoText, IsModuleOf};
+ghost use Rattle.modinfo.specs.Answer.{IsAnswerTo, IsDocumentFault, IsInfoText, IsModuleOf};
 ghost use Rattle.modinfo.specs.Answer.{IsNoModule};
 ghost use Rattle.modinfo.specs.internal.Request.{IsReadFrom, format_of};
 
+use crate::convert::convert_text;
 use crate::fault::Fault;
 use crate::format::Format;
-use crate::input::{converted_of, document_of, estree_of, question_of, source_text_of};
-use crate::reach::Question;
-use crate::source::SourceText;
+use crate::input::text_of;
+use crate::reach::{Question, parse_question};
+use crate::source::{SourceText, parse_source_text};
 use deno_graph_info::analysis::ModuleInfo;
 use deno_graph_module_info::module_info;
 use deno_graph_source::tree::ParsedSource;
-use modinfo_document::Document;
+use modinfo_document::{Document, parse_document};
+use modinfo_estree::parse_estree;
 use std::alloc::Global;
 
 /// A document that was read. Borrows none of the input, which can be dropped before the answer is made.
@@ -37,19 +39,20 @@ pub enum Request {
 }
 
 impl Request {
-    /// Reads a document of the format. The error is a fault of the document, or `OutOfMemory` if an
-    /// allocation fails.
+    /// Reads a document of the format. The error is `Input` if the bytes aren't UTF-8, a fault of the
+    /// document, or `OutOfMemory` if an allocation fails.
     pub fn read(alloc: Global, format: Format, document: &[u8]) -> Result<Request, Fault>
         ensures { MatchResult result
-            (λ request. (format_of request ≡ format) × IsReadFrom document.now request)
+            (λ request. (format_of request ≡ format) × IsUtf8 document.now × IsReadFrom document.now request)
             (IsDocumentFault format document.now) }
     {
+        let text = text_of(document)?;
         match format {
-            Format::Module => Ok(Request::Module(document_of(alloc, document)?)),
-            Format::Estree => Ok(Request::Estree(estree_of(alloc, document)?)),
-            Format::Source => Ok(Request::Source(source_text_of(alloc, document)?)),
-            Format::Stored => Ok(Request::Stored(converted_of(alloc, document)?)),
-            Format::Modules => Ok(Request::Modules(question_of(alloc, document)?)),
+            Format::Module => Ok(Request::Module(parse_document(alloc, text)?)),
+            Format::Estree => Ok(Request::Estree(parse_estree(alloc, text)?)),
+            Format::Source => Ok(Request::Source(parse_source_text(alloc, text)?)),
+            Format::Stored => Ok(Request::Stored(convert_text(alloc, text)?)),
+            Format::Modules => Ok(Request::Modules(parse_question(alloc, text)?)),
         }
     }
 
@@ -57,7 +60,7 @@ impl Request {
     /// document, or `OutOfMemory` if an allocation fails.
     pub fn answer(self, alloc: Global) -> Result<String, Fault>
         ensures { (document : List ℕ) → IsReadFrom document self → MatchResult result
-            (λ text. IsAnswerText (format_of self) document (string_bytes text))
+            (λ text. IsAnswerTo (format_of self) document (string_bytes text))
             (IsDocumentFault (format_of self) document) }
     {
         match self {

@@ -1,5 +1,6 @@
 -- The status of a call, and what the call writes to the memory of its caller.
 use Rattle.std.specs.Prelude.{◌≡◌, ◌⊎◌, ◌++◌, ◌<◌, ◌≤◌, ℕ, List, codes, length, drop, Bool}
+use Rattle.modinfo_document.specs.Report.{HasNoWarnings}
 use Rattle.modinfo_document.specs.ReportText.{report_text}
 use Rattle.modinfo_document.specs.declared.report.Report.{Report}
 use Rattle.modinfo.specs.Check.{ReportsOnText}
@@ -57,7 +58,8 @@ abbrev pub IsNoInfoLine : List ℕ → List ℕ → ℕ → Fault → Type 0
 IsNoInfoLine source specifier number fault = AreNoParts source specifier number fault
     ⊎ ((of : SourceText) × HasParts source specifier number of × IsNoInfoOfText of fault)
 
--- The line is the JSON of a report on the text with these parts.
+-- The line is the JSON of a report on the text with these parts, without warnings.
 abbrev pub IsReportLine : List ℕ → List ℕ → ℕ → List ℕ → Type 0
 IsReportLine source specifier number line = (of : SourceText) × HasParts source specifier number of
-    × (report : Report) × ReportsOnText of report × (line ≡ report_text report ++ codes "\n")
+    × (report : Report) × ReportsOnText of report × HasNoWarnings report
+    × (line ≡ report_text report ++ codes "\n")

@@ -1,41 +1,38 @@
--- Reading the modules of a document of `reach`.
-use Rattle.std.specs.Prelude.{◌≡◌, ◌≢◌, ℕ, List, codes, Option, Some}
-use Rattle.serde_json.specs.Data.{Data, Members}
-use Rattle.serde_json.specs.Find.{as_object, as_str}
-use Rattle.serde_json.specs.Written.{has_float}
-use Rattle.deno_graph_json.specs.Read.Partial.{◌>>=◌, member_at, reads_map, unless_float}
-use Rattle.deno_graph_info.specs.Json.ModuleInfo.{reads_info}
-use Rattle.deno_graph_info.specs.declared.analysis.fault.InfoFault.TheVariants as info
+-- Reading documents of `reach`.
+use Rattle.std.specs.Prelude.{◌≡◌, ◌≢◌, ℕ, List, Some, MatchOption}
+use Rattle.serde_json.specs.Data.{Data}
+use Rattle.serde_json.specs.Find.{as_object}
 use Rattle.serde_json.specs.Read.{read as read_text}
 use Rattle.deno_graph_base.specs.TextMap.{entries_of}
+use Rattle.deno_graph_json.specs.Read.Error.{IsIn}
+use Rattle.deno_graph_json.specs.declared.error.ReadError.{ReadError}
+use Rattle.deno_graph_json.specs.declared.error.ReadError.TheVariants.{Mismatch, OutOfMemory}
+use Rattle.deno_graph_json.specs.declared.expected.Expected.TheVariants.{Integer}
+use Rattle.deno_graph_info.specs.declared.analysis.fault.InfoFault.{InfoFault}
+use Rattle.deno_graph_info.specs.declared.analysis.fault.InfoFault.TheVariants as info
 use Rattle.modinfo.specs.Reach.{Asks, IsFirstFault}
 use Rattle.modinfo.specs.declared.reach.Question.{Question}
-use Rattle.modinfo.specs.declared.reach.StoredInfo.{StoredInfo}
-use Rattle.modinfo.specs.declared.fault.Fault.{Fault}
-use Rattle.modinfo.specs.declared.fault.Fault.TheVariants.{Info, OutOfMemory}
-
--- The stored information of JSON without a float.
-unfoldable pub reads_stored_info : Data → Option StoredInfo
-reads_stored_info d = do
-  whole ← unless_float (has_float d)
-  info ← reads_info d
-  Some (record { info = info })
-
--- The modules and the root. Each module is the JSON of a `ModuleInfo`.
-unfoldable pub reads_modules : Data → Option (List (List ℕ × StoredInfo) × List ℕ)
-reads_modules d = do
-  ms ← as_object d
-  root ← member_at as_str (codes "root") ms
-  modules ← member_at (reads_map reads_stored_info) (codes "modules") ms
-  Some (modules, root)
+use Rattle.modinfo.specs.declared.reach.QuestionError.{QuestionError}
 
 -- The question of a document.
 abbrev pub IsQuestionOf : List ℕ → Question → Type 0
 IsQuestionOf document question = (value : Data) × (read_text document ≡ Some value)
     × Asks value (entries_of question.infos) question.root
 
--- Why the modules can't be read: the first fault, or a failed allocation.
-abbrev pub IsNoInfos : Members → Fault → Type 0
-IsNoInfos ms (Info inner) = (inner ≢ info.OutOfMemory) × IsFirstFault ms inner
-IsNoInfos ms OutOfMemory = Unit {0}
-IsNoInfos ms fault = ⊥
+-- The error of a reader, with its fault.
+abbrev pub shape_error : ReadError → QuestionError
+shape_error error = record { fault = info.Shape; error = error }
+
+-- The fault of the modules: that they are no object, or the first fault of one.
+abbrev pub IsModulesFault : Data → InfoFault → Type 0
+IsModulesFault d fault = MatchOption (as_object d) (fault ≡ info.Shape) (λ ms. IsFirstFault ms fault)
+
+-- There is this fault, and the error leads to a value that isn't as expected: a float, if that is the fault.
+-- Or an allocation failed.
+abbrev pub IsFaultIn : (InfoFault → Type 0) → Data → InfoFault → ReadError → Type 0
+IsFaultIn IsFault value fault (Mismatch found) = (fault ≢ info.OutOfMemory) × IsFault fault
+    × IsIn value (Mismatch found) × (fault ≡ info.Float → found.expected ≡ Integer)
+IsFaultIn IsFault value fault OutOfMemory = Unit {0}
+
+abbrev pub IsErrorIn : (InfoFault → Type 0) → Data → QuestionError → Type 0
+IsErrorIn IsFault value error = IsFaultIn IsFault value error.fault error.error

@@ -4,7 +4,7 @@ ghost use Rattle.std.specs.Prelude.{◌≡◌, ◌↔◌, IfOk, IfSome, IsSome, 
 ghost use Rattle.serde_json.specs.Written.{has_float};
 ghost use Rattle.deno_graph_json.specs.Data.{data_of, elements_data};
 ghost use Rattle.deno_graph_info.specs.Conversion.{AnyOverflows, Overflows};
-ghost use Rattle.modinfo_document.specs.Report.{IsNamed, Reports};
+ghost use Rattle.modinfo_document.specs.Report.{HasNoWarnings, IsNamed, Reports};
 ghost use Rattle.modinfo.specs.internal.Check.{ReportsOnValue, array_in};
 
 use deno_graph_info::analysis::{ConvertFault, laws};
@@ -24,7 +24,9 @@ pub fn float_report(alloc: Global, mismatch: &Mismatch) -> Result<FaultReport, A
 
 /// Checks the columns of stored information without a float. The only error is a failed allocation.
 pub fn report_columns(alloc: Global, value: Element<'_>) -> Result<Report, AllocError>
-    ensures { has_float (data_of value.entry) ≡ false → IfOk result (ReportsOnValue (data_of value.entry)) }
+    ensures report { has_float (data_of value.entry) ≡ false
+        → IfOk result (ReportsOnValue (data_of value.entry)) }
+    ensures warnings { IfOk result HasNoWarnings }
 {
     laws::conversion_has_one_outcome();
     match column_report(alloc, value)? {

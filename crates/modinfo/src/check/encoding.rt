@@ -1,6 +1,7 @@
 //! Reports on bytes that aren't UTF-8.
 
 ghost use Rattle.std.specs.Prelude.{IfOk};
+ghost use Rattle.std.specs.Str.{IsValidUpTo};
 ghost use Rattle.modinfo.specs.Check.{OfReport, ReportsEncoding};
 
 use crate::fault::Fault;
@@ -11,7 +12,7 @@ use std::alloc::{AllocError, Global};
 /// The report on bytes of which only the first `valid` are UTF-8. The only error is a failed
 /// allocation.
 pub fn report_invalid_utf8(alloc: Global, bytes: &[u8], valid: usize) -> Result<Report, AllocError>
-    ensures { IfOk result (OfReport ⊥ (ReportsEncoding bytes.now)) }
+    ensures { IsValidUpTo bytes.now valid → IfOk result (OfReport ⊥ (ReportsEncoding bytes.now)) }
 {
     let before = bytes.get(..valid).unwrap_or(&[]);
     let text = basic::from_utf8(before).unwrap_or("");

@@ -1,18 +1,15 @@
 //! Checking documents of `reach`.
 
-ghost use Rattle.std.specs.Prelude.{◌≢◌, IfOk};
+ghost use Rattle.std.specs.Prelude.{IfOk};
+ghost use Rattle.serde_json.specs.Data.{Data};
 ghost use Rattle.deno_graph_base.specs.TextMap.{entries_of};
 ghost use Rattle.deno_graph_json.specs.Data.{data_of};
-ghost use Rattle.deno_graph_info.specs.FaultName.{info_fault_name};
-ghost use Rattle.deno_graph_info.specs.declared.analysis.fault.InfoFault.TheVariants.{OutOfMemory};
-ghost use Rattle.modinfo_document.specs.Report.{IsNamed, PointsInto};
 ghost use Rattle.modinfo.specs.Check.{AsksSome, OfReport, ReportsOnQuestion, ReportsQuestion};
 ghost use Rattle.modinfo.specs.Check.{WarnsOfModules, WarnsOfQuestion, WarnsOfRoot};
-ghost use Rattle.modinfo.specs.Reach.{IsNoQuestion};
+ghost use Rattle.modinfo.specs.Reach.{IsQuestionFault};
+ghost use Rattle.modinfo.specs.internal.Reach.{IsErrorIn};
 
-use crate::fault::Fault;
-use crate::reach::{Question, read_modules, read_question};
-use deno_graph_info::analysis::InfoFault;
+use crate::reach::{Question, QuestionError, read_question};
 use deno_graph_json::{Element, ReadError, Tape, TapeError};
 use deno_graph_source::values::TextMap;
 use json::Scratch;
@@ -44,7 +41,7 @@ fn report_question(alloc: Global, value: Element<'_>) -> Result<Report, AllocErr
 {
     match read_question(alloc, value) {
         Ok(question) => Ok(Report::Valid(root_warnings(alloc, question)?)),
-        Err(fault) => report_fault(alloc, value, fault),
+        Err(error) => Ok(Report::Invalid(fault_report(alloc, &error)?)),
     }
 }
 
@@ -67,31 +64,14 @@ fn root_warnings(alloc: Global, question: Question) -> Result<Warnings, AllocErr
     )
 }
 
-/// The report on a document with this fault. The only error is a failed allocation.
-fn report_fault(alloc: Global, value: Element<'_>, fault: Fault) -> Result<Report, AllocError>
-    ensures report { IsNoQuestion (data_of value.entry) fault
-        → IfOk result (OfReport (AsksSome (data_of value.entry)) (ReportsQuestion (data_of value.entry))) }
-    ensures warnings { IfOk result (WarnsOfModules (data_of value.entry)) }
+/// The report on a document with this error. The only error is a failed allocation.
+fn fault_report(alloc: Global, error: &QuestionError) -> Result<FaultReport, AllocError>
+    ensures { (value : Data) → IsErrorIn (IsQuestionFault value) value error.now
+        → IfOk result (ReportsQuestion value) }
 {
-    let Fault::Info(fault) = fault else {
+    let ReadError::Mismatch(mismatch) = &error.error else {
         return Err(AllocError);
     };
-    Ok(Report::Invalid(fault_report(alloc, value, &fault)?))
-}
-
-/// The report on a document with this fault: the place is that of the first value that isn't as expected.
-/// The error is a failed allocation, or that the document can be read.
-fn fault_report(
-    alloc: Global,
-    value: Element<'_>,
-    fault: &InfoFault,
-) -> Result<FaultReport, AllocError>
-    ensures name { IfOk result (IsNamed (info_fault_name fault.now)) }
-    ensures place { IfOk result (PointsInto (data_of value.entry)) }
-{
-    let name = String::from_str(alloc, fault.name())?;
-    match read_modules(alloc, value) {
-        Err(ReadError::Mismatch(mismatch)) => FaultReport::of_mismatch(alloc, name, &mismatch),
-        _ => Err(AllocError),
-    }
+    let name = String::from_str(alloc, error.fault.name())?;
+    FaultReport::of_mismatch(alloc, name, mismatch)
 }

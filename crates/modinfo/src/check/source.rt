@@ -3,7 +3,7 @@
 ghost use Rattle.std.specs.Prelude.{IfOk};
 ghost use Rattle.std.specs.Rc.{rc_str_bytes};
 ghost use Rattle.deno_graph_json.specs.Data.{data_of};
-ghost use Rattle.modinfo_document.specs.Report.{IsNamed};
+ghost use Rattle.modinfo_document.specs.Report.{HasNoWarnings, IsNamed};
 ghost use Rattle.modinfo.specs.Check.{HasParsedText, HasSyntaxPlace, IsSourceFaultReport, IsTextFaultReport, OfReport, ReportsOnText};
 ghost use Rattle.modinfo.specs.Fault.{name_of_fault};
 ghost use Rattle.modinfo.specs.Source.{IsSourceDocument};
@@ -24,7 +24,8 @@ use std::rc::RcStr;
 /// Checks a text as a document of `analyze --source`. Returns `Valid` if the parser reads the source
 /// text, else `Invalid` with the first fault. The only error is a failed allocation.
 pub fn check_source(alloc: Global, text: &str) -> Result<Report, AllocError>
-    ensures { IfOk result (OfReport (IsSourceDocument text.now) (IsSourceFaultReport text.now)) }
+    ensures report { IfOk result (OfReport (IsSourceDocument text.now) (IsSourceFaultReport text.now)) }
+    ensures warnings { IfOk result HasNoWarnings }
 {
     let mut scratch = Scratch::new(alloc);
     match Tape::read(alloc, text, &mut scratch) {
@@ -38,7 +39,9 @@ pub fn check_source(alloc: Global, text: &str) -> Result<Report, AllocError>
 
 /// Checks the JSON of a document.
 fn check_value(alloc: Global, value: Element<'_>) -> Result<Report, AllocError>
-    ensures { IfOk result (OfReport (HasParsedText (data_of value.entry)) (IsTextFaultReport (data_of value.entry))) }
+    ensures report { IfOk result
+        (OfReport (HasParsedText (data_of value.entry)) (IsTextFaultReport (data_of value.entry))) }
+    ensures warnings { IfOk result HasNoWarnings }
 {
     match read_source_text(alloc, value) {
         Ok(text) => check_text(alloc, text),
@@ -51,7 +54,8 @@ fn check_value(alloc: Global, value: Element<'_>) -> Result<Report, AllocError>
 
 /// Checks the specifier of a source text, and then the text. The only error is a failed allocation.
 pub fn check_text(alloc: Global, text: SourceText) -> Result<Report, AllocError>
-    ensures { IfOk result (ReportsOnText text) }
+    ensures report { IfOk result (ReportsOnText text) }
+    ensures warnings { IfOk result HasNoWarnings }
 {
     let specifier = match text.url(alloc) {
         Ok(specifier) => specifier,

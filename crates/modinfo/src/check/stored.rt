@@ -2,6 +2,7 @@
 
 ghost use Rattle.std.specs.Prelude.{IfOk};
 ghost use Rattle.deno_graph_json.specs.Data.{data_of};
+ghost use Rattle.modinfo_document.specs.Report.{HasNoWarnings};
 ghost use Rattle.modinfo.specs.Check.{ReportsOnStored};
 ghost use Rattle.modinfo.specs.internal.Check.{ReportsOnValue};
 
@@ -14,7 +15,8 @@ use std::alloc::{AllocError, Global};
 /// Checks a text as a document of `convert`: the stored information of one module. The only error is a
 /// failed allocation.
 pub fn check_stored(alloc: Global, text: &str) -> Result<Report, AllocError>
-    ensures { IfOk result (ReportsOnStored text.now) }
+    ensures report { IfOk result (ReportsOnStored text.now) }
+    ensures warnings { IfOk result HasNoWarnings }
 {
     let mut scratch = Scratch::new(alloc);
     match Tape::read(alloc, text, &mut scratch) {
@@ -28,7 +30,8 @@ pub fn check_stored(alloc: Global, text: &str) -> Result<Report, AllocError>
 
 /// Checks the JSON of stored information.
 fn report_stored(alloc: Global, value: Element<'_>) -> Result<Report, AllocError>
-    ensures { IfOk result (ReportsOnValue (data_of value.entry)) }
+    ensures report { IfOk result (ReportsOnValue (data_of value.entry)) }
+    ensures warnings { IfOk result HasNoWarnings }
 {
     match find_float(alloc, value) {
         Ok(()) => report_columns(alloc, value),

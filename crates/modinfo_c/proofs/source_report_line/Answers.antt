@@ -6,4 +6,11 @@ pub returns : goal.returns
 unfolding lib.Utf8.encode
 returns c =
     let line = c.in_ok-push.ensures.bytes ∙ ap (λ bytes. bytes ++ (10 ∷ [])) c.in_ok-line.ensures in
-    (c.in_ok-source.source, c.in_ok-source.ensures, c.in_ok-report.report, c.in_ok-report.ensures, line)
+    let report = c.in_ok-report.ensures in (
+      c.in_ok-source.source,
+      c.in_ok-source.ensures,
+      c.in_ok-report.report,
+      report.report,
+      report.warnings,
+      line,
+    )

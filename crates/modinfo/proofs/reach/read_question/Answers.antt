@@ -1,39 +1,66 @@
-use Rattle.std.proofs.Common.{Some, sym, ap, ◌∙◌}
+use Rattle.std.proofs.Common.{sym}
 use Rattle.std.proofs.lemmas.Result.{err_from_is_err_and}
-use Rattle.deno_graph_json.specs.Data.{data_of, members_data}
-use Rattle.modinfo.specs.Reach.{Question}
-use Rattle.modinfo.proofs.Faults.{no_modules, no_question}
-use Rattle.modinfo.proofs.Modules.{asks_both, lacks_modules, lacks_root}
+use Rattle.serde_json.specs.Data.{object}
+use Rattle.deno_graph_json.proofs.Reading.{is_object}
+use Rattle.deno_graph_json.specs.Data.{data_of}
+use Rattle.deno_graph_json.specs.ObjectReader.{readable}
+use Rattle.deno_graph_json.specs.Read.Error.{IsIn}
+use Rattle.modinfo.specs.Reach.{IsQuestionFault}
+use Rattle.modinfo.specs.internal.Reach.{IsModulesFault}
+use Rattle.modinfo.proofs.Modules.{
+  asks_for,
+  error_around,
+  fault_of_modules,
+  lacks_modules,
+  lacks_object,
+  no_question,
+  root_error,
+}
 use Rattle.modinfo.proofs.reach.read_question.Goals as goal
 
+-- The document is no object.
+pub returns-in_err-object : goal.returns-in_err-object
+returns-in_err-object c =
+    let is = err_from_is_err_and c.from_residual.result c.from_residual.ensures.1 in
+    rw (is.1, is.2) (no_question (data_of c.args.document) c.in_err-object.field-0.0
+    (lacks_object (data_of c.args.document) c.in_err-object.ensures.1) c.in_err-object.ensures.2)
+
+-- The document has no root.
+pub returns-in_err-root : goal.returns-in_err-root
+returns-in_err-root c =
+    let is = err_from_is_err_and c.from_residual-in_err-root.result
+    c.from_residual-in_err-root.ensures.1 in
+    let ms = readable c.in_ok-object.object in
+    rw (is.1, is.2, is_object (data_of c.args.document) ms c.in_ok-object.ensures)
+    (root_error ms c.in_err-root.field-0.0 c.in_err-root.ensures)
+
+-- The document has no modules.
 pub returns-in_default : goal.returns-in_default
-returns-in_default c = no_question _ (lacks_root (data_of c.args.document) (sym c.in_default.ensures))
+returns-in_default c =
+    let ms = readable c.in_ok-object.object in
+    let none = sym c.in_default.ensures in
+    let place : IsIn (object ms) c.expected.result = rw c.expected.ensures none in
+    rw (c.from.ensures, is_object (data_of c.args.document) ms c.in_ok-object.ensures)
+    (no_question (object ms) c.expected.result (lacks_modules ms c.in_ok-root.root c.in_ok-root.ensures none)
+    place)
 
-pub returns-in_default-modules_of : goal.returns-in_default-modules_of
-returns-in_default-modules_of c =
-    no_question _ (lacks_modules (data_of c.args.document) c.in-Some.root.now (sym c.in-Some.ensures)
-    (sym c.in_default-modules_of.ensures))
+-- The question of the document.
+pub returns-in-Ok : goal.returns-in-Ok
+returns-in-Ok c =
+    let ms = readable c.in_ok-object.object in
+    rw (is_object (data_of c.args.document) ms c.in_ok-object.ensures, c.into_map.ensures)
+    (asks_for ms c.in_ok-root.root c.in_ok-root.ensures (data_of c.in-Some.modules) (sym c.in-Some.ensures)
+    c.in-Ok.infos c.in-Ok.ensures)
 
-pub returns-in_err-read_infos : goal.returns-in_err-read_infos
-returns-in_err-read_infos c =
-    let is = err_from_is_err_and c.from_residual-in_err-read_infos.result
-    c.from_residual-in_err-read_infos.ensures.1 in
-    let modules = members_data c.in-Some-modules_of.modules in
-    let root = c.in-Some.root.now in
-    let question : Question = record { modules = modules; root = root } in
-    let asks = asks_both (data_of c.args.document) root modules (sym c.in-Some.ensures)
-    (sym c.in-Some-modules_of.ensures) in
-    rw (is.1, is.2) (no_modules (data_of c.args.document) question c.in_err-read_infos.field-0.0 asks
-    c.in_err-read_infos.ensures)
-
-pub returns : goal.returns
-returns c =
-    let modules = members_data c.in-Some-modules_of.modules in
-    let root = c.in-Some.root.now in
-    let asks = asks_both (data_of c.args.document) root modules (sym c.in-Some.ensures)
-    (sym c.in-Some-modules_of.ensures) in (
-      record { modules = modules; root = root },
-      asks,
-      c.in_ok-root.ensures,
-      c.in_ok-read_infos.ensures ∙ ap Some (sym c.into_map-infos.ensures),
-    )
+-- A module has a fault, or the modules are no object.
+pub returns-in-Err : goal.returns-in-Err
+returns-in-Err c =
+    let ms = readable c.in_ok-object.object in
+    let d = data_of c.in-Some.modules in
+    let found = sym c.in-Some.ensures in
+    let around = c.in_member.ensures in
+    let fault = c.in-Err.error.fault in
+    rw (around.fault, is_object (data_of c.args.document) ms c.in_ok-object.ensures)
+    (error_around (IsModulesFault d) (IsQuestionFault (object ms)) (object ms) d fault c.in-Err.error.error
+    c.in_member.result.error around.mismatch (around.place (object ms) d found) around.expected
+    (fault_of_modules ms c.in_ok-root.root c.in_ok-root.ensures d found fault) c.in-Err.ensures)

@@ -4,8 +4,8 @@ use Rattle.deno_graph_info.specs.declared.conversion.fault.ConvertFault.TheVaria
 use Rattle.modinfo.proofs.StoredOverflow.{column_fault}
 use Rattle.modinfo.proofs.check.conversion.report_columns.Goals as goal
 
-pub returns-in-Some : goal.returns-in-Some
-returns-in-Some c =
+pub returns-in-Some-clause-report : goal.returns-in-Some-clause-report
+returns-in-Some-clause-report c =
     let apart : convert.ColumnOverflow ≢ convert.Float = λ same. cc (same) in
     λ none. record {
       fault = convert.ColumnOverflow;
@@ -16,8 +16,8 @@ returns-in-Some c =
       place = λ same. absurd (apart same);
     }
 
-pub returns-in-None : goal.returns-in-None
-returns-in-None c =
+pub returns-in-None-clause-report : goal.returns-in-None-clause-report
+returns-in-None-clause-report c =
     λ none. (
       none,
       ⊎_elim (λ converted. converted)

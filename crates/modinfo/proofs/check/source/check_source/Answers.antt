@@ -17,7 +17,7 @@ of_value text value (Ok (Valid warnings)) read h = (h.0, (value, read, h.1), h.2
 of_value text value (Ok (Invalid report)) read h = inr (value, read, h)
 of_value text value (Err refused) read h = tt
 
-pub returns-in-Ok : goal.returns-in-Ok
-returns-in-Ok c =
+pub returns-in-Ok-clause-report : goal.returns-in-Ok-clause-report
+returns-in-Ok-clause-report c =
     of_value c.args.text.now (data_of c.root.result) c.check_value.result
-    (c.in-Ok.ensures.json ∙ ap Some (sym c.root.ensures.json)) c.check_value.ensures
+    (c.in-Ok.ensures.json ∙ ap Some (sym c.root.ensures.json)) c.check_value.ensures.report

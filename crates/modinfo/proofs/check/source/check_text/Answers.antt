@@ -4,9 +4,9 @@ use Rattle.modinfo.specs.declared.fault.Fault.TheVariants.{Syntax}
 use Rattle.modinfo.proofs.check.source.check_text.Goals as goal
 
 -- The parser reported a syntax error.
-pub returns-in_ok-syntax_report-in-Err-Diagnostic :
-    goal.returns-in_ok-syntax_report-in-Err-Diagnostic
-returns-in_ok-syntax_report-in-Err-Diagnostic c = record {
+pub returns-in_ok-syntax_report-in-Err-Diagnostic-clause-report :
+    goal.returns-in_ok-syntax_report-in-Err-Diagnostic-clause-report
+returns-in_ok-syntax_report-in-Err-Diagnostic-clause-report c = record {
   fault = Syntax;
   no_memory = λ same. cc (same);
   has_fault = (c.in-Ok.specifier, c.in-Ok.ensures);

@@ -17,6 +17,7 @@ of_text value text (Ok (Valid warnings)) reads h = (text, reads, h)
 of_text value text (Ok (Invalid report)) reads h = inr (text, reads, h)
 of_text value text (Err refused) reads h = tt
 
-pub returns-in-Ok : goal.returns-in-Ok
-returns-in-Ok c =
-    of_text (data_of c.args.value) c.in-Ok.text c.check_text.result c.in-Ok.ensures c.check_text.ensures
+pub returns-in-Ok-clause-report : goal.returns-in-Ok-clause-report
+returns-in-Ok-clause-report c =
+    of_text (data_of c.args.value) c.in-Ok.text c.check_text.result c.in-Ok.ensures
+    c.check_text.ensures.report

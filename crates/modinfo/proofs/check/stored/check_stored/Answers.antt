@@ -16,7 +16,7 @@ of_value text value (Ok (Valid warnings)) read h = (value, read, h)
 of_value text value (Ok (Invalid fault)) read h = inr (value, read, h)
 of_value text value (Err refused) read h = tt
 
-pub returns-in-Ok : goal.returns-in-Ok
-returns-in-Ok c =
+pub returns-in-Ok-clause-report : goal.returns-in-Ok-clause-report
+returns-in-Ok-clause-report c =
     of_value c.args.text.now (data_of c.root.result) c.report_stored.result
-    (c.in-Ok.ensures.json ∙ ap Some (sym c.root.ensures.json)) c.report_stored.ensures
+    (c.in-Ok.ensures.json ∙ ap Some (sym c.root.ensures.json)) c.report_stored.ensures.report
