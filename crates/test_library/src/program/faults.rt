@@ -57,9 +57,8 @@ fn faults_of_stored_information(rt: HostRuntime) {
             (Fault::from(ConvertFault::ColumnOverflow), "ColumnOverflow"),
             (Fault::from(ConvertFault::Float), "Float"),
             (Fault::from(ConvertFault::OutOfMemory), "OutOfMemory"),
-            (Fault::from(InfoFault::Shape), "Shape"),
-            (Fault::from(InfoFault::Float), "Float"),
-            (Fault::from(InfoFault::OutOfMemory), "OutOfMemory"),
+            (Fault::Info(InfoFault::Shape), "Shape"),
+            (Fault::Info(InfoFault::Float), "Float"),
         ],
     );
 }
