@@ -7,11 +7,9 @@ use Rattle.std.proofs.lemmas.List.{take_at, drop_at, append-nil}
 use Rattle.std.proofs.lemmas.Option.{IfSome_then}
 use Rattle.std.proofs.lemmas.Str.{encodes-chars, encodes-append, encode_ascii, scalars-chars}
 use Rattle.std.proofs.lemmas.Str.{IsCharBoundary-at_seam}
-use Rattle.std.specs.List.{AllByRecursion}
 use Rattle.std.specs.Str.{chars, IsUtf8}
 use lib.Utf8.{encodes, encode, scalar, scalars}
-use Rattle.deno_graph_pragmas.specs.Finders.{attribute, quoted_pragma, quoteless_pragma, jsx_pragma}
-use Rattle.deno_graph_pragmas.specs.Finders.{source_mapping_url_pattern, finder_patterns}
+use Rattle.deno_graph_pragmas.specs.Finders.{EachFinder, attribute, quoted_pragma}
 use Rattle.deno_graph_pragmas.specs.declared.finders.matches.Match.{Match}
 use Rattle.deno_graph_pragmas.specs.Match.{match_part_of}
 use Rattle.deno_graph_pragmas.specs.Piece.{Piece, white_space, any_white_space, keyword, literal, quote}
@@ -220,45 +218,22 @@ one_part pattern apart text one other first second =
     ∙ ap (λ t. length (encodes (b.before ++ b.front ++ t))) parts.captured ∙ sym second.end)
 
 -- a property of the pattern of each finder that captures a part
-of_each : (P : Pattern → Type 0) → ((pattern : Pattern) → IsDetermined pattern → P pattern)
-    → AllByRecursion P finder_patterns
-of_each P from = (
-  from (attribute (codes "path")) (attribute_apart (codes "path")),
-  (
-    from (attribute (codes "types")) (attribute_apart (codes "types")),
-    (
-      from (attribute (codes "resolution-mode")) (attribute_apart (codes "resolution-mode")),
-      (
-        from (jsx_pragma (codes "@jsxImportSource")) (jsx_pragma_apart (codes "@jsxImportSource") refl),
-        (
-          from (jsx_pragma (codes "@jsxImportSourceTypes"))
-              (jsx_pragma_apart (codes "@jsxImportSourceTypes") refl),
-          (
-            from source_mapping_url_pattern source_mapping_url_apart,
-            (
-              from (quoted_pragma (codes "@ts-self-types"))
-                  (quoted_pragma_apart (codes "@ts-self-types") refl),
-              (
-                from (quoted_pragma (codes "@ts-types")) (quoted_pragma_apart (codes "@ts-types") refl),
-                (
-                  from (quoted_pragma (codes "@deno-types")) (quoted_pragma_apart (codes "@deno-types") refl),
-                  (
-                    from (quoteless_pragma (codes "@deno-types"))
-                        (quoteless_pragma_apart (codes "@deno-types") refl),
-                    tt,
-                  ),
-                ),
-              ),
-            ),
-          ),
-        ),
-      ),
-    ),
-  ),
-)
+of_each : (P : Pattern → Type 0) → ((pattern : Pattern) → IsDetermined pattern → P pattern) → EachFinder P
+of_each P from = record {
+  path_reference = from _ (attribute_apart (codes "path"));
+  types_reference = from _ (attribute_apart (codes "types"));
+  resolution_mode = from _ (attribute_apart (codes "resolution-mode"));
+  jsx_import_source = from _ (jsx_pragma_apart (codes "@jsxImportSource") refl);
+  jsx_import_source_types = from _ (jsx_pragma_apart (codes "@jsxImportSourceTypes") refl);
+  source_mapping_url = from _ source_mapping_url_apart;
+  ts_self_types = from _ (quoted_pragma_apart (codes "@ts-self-types") refl);
+  ts_types = from _ (quoted_pragma_apart (codes "@ts-types") refl);
+  deno_types = from _ (quoted_pragma_apart (codes "@deno-types") refl);
+  quoteless_deno_types = from _ (quoteless_pragma_apart (codes "@deno-types") refl);
+}
 
-pub starts_determine : AllByRecursion StartDetermines finder_patterns
+pub starts_determine : EachFinder StartDetermines
 starts_determine = of_each StartDetermines determined
 
-pub one_part_each : AllByRecursion HasOnePart finder_patterns
+pub one_part_each : EachFinder HasOnePart
 one_part_each = of_each HasOnePart one_part
