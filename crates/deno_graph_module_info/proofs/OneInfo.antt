@@ -3,7 +3,6 @@ use Rattle.std.proofs.Common.{
   ◌≡◌,
   ℕ,
   ◌-◌,
-  ◌⊎◌,
   inl,
   inr,
   ◌↔◌,
@@ -52,7 +51,6 @@ use Rattle.deno_graph_dep.proofs.Unique.{AreDependencies-unique}
 use Rattle.deno_graph_module_info.specs.CommentImports.{reads_jsdoc}
 use Rattle.deno_graph_module_info.specs.HeadTail.{head_comments, tail_comments}
 use Rattle.deno_graph_module_info.specs.ModuleInfo.{
-  AreDescribed,
   Describes,
   IsModuleInfo,
   comments_before,
@@ -75,7 +73,6 @@ use Rattle.deno_graph_module_info.specs.Pragma.{
   specifier_of_part,
 }
 use Rattle.deno_graph_module_info.specs.References.{
-  AreReferences,
   IsModeOf,
   IsReferenceOf,
   RefersTo,
@@ -201,8 +198,8 @@ module _ (parts : EachFinder HasOnePart) (source : List ℕ) where
   one_mode text a b (inl is) (inr also) = absurd (is.0 also.1.split)
   one_mode text a b (inr is) (inl also) = absurd (also.0 is.1.split)
   one_mode text a b (inr is) (inr also) =
-      is.2 ∙ (ap (λ (part : TextPart). mode_named part.text) (parts.resolution_mode text is.0 also.0 is.1 also.1)
-      ∙ sym also.2)
+      is.2 ∙ (ap (λ (part : TextPart). mode_named part.text)
+      (parts.resolution_mode text is.0 also.0 is.1 also.1) ∙ sym also.2)
 
   -- a comment has the pragma by which it names a specifier, if the pragma counts in all comments
   has_named : (pragma : Pragma) (comment : DependencyComment) (specifier : SpecifierWithRange)
@@ -283,8 +280,8 @@ one_info parts source media_type program comments info other is also =
     is.self_types_specifier also.self_types_specifier in
     let jsx = one_first_name source jsx_import_source_pragma parts.jsx_import_source jsx_comments
     info.jsx_import_source other.jsx_import_source is.jsx_import_source also.jsx_import_source in
-    let jsx_types = one_first_name source jsx_import_source_types_pragma parts.jsx_import_source_types jsx_comments
-    info.jsx_import_source_types other.jsx_import_source_types is.jsx_import_source_types
+    let jsx_types = one_first_name source jsx_import_source_types_pragma parts.jsx_import_source_types
+    jsx_comments info.jsx_import_source_types other.jsx_import_source_types is.jsx_import_source_types
     also.jsx_import_source_types in
     let jsdoc = one_info_list (reads_jsdoc media_type) source (comments_of comments) info.jsdoc_imports
     other.jsdoc_imports is.jsdoc_imports also.jsdoc_imports in

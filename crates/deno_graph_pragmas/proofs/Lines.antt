@@ -73,7 +73,8 @@ to_line text line (all, whole) (front, after, in_front, is) = elim whole [
       let parts : line ++ line_feed ∷ more.0 ≡ (front ++ codes "/>") ++ after =
       sym more.1 ∙ is ∙ sym (append_assoc front (codes "/>") after) in
       let within = inside (front ++ codes "/>") line more.0 after
-      (list_all-append is_in_line front (codes "/>") ∙ and_from (list_all is_in_line front) true in_front refl)
+      (list_all-append is_in_line front (codes "/>")
+      ∙ and_from (list_all is_in_line front) true in_front refl)
       parts in
       (front, within.0, within.1 ∙ append_assoc front (codes "/>") within.0)
 ]
@@ -82,7 +83,8 @@ from_line : (text line : List ℕ) → IsFirstLine text line → HasClose line �
 unfolding HasClose
 from_line text line (all, whole) (front, back, is) =
     let in_front = (and_parts (list_all is_in_line front) (list_all is_in_line (codes "/>" ++ back))
-    (sym (list_all-append is_in_line front (codes "/>" ++ back)) ∙ ap (list_all is_in_line) (sym is) ∙ all)).0 in
+    (sym (list_all-append is_in_line front (codes "/>" ++ back))
+    ∙ ap (list_all is_in_line) (sym is) ∙ all)).0 in
     elim whole [
       | inl same ↦ (front, back, in_front, same ∙ is)
       | inr more ↦ (

@@ -9,6 +9,6 @@ returns-in-Ok c =
     let d = data_of c.args.dependency in
     let read = sym c.in_ok-comments.ensures ∙ c.in-Some.is in (
       λ overflows. absurd (cc),
-      λ overflows. absurd (typed_fits parts.deno_types parts.quoteless_deno_types d c.in-Some.comments c.in-Ok._types read
-          c.in-Ok.ensures.ok overflows),
+      λ overflows. absurd (typed_fits parts.deno_types parts.quoteless_deno_types d c.in-Some.comments
+          c.in-Ok._types read c.in-Ok.ensures.ok overflows),
     )
