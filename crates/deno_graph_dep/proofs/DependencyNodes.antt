@@ -31,7 +31,7 @@ use Rattle.deno_graph_dep.specs.DependencyRules.{dependency_rules, is_dependency
 use Rattle.deno_graph_dep.specs.DependencyNodes.{
   AreDependencyNodes,
   dependency_at,
-  dependencies_below,
+  dependency_nodes_below,
   dependency_node,
 }
 use Rattle.deno_graph_dep.specs.Listing.{Rules}
@@ -141,7 +141,7 @@ dependency_is node = by_test (is_dependency node)
 
 -- the dependencies by plain recursion are those at the paths of the listing
 pub AreDependencyNodes-dependencies_below : (body : List Node)
-    → AreDependencyNodes body (dependencies_below body)
+    → AreDependencyNodes body (dependency_nodes_below body)
 unfolding own
 AreDependencyNodes-dependencies_below body = record {
   paths = listing_paths dependency_rules body;

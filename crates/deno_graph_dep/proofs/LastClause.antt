@@ -48,7 +48,7 @@ use Rattle.deno_graph_dep.specs.Attributes.{
   AreValueAttributes,
   AreAttributesAt,
   key_at,
-  IsClause,
+  IsAttributeClause,
   AreClauseAttributes,
 }
 use Rattle.deno_graph_dep.specs.internal.AttributeSteps.{known_object}
@@ -103,7 +103,7 @@ module _ (xs : List Node) (i : ℕ) (y : Node) (within : i < length xs) (at : y 
   value_here = ap (option_and_then value_node) here
 
 -- no property past the end is a clause
-past_the_end : (xs : List Node) (index : ℕ) → length xs ≤ index → IsClause xs index → ⊥
+past_the_end : (xs : List Node) (index : ℕ) → length xs ≤ index → IsAttributeClause xs index → ⊥
 past_the_end xs index past clause =
     let none : key_at xs index ≡ None = ap (option_and_then static_key) (slice_get_past xs index past) in
     ⊎_elim (λ k. none-some (codes "with") (sym none ∙ k))
@@ -113,14 +113,14 @@ past_the_end xs index past clause =
 pub record LastBelow (xs : List Node) (bound : ℕ) (object : Node) : Type 0 where
   pub index : ℕ
   pub below : index < bound
-  pub is_clause : IsClause xs index
-  pub none_between : (greater : ℕ) → index < greater → greater < bound → IsClause xs greater → ⊥
+  pub is_clause : IsAttributeClause xs index
+  pub none_between : (greater : ℕ) → index < greater → greater < bound → IsAttributeClause xs greater → ⊥
   pub value : option_and_then value_node (slice_get xs index) ≡ Some object
   pub is : is_object (kind_of object) ≡ true
   pub keys : has_static_keys object ≡ true
 
 abbrev pub IsLastBelow : List Node → ℕ → Option Node → Type 0
-IsLastBelow xs bound None = (index : ℕ) → index < bound → IsClause xs index → ⊥
+IsLastBelow xs bound None = (index : ℕ) → index < bound → IsAttributeClause xs index → ⊥
 IsLastBelow xs bound (Some object) = LastBelow xs bound object
 
 -- the indices below a bound: whether one has the key `with`, that the value of no clause is unknown,
@@ -128,8 +128,8 @@ IsLastBelow xs bound (Some object) = LastBelow xs bound object
 pub record ClausesBelow (xs : List Node) (bound : ℕ) (after_with : Bool) (last : Option Node) : Type 0 where
   pub with_below : after_with ≡ true → (index : ℕ) × (index < bound) × (key_at xs index ≡ Some (codes "with"))
   pub no_with : after_with ≡ false → (index : ℕ) → index < bound → key_at xs index ≢ Some (codes "with")
-  pub known : (index : ℕ) → index < bound → IsClause xs index → AreAttributesAt xs index attributes.Unknown
-      → ⊥
+  pub known : (index : ℕ) → index < bound → IsAttributeClause xs index
+      → AreAttributesAt xs index attributes.Unknown → ⊥
   pub last_is : IsLastBelow xs bound last
 
 -- whether a property is a clause, by whether a `with` came before
@@ -147,12 +147,12 @@ below_next P i before here index below =
 -- the next property
 module _ (xs : List Node) (i : ℕ) (y : Node) (within : i < length xs) (at : y ≡ get_or xs i y)
     (after_with : Bool) (last : Option Node) (so_far : ClausesBelow xs i after_with last) where
-  is_clause : IsClauseAfter y after_with → IsClause xs i
+  is_clause : IsClauseAfter y after_with → IsAttributeClause xs i
   is_clause clause =
       ⊎_elim (λ k. inl (key_here xs i y within at ∙ k))
       (λ k. inr (key_here xs i y within at ∙ k.0, so_far.no_with k.1)) clause
 
-  clause_after : IsClause xs i → IsClauseAfter y after_with
+  clause_after : IsAttributeClause xs i → IsClauseAfter y after_with
   clause_after clause =
       ⊎_elim (λ k. inl (sym (key_here xs i y within at) ∙ k))
       (λ k. inr (
@@ -182,21 +182,21 @@ module _ (xs : List Node) (i : ℕ) (y : Node) (within : i < length xs) (at : y 
     ClausesBelow-skip no_clause = record {
       with_below = with_next;
       no_with = no_with_next;
-      known = below_next (λ index. IsClause xs index → AreAttributesAt xs index attributes.Unknown
+      known = below_next (λ index. IsAttributeClause xs index → AreAttributesAt xs index attributes.Unknown
           → ⊥) i so_far.known
           (λ clause. absurd (no_clause (clause_after clause)));
       last_is = same_last last so_far.last_is;
     }
       where
         same_last : (o : Option Node) → IsLastBelow xs i o → IsLastBelow xs (i + 1) o
-        same_last None none = below_next (λ index. IsClause xs index → ⊥) i none
+        same_last None none = below_next (λ index. IsAttributeClause xs index → ⊥) i none
             (λ clause. no_clause (clause_after clause))
         same_last (Some object) found = record {
           index = found.index;
           below = let below = found.below in omega arith;
           is_clause = found.is_clause;
           none_between = λ greater after below.
-              below_next (λ index. found.index < index → IsClause xs index → ⊥) i
+              below_next (λ index. found.index < index → IsAttributeClause xs index → ⊥) i
               (λ index below after. found.none_between index after below)
               (λ after clause. no_clause (clause_after clause)) greater below after;
           value = found.value;
@@ -214,8 +214,8 @@ module _ (xs : List Node) (i : ℕ) (y : Node) (within : i < length xs) (at : y 
         record {
           with_below = with_next;
           no_with = no_with_next;
-          known = below_next (λ index. IsClause xs index → AreAttributesAt xs index attributes.Unknown
-              → ⊥) i so_far.known
+          known = below_next (λ index. IsAttributeClause xs index
+              → AreAttributesAt xs index attributes.Unknown → ⊥) i so_far.known
               (λ clause unknown. known_is_not_unknown object found.1 found.2
               (subst (λ v. AreValueAttributes v attributes.Unknown) value unknown));
           last_is = record {

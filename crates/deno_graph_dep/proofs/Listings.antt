@@ -27,7 +27,7 @@ use Rattle.std.proofs.lemmas.Bool.{false≢true, false_from_ne_true}
 use Rattle.deno_graph_source.specs.Node.{children_of}
 use Rattle.deno_graph_source.specs.declared.tree.node.Node.{Node}
 use Rattle.deno_graph_dep.specs.Listing as listing
-use Rattle.deno_graph_dep.specs.Listing.{Rules, IsReachable, IsMember, IsAfterInside, Precedes, IsListing}
+use Rattle.deno_graph_dep.specs.Listing.{Rules, IsReachable, IsMember, Precedes, IsListing}
 use Rattle.deno_graph_source.specs.NodePath.{NodePath, node_below, node_at}
 use Rattle.deno_graph_dep.proofs.Ascending.{
   Member,

@@ -25,7 +25,7 @@ use Rattle.deno_graph_source.specs.declared.tree.node.Node.{Node}
 use Rattle.deno_graph_source.specs.declared.tree.node.Program.{Program}
 use Rattle.deno_graph_dep.specs.DependencyRules.{dependency_rules}
 use Rattle.deno_graph_dep.specs.internal.Stack.{comes_before, comes_after, once, IsStackOf, to_come}
-use Rattle.deno_graph_dep.specs.Walk.{IsStep}
+use Rattle.deno_graph_dep.specs.Walk.{IsWalkStep}
 use Rattle.deno_graph_dep.specs.internal.WalkSteps.{state_of}
 use Rattle.deno_graph_dep.specs.declared.stack.Stack.{Stack}
 use Rattle.deno_graph_dep.proofs.Counts.{
@@ -108,7 +108,7 @@ Progress-leave body first old new node siblings step passed p = record {
 pub step-enter : (program : Program) (first old new : Stack) (node : Bor Node) (siblings : Bor (List Node))
     → Enters old new node siblings
     → comes_before dependency_rules node.now ≡ true → Progress program.body first old
-    → IsStep (state_of program first) (state_of program new) (Some node)
+    → IsWalkStep (state_of program first) (state_of program new) (Some node)
 step-enter program first old new node siblings step given p =
     let body = program.body in
     let path = path_of body old.frames.items node siblings in
@@ -126,7 +126,7 @@ step-enter program first old new node siblings step given p =
 pub step-leave : (program : Program) (first old new : Stack) (node : Bor Node) (siblings : Bor (List Node))
     → Left old new node siblings
     → comes_after dependency_rules node.now ≡ true → Progress program.body first old
-    → IsStep (state_of program first) (state_of program new) (Some node)
+    → IsWalkStep (state_of program first) (state_of program new) (Some node)
 step-leave program first old new node siblings step given p =
     let body = program.body in
     let path = path_of body new.frames.items node siblings in
@@ -167,7 +167,7 @@ pub to_come-same : (body : List Node) (old new : Stack) → new.frames.items ≡
 to_come-same body old new frames nodes = rw (frames, nodes) refl
 
 pub step-end : (program : Program) (first old new : Stack) → Ends old new → Progress program.body first old
-    → IsStep (state_of program first) (state_of program new) None
+    → IsWalkStep (state_of program first) (state_of program new) None
 step-end program first old new end p =
     let body = program.body in
     let none : to_come dependency_rules body old ≡ [] = rw (end.no_frames, end.no_nodes) refl in

@@ -35,12 +35,12 @@ use Rattle.deno_graph_dep.specs.DependencyRules.{dependency_rules, is_dependency
 use Rattle.deno_graph_dep.specs.DependencyNodes.{
   AreDependencyNodes,
   dependency_at,
-  dependencies_below,
+  dependency_nodes_below,
   dependency_node,
 }
 use Rattle.deno_graph_dep.specs.Listing.{IsListing}
 use Rattle.deno_graph_source.specs.NodePath.{NodePath, node_at}
-use Rattle.deno_graph_dep.specs.Walk.{IsStep, WalkState}
+use Rattle.deno_graph_dep.specs.Walk.{IsWalkStep, WalkState}
 use Rattle.deno_graph_dep.proofs.Ascending.{Member-right, Contains-from_Member}
 use Rattle.deno_graph_dep.proofs.DependencyNodes.{
   AreDependencyNodes-dependencies_below,
@@ -86,7 +86,8 @@ at_first comments first walk descriptors path node so_far at =
 
 pub step-dependency : (comments : FiledComments) (first old new : WalkState) (descriptors : List Descriptor)
     (node : Bor Node)
-    → AreReturned comments first old descriptors → IsStep old new (Some node) → is_dependency node.now ≡ true
+    → AreReturned comments first old descriptors → IsWalkStep old new (Some node)
+    → is_dependency node.now ≡ true
 step-dependency comments first old new descriptors node so_far step =
     dependency_next comments first old descriptors step.path new.to_come node.now so_far step.first
     (at_first comments first old descriptors step.path node.now so_far step.at_path)
@@ -94,7 +95,7 @@ step-dependency comments first old new descriptors node so_far step =
 pub step-shaped : (comments : FiledComments) (program : Program) (first old new : WalkState)
     (descriptors : List Descriptor) (node : Bor Node)
     → first.program ≡ program → All IsShaped (nodes_of program) → AreReturned comments first old descriptors
-    → IsStep old new (Some node)
+    → IsWalkStep old new (Some node)
     → All IsShaped (nodes_in node.now)
 step-shaped comments program first old new descriptors node is shaped so_far step =
     shaped_node program step.path node.now shaped
@@ -108,7 +109,7 @@ dependency_node-is node is = ap (λ b. cond b (Some node) None) is
 -- the node of a step and its descriptor come last
 pub AreReturned-more : (comments : FiledComments) (first old new : WalkState) (descriptors : List Descriptor)
     (node : Bor Node) (descriptor : Descriptor)
-    → AreReturned comments first old descriptors → new.program ≡ old.program → IsStep old new (Some node)
+    → AreReturned comments first old descriptors → new.program ≡ old.program → IsWalkStep old new (Some node)
     → IsDescriptorOf comments node.now descriptor
     → AreReturned comments first new (descriptors ++ descriptor ∷ [])
 AreReturned-more comments first old new descriptors node descriptor so_far same step describes =
@@ -160,12 +161,12 @@ pub AreDescriptorsOf-given : (comments : FiledComments) (first walk : WalkState)
     (descriptors : List Descriptor)
     (program : Program)
     → AreReturned comments first walk descriptors → walk.to_come ≡ [] → first.program ≡ program
-    → AreDescriptorsOf comments (dependencies_below program.body) descriptors
+    → AreDescriptorsOf comments (dependency_nodes_below program.body) descriptors
 AreDescriptorsOf-given comments first walk descriptors program so_far none is =
     let same =
-    AreDependencyNodes-unique first.program.body so_far.nodes (dependencies_below first.program.body)
+    AreDependencyNodes-unique first.program.body so_far.nodes (dependency_nodes_below first.program.body)
     (AreDependencyNodes-given comments first walk descriptors so_far none)
     (AreDependencyNodes-dependencies_below first.program.body) in
     let P : List Node → Type 0 = λ nodes. AreDescriptorsOf comments nodes descriptors in
-    let Q : Program → Type 0 = λ p. AreDescriptorsOf comments (dependencies_below p.body) descriptors in
+    let Q : Program → Type 0 = λ p. AreDescriptorsOf comments (dependency_nodes_below p.body) descriptors in
     subst Q is (subst P same so_far.described)

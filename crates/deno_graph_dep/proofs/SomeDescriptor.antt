@@ -69,7 +69,7 @@ use Rattle.deno_graph_dep.specs.DependencyKind.{
 }
 use Rattle.deno_graph_dep.specs.DependencyRules.{is_dependency_kind, is_dependency}
 use Rattle.deno_graph_dep.specs.Descriptor.{Descriptor, dynamic_descriptor, static_descriptor}
-use Rattle.deno_graph_dep.specs.DependencyNodes.{dependencies_below}
+use Rattle.deno_graph_dep.specs.DependencyNodes.{dependency_nodes_below}
 use Rattle.deno_graph_dep.specs.DescriptorOf.{
   AreDescriptorsOf,
   AreNoAttributes,
@@ -211,7 +211,7 @@ pub some_dependencies : (comments : FiledComments) (program : Program) → All I
 some_dependencies comments program shaped =
     let body = program.body in
     let holds = AreDependencyNodes-dependencies_below body in
-    let described = all_descriptors comments (dependencies_below body) (λ k node at.
-    let one = dependency_one body (dependencies_below body) k node holds at in
+    let described = all_descriptors comments (dependency_nodes_below body) (λ k node at.
+    let one = dependency_one body (dependency_nodes_below body) k node holds at in
     some_descriptor comments node one.2 (shaped_node program one.0 node shaped one.1)) in
-    (described.0, record { nodes = dependencies_below body; are_nodes = holds; described = described.1 })
+    (described.0, record { nodes = dependency_nodes_below body; are_nodes = holds; described = described.1 })

@@ -47,7 +47,7 @@ use Rattle.deno_graph_dep.specs.Argument.{
   template_form,
   is_string,
   is_add,
-  Step,
+  SpineStep,
   LeftSpine,
   operands_of,
   part_of,
@@ -69,7 +69,7 @@ use Rattle.deno_graph_dep.specs.Value.{
   AreUnknownsAt,
   IsReadableAt,
   HasReadableLiteralsAt,
-  Spells,
+  SpellsUnder,
   SpellsItsText,
   unknown_count,
 }
@@ -119,7 +119,7 @@ unfolding unknown_count
 length-unknown_path path node (Str points) is = rw (is)
 length-unknown_path path node _ is = rw (is)
 
-count_paths : (path : NodePath) (steps : List Step) (first : Node)
+count_paths : (path : NodePath) (steps : List SpineStep) (first : Node)
     → unknown_count (map part_of (operands_of steps first)) ≡ length (unknown_operands path steps first)
 unfolding unknown_count
 count_paths path [] first = length-unknown_path path first (kind_of first) refl
@@ -162,9 +162,9 @@ both_true true b is = (refl, is)
 both_true false b is = cc
 
 -- a sum's parts spell its text
-sum_text : (given : Assignment) (path : NodePath) (node : Node) (steps : List Step) (first : Node)
+sum_text : (given : Assignment) (path : NodePath) (node : Node) (steps : List SpineStep) (first : Node)
     → LeftSpine node steps first
-    → is_string (kind_of first) ≡ true → list_all (λ (step : Step). is_add step.operator) steps ≡ true
+    → is_string (kind_of first) ≡ true → list_all (λ (step : SpineStep). is_add step.operator) steps ≡ true
     → All (λ operand. IsReadableAt (kind_of operand)) (operands_of steps first)
     → HasText given path node
     (joined (map part_of (operands_of steps first)) (map given (unknown_operands path steps first)))
@@ -176,7 +176,8 @@ sum_text given path node [] first spine string sums readable =
     (sym spine.0)
     (first_text given path first points.0 points.1 here)
 sum_text given path node (step ∷ below) first spine string sums readable =
-    let adds = both_true (is_add step.operator) (list_all (λ (s : Step). is_add s.operator) below) sums in
+    let adds = both_true (is_add step.operator)
+    (list_all (λ (s : SpineStep). is_add s.operator) below) sums in
     let split = All-pop (λ operand. IsReadableAt (kind_of operand)) (operands_of (step ∷ below) first)
     (operands_of below first) (Some step.right) refl readable in
     let left = spine.1.0 in
@@ -199,12 +200,13 @@ sum_text given path node (step ∷ below) first spine string sums readable =
     (of_sum path node left right _ _ (spine.0 ∙ ap Binary (add_of step.operator adds.0)) spine.1.1 front back)
 
 -- a sum of any form spells its text
-spells_sum : (given : Assignment) (node : Node) (op : BinaryOp) (steps : List Step) (first : Node)
+spells_sum : (given : Assignment) (node : Node) (op : BinaryOp) (steps : List SpineStep) (first : Node)
     (string sums : Bool)
     → kind_of node ≡ Binary op → LeftSpine node steps first
-    → is_string (kind_of first) ≡ string → list_all (λ (step : Step). is_add step.operator) steps ≡ sums
+    → is_string (kind_of first) ≡ string → list_all (λ (step : SpineStep). is_add step.operator) steps ≡ sums
     → HasReadableLiteralsAt (Binary op) node
-    → Spells given node (if string && sums then parts (map part_of (operands_of steps first)) else expression)
+    → SpellsUnder given node
+    (if string && sums then parts (map part_of (operands_of steps first)) else expression)
 spells_sum given node op steps first false sums is spine string all_sums readable = tt
 spells_sum given node op steps first true false is spine string all_sums readable = tt
 spells_sum given node op steps first true true is spine string all_sums readable = (
@@ -243,7 +245,7 @@ length-child_paths n (child ∷ children) = omega (arith, length-child_paths (n 
 
 spells_template : (given : Assignment) (node : Node) (quasis : List (List ℕ)) → kind_of node ≡ Template quasis
     → length quasis ≡ length (children_of node) + 1 → All IsReadable quasis
-    → Spells given node (template_form quasis)
+    → SpellsUnder given node (template_form quasis)
 spells_template given node [] is shape readable = absurd (omega (arith, shape))
 spells_template given node (quasi ∷ []) is shape readable = of_template [] node (quasi ∷ []) is readable
 spells_template given node (first ∷ next ∷ rest) is shape readable =
@@ -261,17 +263,17 @@ spells_template given node (first ∷ next ∷ rest) is shape readable =
 
 spells_at : (given : Assignment) (node : Node) (form : Form) (kind : Kind) → kind_of node ≡ kind
     → HasCountOfKind kind (length (children_of node)) → HasFormAt kind node form
-    → HasReadableLiteralsAt kind node → Spells given node form
+    → HasReadableLiteralsAt kind node → SpellsUnder given node form
 unfolding HasCountOfKind
 spells_at given node form (Str points) is shape has readable =
-    subst (Spells given node) (sym has) (of_string [] node points is readable)
+    subst (SpellsUnder given node) (sym has) (of_string [] node points is readable)
 spells_at given node form (Template quasis) is shape has readable =
-    subst (Spells given node) (sym has) (spells_template given node quasis is shape readable)
+    subst (SpellsUnder given node) (sym has) (spells_template given node quasis is shape readable)
 spells_at given node form (Binary op) is shape has readable =
-    subst (Spells given node) (sym has.3)
+    subst (SpellsUnder given node) (sym has.3)
     (spells_sum given node op has.0 has.1 (is_string (kind_of has.1))
-    (list_all (λ (step : Step). is_add step.operator) has.0) is has.2 refl refl readable)
-spells_at given node form _ is shape has readable = subst (Spells given node) (sym has) tt
+    (list_all (λ (step : SpineStep). is_add step.operator) has.0) is has.2 refl refl readable)
+spells_at given node form _ is shape has readable = subst (SpellsUnder given node) (sym has) tt
 
 -- the form of a node spells its text under each assignment
 pub spells : (node : Node) (form : Form) → HasCountOfKind (kind_of node) (length (children_of node))

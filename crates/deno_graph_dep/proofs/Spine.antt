@@ -43,7 +43,7 @@ use Rattle.deno_graph_dep.specs.Argument.{
   is_sum,
   is_string,
   is_add,
-  Step,
+  SpineStep,
   LeftSpine,
   operands_of,
   part_of,
@@ -109,19 +109,19 @@ pub left_at : (node left right : Node) → children_of node ≡ left ∷ right �
     → slice_get (children_of node) 0 ≡ Some left
 left_at node left right is = ap (λ xs. slice_get xs 0) is
 
-abbrev pub step_with : BinaryOp → Node → Step
+abbrev pub step_with : BinaryOp → Node → SpineStep
 step_with op node = record { operator = op; right = node }
 
 -- from node down along left children, through nodes that are sums, to operand
-abbrev pub Descends : Node → List Step → Node → Type 0
+abbrev pub Descends : Node → List SpineStep → Node → Type 0
 Descends node [] operand = node ≡ operand
 Descends node (step ∷ below) operand =
     (kind_of node ≡ Binary step.operator) × (is_add step.operator ≡ true)
     × ((left : Node) × (children_of node ≡ left ∷ step.right ∷ []) × Descends left below operand)
 
 -- a descent with one more step
-pub Descends-step : (node operand left : Node) (above : List Step) (step : Step) → Descends node above operand
-    → kind_of operand ≡ Binary step.operator → is_add step.operator ≡ true
+pub Descends-step : (node operand left : Node) (above : List SpineStep) (step : SpineStep)
+    → Descends node above operand → kind_of operand ≡ Binary step.operator → is_add step.operator ≡ true
     → children_of operand ≡ left ∷ step.right ∷ []
     → Descends node (above ++ step ∷ []) left
 Descends-step node operand left [] step d is plus at = (
@@ -133,27 +133,27 @@ Descends-step node operand left (top ∷ above) step d is plus at =
     (d.0, d.1, (d.2.0, d.2.1, Descends-step d.2.0 operand left above step d.2.2 is plus at))
 
 -- a descent followed by a spine is a spine
-pub LeftSpine-join : (node operand first : Node) (above rest : List Step) → Descends node above operand
+pub LeftSpine-join : (node operand first : Node) (above rest : List SpineStep) → Descends node above operand
     → LeftSpine operand rest first → LeftSpine node (above ++ rest) first
 LeftSpine-join node operand first [] rest d spine = subst (λ n. LeftSpine n rest first) (sym d) spine
 LeftSpine-join node operand first (top ∷ above) rest d spine =
     (d.0, (d.2.0, d.2.1, LeftSpine-join d.2.0 operand first above rest d.2.2 spine))
 
 -- a descent that ends at an operand that is not binary is the whole spine
-pub LeftSpine-end : (node operand : Node) (above : List Step) → Descends node above operand
+pub LeftSpine-end : (node operand : Node) (above : List SpineStep) → Descends node above operand
     → is_binary (kind_of operand) ≡ false → LeftSpine node above operand
 LeftSpine-end node operand [] d is = (d, subst (λ n. is_binary (kind_of n) ≡ false) (sym d) is)
 LeftSpine-end node operand (top ∷ above) d is =
     (d.0, (d.2.0, d.2.1, LeftSpine-end d.2.0 operand above d.2.2 is))
 
-pub Descends-all_sums : (node operand : Node) (above : List Step) → Descends node above operand
-    → list_all (λ (step : Step). is_add step.operator) above ≡ true
+pub Descends-all_sums : (node operand : Node) (above : List SpineStep) → Descends node above operand
+    → list_all (λ (step : SpineStep). is_add step.operator) above ≡ true
 Descends-all_sums node operand [] d = refl
 Descends-all_sums node operand (top ∷ above) d = rw (d.1, Descends-all_sums d.2.0 operand above d.2.2)
 
 -- each node that keeps the shape rules has a left spine
 abbrev pub Spine : Node → Type 0
-Spine node = (steps : List Step) × (first : Node) × LeftSpine node steps first
+Spine node = (steps : List SpineStep) × (first : Node) × LeftSpine node steps first
 
 spine_by_kind : (node : Node) (b : Bool) → is_binary (kind_of node) ≡ b → AllShaped node
     → ((left : Node) → slice_get (children_of node) 0 ≡ Some left → Spine left) → Spine node
@@ -177,10 +177,10 @@ pub has_spine : (node : Node) → AllShaped node → Spine node
 has_spine node shaped = has_spine_within (size-Node node) node (omega arith) shaped
 
 -- the right children that a descent has passed, from the outermost in
-abbrev pub rights_of : List Step → List Node
-rights_of steps = map (λ (step : Step). step.right) steps
+abbrev pub rights_of : List SpineStep → List Node
+rights_of steps = map (λ (step : SpineStep). step.right) steps
 
-operands_of-reverse : (above : List Step) (first : Node)
+operands_of-reverse : (above : List SpineStep) (first : Node)
     → operands_of above first ≡ first ∷ reverse (rights_of above)
 operands_of-reverse [] first = refl
 operands_of-reverse (top ∷ above) first =
@@ -193,16 +193,16 @@ reverse-map f (x ∷ xs) =
     ap (map f) (reverse-append (x ∷ []) xs) ∙ map-append f (reverse xs) (x ∷ [])
     ∙ ap (λ ys. ys ++ f x ∷ []) (reverse-map f xs) ∙ sym (reverse-append (f x ∷ []) (map f xs))
 
-pub seen_push : {X : Type 0} (seen : X → ArgumentPart) (ps : List X) (p : X) (above : List Step) (step : Step)
-    → map seen ps ≡ map part_of (rights_of above) → seen p ≡ part_of step.right
+pub seen_push : {X : Type 0} (seen : X → ArgumentPart) (ps : List X) (p : X) (above : List SpineStep)
+    (step : SpineStep) → map seen ps ≡ map part_of (rights_of above) → seen p ≡ part_of step.right
     → map seen (ps ++ p ∷ []) ≡ map part_of (rights_of (above ++ step ∷ []))
 seen_push seen ps p above step so_far here =
     map-append seen ps (p ∷ []) ∙ ap (λ qs. qs ++ seen p ∷ []) so_far
     ∙ ap (λ q. map part_of (rights_of above) ++ q ∷ []) here
     ∙ sym (map-append part_of (rights_of above) (step.right ∷ []))
-    ∙ ap (map part_of) (sym (map-append (λ (s : Step). s.right) above (step ∷ [])))
+    ∙ ap (map part_of) (sym (map-append (λ (s : SpineStep). s.right) above (step ∷ [])))
 
-pub seen_reverse : {X : Type 0} (seen : X → ArgumentPart) (ps : List X) (p : X) (above : List Step)
+pub seen_reverse : {X : Type 0} (seen : X → ArgumentPart) (ps : List X) (p : X) (above : List SpineStep)
     (operand : Node)
     → map seen ps ≡ map part_of (rights_of above) → seen p ≡ part_of operand
     → map seen (reverse (ps ++ p ∷ [])) ≡ map part_of (operands_of above operand)
@@ -215,8 +215,8 @@ seen_reverse seen ps p above operand so_far here =
     ∙ ap (map part_of) (sym (operands_of-reverse above operand))
 
 -- an operator that is no plus makes the whole unknown
-list_all-fails : (above rest : List Step) (step : Step) → is_add step.operator ≡ false
-    → list_all (λ (s : Step). is_add s.operator) (above ++ step ∷ rest) ≡ false
+list_all-fails : (above rest : List SpineStep) (step : SpineStep) → is_add step.operator ≡ false
+    → list_all (λ (s : SpineStep). is_add s.operator) (above ++ step ∷ rest) ≡ false
 list_all-fails [] rest step not_plus = rw not_plus
 list_all-fails (top ∷ above) rest step not_plus =
     rw (list_all-fails above rest step not_plus) (and_false (is_add top.operator))
@@ -225,7 +225,7 @@ list_all-fails (top ∷ above) rest step not_plus =
     and_false true = refl
     and_false false = refl
 
-pub sum_form-unknown : (operand first : Node) (above rest : List Step) → LeftSpine operand rest first
+pub sum_form-unknown : (operand first : Node) (above rest : List SpineStep) → LeftSpine operand rest first
     → is_sum (kind_of operand) ≡ false → is_string (kind_of operand) ≡ false
     → sum_form (above ++ rest) first ≡ expression
 sum_form-unknown operand first above [] spine no_sum no_string =
@@ -240,14 +240,14 @@ sum_form-unknown operand first above (step ∷ rest) spine no_sum no_string =
     neither true f = refl
     neither false f = refl
 
-pub sum_form-known : (above : List Step) (operand : Node) → is_string (kind_of operand) ≡ true
-    → list_all (λ (step : Step). is_add step.operator) above ≡ true
+pub sum_form-known : (above : List SpineStep) (operand : Node) → is_string (kind_of operand) ≡ true
+    → list_all (λ (step : SpineStep). is_add step.operator) above ≡ true
     → sum_form above operand ≡ parts (map part_of (operands_of above operand))
 sum_form-known above operand string sums = rw (string, sums)
 
 -- the form of a binary node is that of its spine
 pub HasFormAt-binary : (kind : Kind) (node : Node) (form : Form) → is_binary kind ≡ true
-    → (steps : List Step) × (first : Node) × (LeftSpine node steps first) × (form ≡ sum_form steps first)
+    → (steps : List SpineStep) × (first : Node) × (LeftSpine node steps first) × (form ≡ sum_form steps first)
     → HasFormAt kind node form
 HasFormAt-binary (Binary op) node form is spine = spine
 HasFormAt-binary _ node form is spine = cc

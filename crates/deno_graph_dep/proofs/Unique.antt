@@ -35,7 +35,7 @@ use Rattle.deno_graph_dep.specs.Argument.{
   HasForm,
   HasFormAt,
   LeftSpine,
-  Step,
+  SpineStep,
   expression,
   is_binary,
   sum_form,
@@ -69,14 +69,14 @@ use Rattle.deno_graph_dep.proofs.UniqueAttributes.{
 -- The form of an argument
 
 -- two spines have the same steps and the same first operand
-abbrev SameSpine : List Step → List Step → Node → Node → Type 0
+abbrev SameSpine : List SpineStep → List SpineStep → Node → Node → Type 0
 SameSpine steps others first other = (steps ≡ others) × (first ≡ other)
 
 no_binary : (node : Node) (op : BinaryOp) → kind_of node ≡ Binary op → is_binary (kind_of node) ≡ false → ⊥
 no_binary node op is is_not = false≢true (sym is_not ∙ ap is_binary is)
 
-LeftSpine-unique : (node : Node) (steps others : List Step) (first other : Node) → LeftSpine node steps first
-    → LeftSpine node others other
+LeftSpine-unique : (node : Node) (steps others : List SpineStep) (first other : Node)
+    → LeftSpine node steps first → LeftSpine node others other
     → SameSpine steps others first other
 LeftSpine-unique node [] [] first other a b = (refl, sym a.0 ∙ b.0)
 LeftSpine-unique node [] (step ∷ others) first other a b = absurd (no_binary node step.operator b.0 a.1)

@@ -39,7 +39,7 @@ use Rattle.deno_graph_source.specs.NodePath.{NodePath}
 use Rattle.deno_graph_dep.specs.DependencyRules.{dependency_rules}
 use Rattle.deno_graph_dep.specs.Entered.{IsCountOf}
 use Rattle.deno_graph_dep.specs.Listing.{IsReachable}
-use Rattle.deno_graph_dep.specs.Walk.{AreSteps, IsStep, WalkState}
+use Rattle.deno_graph_dep.specs.Walk.{AreWalkSteps, IsWalkStep, WalkState}
 use Rattle.deno_graph_dep.proofs.Ascending.{
   Member,
   Ascending,
@@ -94,7 +94,8 @@ one_count P count other is also =
 
 -- after the end no path is still to come
 pub stays : (old end new : WalkState) (found : Option (Bor Node)) → end.program ≡ old.program
-    → new.program ≡ end.program → IsStep old end None → IsStep end new found → (found ≡ None) × (new ≡ end)
+    → new.program ≡ end.program → IsWalkStep old end None → IsWalkStep end new found
+    → (found ≡ None) × (new ≡ end)
 stays old end new None same again none step =
     let reached : IsCountOf (IsReachable dependency_rules end.program.body) end.entered =
     subst (λ (p : Program). IsCountOf (IsReachable dependency_rules p.body) end.entered) (sym same)
@@ -112,7 +113,7 @@ abbrev count : Option (Bor Node) → ℕ
 count found = cond (is_some found) 1 0
 
 -- the nodes returned and the paths still to come are as many as the paths before
-pub taken : (old new : WalkState) (found : List (Option (Bor Node))) → AreSteps old found new
+pub taken : (old new : WalkState) (found : List (Option (Bor Node))) → AreWalkSteps old found new
     → count_by is_some found + length new.to_come ≡ length old.to_come
 taken old new [] are = omega (arith, ap (λ (w : WalkState). length w.to_come) are)
 taken old new (None ∷ more) (next, same, step, rest) =

@@ -39,7 +39,7 @@ use Rattle.deno_graph_dep.specs.internal.Stack.{
 use Rattle.deno_graph_dep.specs.internal.ListingPaths.{listing_paths, paths_at}
 use Rattle.deno_graph_dep.specs.Listing.{Rules, IsListing}
 use Rattle.deno_graph_source.specs.NodePath.{NodePath}
-use Rattle.deno_graph_dep.specs.Walk.{IsStep}
+use Rattle.deno_graph_dep.specs.Walk.{IsWalkStep}
 use Rattle.deno_graph_dep.specs.internal.WalkSteps.{IsWalkOf, state_of}
 use Rattle.deno_graph_dep.specs.declared.stack.Frame.{Frame}
 use Rattle.deno_graph_dep.specs.declared.stack.Stack.{Stack}
@@ -89,7 +89,7 @@ listing-new body stack frames nodes =
 
 -- the paths returned so far and those still to come after a step are the listing
 given_by : {E : Type 0} (program : Program) (old new : Stack) (answer : Result (Option (Bor Node)) E)
-    → IfOk answer (IsStep (state_of program old) (state_of program new))
+    → IfOk answer (IsWalkStep (state_of program old) (state_of program new))
     → OnErr answer (to_come dependency_rules program.body new ≡ to_come dependency_rules program.body old)
     → (given : List NodePath)
     → listing_paths dependency_rules program.body ≡ given ++ to_come dependency_rules program.body old
@@ -106,7 +106,7 @@ given_by program old new (Err error) step failed given rest =
     (given, rest ∙ ap (λ ps. given ++ ps) (sym failed))
 
 pub IsWalkOf-step : {E : Type 0} (program : Program) (old new : Stack) (answer : Result (Option (Bor Node)) E)
-    → IfOk answer (IsStep (state_of program old) (state_of program new))
+    → IfOk answer (IsWalkStep (state_of program old) (state_of program new))
     → OnErr answer (to_come dependency_rules program.body new ≡ to_come dependency_rules program.body old)
     → IsStackOf program.body new → IsWalkOf program.body old → IsWalkOf program.body new
 IsWalkOf-step program old new answer step failed stack walk =

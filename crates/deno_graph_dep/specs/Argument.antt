@@ -69,14 +69,14 @@ is_sum (Binary op) = is_add op
 is_sum _ = false
 
 -- a step down a left spine: the operator and the right child of a binary node
-pub record Step : Type 0 where
+pub record SpineStep : Type 0 where
   pub operator : BinaryOp
   pub right : Node
 
 -- The left spine of a node: the node, its left child, the left child of that child, and so on while
 -- they are binary. The steps are those of the binary nodes, the outermost first; `first` is the
 -- operand below the innermost.
-abbrev pub LeftSpine : Node → List Step → Node → Type 0
+abbrev pub LeftSpine : Node → List SpineStep → Node → Type 0
 LeftSpine node [] first = (node ≡ first) × (is_binary (kind_of node) ≡ false)
 LeftSpine node (step ∷ below) first =
     (kind_of node ≡ Binary step.operator)
@@ -84,7 +84,7 @@ LeftSpine node (step ∷ below) first =
 
 -- the operands of a spine from left to right: the first, then the right children, the innermost
 -- first
-abbrev pub operands_of : List Step → Node → List Node
+abbrev pub operands_of : List SpineStep → Node → List Node
 operands_of [] first = first ∷ []
 operands_of (step ∷ below) first = operands_of below first ++ step.right ∷ []
 
@@ -98,9 +98,9 @@ part_of node = part_of_kind (kind_of node)
 
 -- the form of a binary node: parts, one for each operand from left to right, if the first operand
 -- is a string literal and every operator is a plus
-abbrev pub sum_form : List Step → Node → Form
+abbrev pub sum_form : List SpineStep → Node → Form
 sum_form steps first =
-    if is_string (kind_of first) && list_all (λ (step : Step). is_add step.operator) steps
+    if is_string (kind_of first) && list_all (λ (step : SpineStep). is_add step.operator) steps
     then parts (map part_of (operands_of steps first)) else expression
 
 -- the form of a node of this kind
@@ -108,7 +108,7 @@ abbrev pub HasFormAt : Kind → Node → Form → Type 0
 HasFormAt (Str points) node form = form ≡ text (lossy_text points)
 HasFormAt (Template quasis) node form = form ≡ template_form quasis
 HasFormAt (Binary op) node form =
-    (steps : List Step) × (first : Node) × (LeftSpine node steps first)
+    (steps : List SpineStep) × (first : Node) × (LeftSpine node steps first)
     × (form ≡ sum_form steps first)
 HasFormAt _ node form = form ≡ expression
 

@@ -44,13 +44,13 @@ key_text (key.Ident name) = Some name
 key_text (key.Str points) = readable_text points
 key_text key.Other = None
 
-abbrev pub key_of_kind : Kind → Option (List ℕ)
-key_of_kind (KeyValue key) = key_text key
-key_of_kind _ = None
+abbrev pub static_key_of_kind : Kind → Option (List ℕ)
+static_key_of_kind (KeyValue key) = key_text key
+static_key_of_kind _ = None
 
 -- the static key of a property: only a property `key: value` has one
 abbrev pub static_key : Node → Option (List ℕ)
-static_key property = key_of_kind (kind_of property)
+static_key property = static_key_of_kind (kind_of property)
 
 -- a string literal without lone surrogates
 abbrev pub text_of_kind : Kind → Option (List ℕ)
@@ -150,27 +150,27 @@ IsNoneBefore properties index name =
     (smaller : ℕ) → smaller < index → key_at properties smaller ≢ Some name
 
 -- the property with this index is a clause: its key is `with`, or is `assert` with no `with` before
-abbrev pub IsClause : List Node → ℕ → Type 0
-IsClause properties index =
+abbrev pub IsAttributeClause : List Node → ℕ → Type 0
+IsAttributeClause properties index =
     (key_at properties index ≡ Some (codes "with"))
     ⊎ ((key_at properties index ≡ Some (codes "assert"))
     × IsNoneBefore properties index (codes "with"))
 
 -- the value of no clause is unknown, and these are the attributes of the last clause
 pub record IsOfLastClause (properties : List Node) (result : ImportAttributes) : Type 0 where
-  pub known : (index : ℕ) → IsClause properties index
+  pub known : (index : ℕ) → IsAttributeClause properties index
       → ¬ (AreAttributesAt properties index attributes.Unknown)
   pub greatest : ℕ
-  pub is_clause : IsClause properties greatest
-  pub none_greater : (greater : ℕ) → greatest < greater → ¬ (IsClause properties greater)
+  pub is_clause : IsAttributeClause properties greatest
+  pub none_greater : (greater : ℕ) → greatest < greater → ¬ (IsAttributeClause properties greater)
   pub given : AreAttributesAt properties greatest result
 
 -- the attributes of a call by the properties of its second argument: none without a clause, unknown
 -- if the value of a clause is, and otherwise those of the last clause
 abbrev pub AreClauseAttributes : List Node → ImportAttributes → Type 0
-AreClauseAttributes properties attributes.None = (index : ℕ) → ¬ (IsClause properties index)
+AreClauseAttributes properties attributes.None = (index : ℕ) → ¬ (IsAttributeClause properties index)
 AreClauseAttributes properties attributes.Unknown =
-    (index : ℕ) × (IsClause properties index)
+    (index : ℕ) × (IsAttributeClause properties index)
     × (AreAttributesAt properties index attributes.Unknown)
 AreClauseAttributes properties (attributes.Known entries) =
     IsOfLastClause properties (attributes.Known entries)

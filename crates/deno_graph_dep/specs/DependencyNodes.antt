@@ -36,9 +36,9 @@ abbrev pub own_after : Node → List Node
 own_after node = if is_after_inside (kind_of node) then own_nodes node else []
 
 -- the dependencies among a node and all nodes inside it, by plain recursion
-abbrev pub dependencies_in : Node → List Node
-dependencies_in = entries_at dependency_rules own_nodes
+abbrev pub dependency_nodes_in : Node → List Node
+dependency_nodes_in = entries_at dependency_rules own_nodes
 
 -- the dependencies among several nodes and all nodes inside them
-abbrev pub dependencies_below : List Node → List Node
-dependencies_below nodes = flat_map dependencies_in nodes
+abbrev pub dependency_nodes_below : List Node → List Node
+dependency_nodes_below nodes = flat_map dependency_nodes_in nodes

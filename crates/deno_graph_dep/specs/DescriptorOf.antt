@@ -7,7 +7,6 @@ use Rattle.std.specs.Prelude.{
   [],
   ◌∷◌,
   Bool,
-  true,
   false,
   not,
   Option,
@@ -24,7 +23,6 @@ use Rattle.deno_graph_source.specs.Comments.{FiledComments, leading_at}
 use Rattle.deno_graph_base.specs.JsString.{lossy_text}
 use Rattle.deno_graph_source.specs.Node.{kind_of, range_of, children_of, callee_count, has_with}
 use Rattle.deno_graph_base.specs.declared.text.position.SourceRange.{SourceRange}
-use Rattle.deno_graph_source.specs.declared.tree.comments.DependencyComment.{DependencyComment}
 use Rattle.deno_graph_source.specs.declared.tree.node.Arg.{Arg}
 use Rattle.deno_graph_source.specs.declared.tree.node.Callee.{Callee}
 use Rattle.deno_graph_source.specs.declared.tree.node.Kind.{Kind}

@@ -17,7 +17,7 @@ use Rattle.deno_graph_dep.specs.Argument.{
   known,
   unknown,
   is_string,
-  Step,
+  SpineStep,
   LeftSpine,
   operands_of,
 }
@@ -72,7 +72,7 @@ abbrev pub unknown_path : NodePath → Node → List NodePath
 unknown_path path node = if is_string (kind_of node) then [] else path ∷ []
 
 -- the paths of the unknown operands of a spine at a path, from left to right
-abbrev pub unknown_operands : NodePath → List Step → Node → List NodePath
+abbrev pub unknown_operands : NodePath → List SpineStep → Node → List NodePath
 unknown_operands path [] first = unknown_path path first
 unknown_operands path (step ∷ below) first =
     unknown_operands (path ++ 0 ∷ []) below first ++ unknown_path (path ++ 1 ∷ []) step.right
@@ -82,7 +82,7 @@ unknown_operands path (step ∷ below) first =
 abbrev pub AreUnknownsAt : Kind → Node → List NodePath → Type 0
 AreUnknownsAt (Template quasis) node paths = paths ≡ child_paths 0 (children_of node)
 AreUnknownsAt (Binary op) node paths =
-    (steps : List Step) × (first : Node) × (LeftSpine node steps first)
+    (steps : List SpineStep) × (first : Node) × (LeftSpine node steps first)
     × (paths ≡ unknown_operands [] steps first)
 AreUnknownsAt _ node paths = paths ≡ []
 
@@ -99,7 +99,7 @@ abbrev pub HasReadableLiteralsAt : Kind → Node → Type 0
 HasReadableLiteralsAt (Str points) node = IsReadable points
 HasReadableLiteralsAt (Template quasis) node = All IsReadable quasis
 HasReadableLiteralsAt (Binary op) node =
-    (steps : List Step) (first : Node) → LeftSpine node steps first
+    (steps : List SpineStep) (first : Node) → LeftSpine node steps first
     → All (λ operand. IsReadableAt (kind_of operand)) (operands_of steps first)
 HasReadableLiteralsAt _ node = Unit {0}
 
@@ -115,13 +115,13 @@ unknown_count (unknown ∷ ps) = unknown_count ps + 1
 -- Under an assignment, a form spells the text of a node: the node has the form's text, or the form's
 -- parts joined, with the texts of the node's unknowns in place of the unknown parts. There are as many
 -- unknown parts as unknowns. A form with nothing known spells the text of every node.
-abbrev pub Spells : Assignment → Node → Form → Type 0
-Spells given node (text known_text) = HasText given [] node known_text
-Spells given node (parts ps) =
+abbrev pub SpellsUnder : Assignment → Node → Form → Type 0
+SpellsUnder given node (text known_text) = HasText given [] node known_text
+SpellsUnder given node (parts ps) =
     (unknowns : List NodePath) × (AreUnknowns node unknowns) × (unknown_count ps ≡ length unknowns)
     × (HasText given [] node (joined ps (map given unknowns)))
-Spells given node expression = Unit {0}
+SpellsUnder given node expression = Unit {0}
 
 -- under each assignment, if the node's literals are readable, the form spells the node's text
 abbrev pub SpellsItsText : Node → Form → Type 0
-SpellsItsText node form = (given : Assignment) → HasReadableLiterals node → Spells given node form
+SpellsItsText node form = (given : Assignment) → HasReadableLiterals node → SpellsUnder given node form

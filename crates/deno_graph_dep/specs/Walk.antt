@@ -32,12 +32,12 @@ pub record ReturnsNode (old new : WalkState) (node : Node) : Type 0 where
   pub entered : IsCountOf (EnteredBy dependency_rules old.program.body path) new.entered
 
 -- the result of one step
-abbrev pub IsStep : WalkState → WalkState → Option (Bor Node) → Type 0
-IsStep old new None = ReturnsNone old new
-IsStep old new (Some node) = ReturnsNode old new node.now
+abbrev pub IsWalkStep : WalkState → WalkState → Option (Bor Node) → Type 0
+IsWalkStep old new None = ReturnsNone old new
+IsWalkStep old new (Some node) = ReturnsNode old new node.now
 
 -- steps one after another over one program, and the result of each
-abbrev pub AreSteps : WalkState → List (Option (Bor Node)) → WalkState → Type 0
-AreSteps old [] new = new ≡ old
-AreSteps old (found ∷ more) new =
-    (next : WalkState) × (next.program ≡ old.program) × IsStep old next found × AreSteps next more new
+abbrev pub AreWalkSteps : WalkState → List (Option (Bor Node)) → WalkState → Type 0
+AreWalkSteps old [] new = new ≡ old
+AreWalkSteps old (found ∷ more) new =
+    (next : WalkState) × (next.program ≡ old.program) × IsWalkStep old next found × AreWalkSteps next more new

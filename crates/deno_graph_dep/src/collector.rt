@@ -1,7 +1,7 @@
 ghost use Rattle.std.specs.Prelude.{map, IfOk, All};
 ghost use Rattle.deno_graph_source.specs.Node.{nodes_of, IsShaped};
 ghost use Rattle.deno_graph_dep.specs.Dependencies.{AreDependencies};
-ghost use Rattle.deno_graph_dep.specs.DependencyNodes.{dependencies_below};
+ghost use Rattle.deno_graph_dep.specs.DependencyNodes.{dependency_nodes_below};
 ghost use Rattle.deno_graph_dep.specs.Descriptor.{descriptor_seen};
 ghost use Rattle.deno_graph_dep.specs.SpelledArguments.{SpellArguments};
 ghost use Rattle.deno_graph_dep.specs.DescriptorOf.{AreDescriptorsOf};
@@ -28,7 +28,7 @@ pub fn analyze_program_dependencies<'a>(
 
     // The same nodes in the same order as plain recursion visits them.
     ensures recursive { IfOk result (λ descriptors.
-        AreDescriptorsOf comments.now (dependencies_below program.now.body)
+        AreDescriptorsOf comments.now (dependency_nodes_below program.now.body)
         (map descriptor_seen descriptors.items)) }
 
     // For any texts of the unknown parts, each argument spells the text of its expression.

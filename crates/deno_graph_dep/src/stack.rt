@@ -5,7 +5,7 @@ ghost use Rattle.std.specs.Prelude.{◌≡◌, ◌+◌, ◌-◌, ◌^◌, ◌≤
 ghost use Rattle.deno_graph_source.specs.declared.tree.node.Node.{Node};
 ghost use Rattle.deno_graph_source.specs.declared.tree.node.Program.{Program};
 ghost use Rattle.deno_graph_dep.specs.DependencyRules.{children_to_visit, dependency_rules};
-ghost use Rattle.deno_graph_dep.specs.Walk.{IsStep};
+ghost use Rattle.deno_graph_dep.specs.Walk.{IsWalkStep};
 ghost use Rattle.deno_graph_dep.specs.internal.WalkSteps.{state_of};
 ghost use Rattle.deno_graph_dep.specs.internal.Stack.{frame_of, Leaves, IsStackOf, comes_after, comes_before, to_come};
 
@@ -77,7 +77,7 @@ impl<'a> Stack<'a> {
     pub(crate) fn next_dependency(&mut self) -> Result<Option<&'a Node>, AllocError>
         ensures stays { (body : List Node) → IsStackOf body self.old → IsStackOf body self.new }
         ensures step { (program : Program) → IsStackOf program.body self.old
-            → IfOk result (IsStep (state_of program self.old) (state_of program self.new)) }
+            → IfOk result (IsWalkStep (state_of program self.old) (state_of program self.new)) }
         ensures err { (body : List Node) → IsStackOf body self.old
             → OnErr result (to_come dependency_rules body self.new
             ≡ to_come dependency_rules body self.old) }

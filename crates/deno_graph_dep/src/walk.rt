@@ -8,7 +8,7 @@ ghost use Rattle.deno_graph_dep.specs.DependencyRules.{dependency_rules};
 ghost use Rattle.deno_graph_dep.specs.Listing.{IsListing};
 ghost use Rattle.deno_graph_source.specs.NodePath.{NodePath};
 ghost use Rattle.deno_graph_source.specs.declared.tree.node.Node.{Node};
-ghost use Rattle.deno_graph_dep.specs.Walk.{AreSteps, IsStep, WalkState};
+ghost use Rattle.deno_graph_dep.specs.Walk.{AreWalkSteps, IsWalkStep, WalkState};
 
 use crate::stack::Stack;
 use deno_graph_source::tree::{Node, Program};
@@ -62,7 +62,7 @@ impl<'a> Walk<'a> {
     /// tried again, and `entered` may have risen.
     pub fn step(&mut self) -> Result<Option<&'a Node>, AllocError>
         ensures program { self.new.program ≡ self.old.program }
-        ensures step { IfOk result (IsStep self.old self.new) }
+        ensures step { IfOk result (IsWalkStep self.old self.new) }
         ensures err { OnErr result (self.new.to_come ≡ self.old.to_come) }
         ensures rises { self.old.entered ≤ self.new.entered }
     {
@@ -98,14 +98,14 @@ impl<'a> Walk<'a> {
     pub fn stays_at_its_end()
         ensures { (old end new : WalkState) (found : Option (Bor Node))
             → end.program ≡ old.program → new.program ≡ end.program
-            → IsStep old end None → IsStep end new found → (found ≡ None) × (new ≡ end) }
+            → IsWalkStep old end None → IsWalkStep end new found → (found ≡ None) × (new ≡ end) }
     {}
 
     /// Ensures that a walk ends: each step that returns a node takes one of the finitely many paths
     /// still to come. This call does nothing; the contract holds of every walk.
     pub fn ends()
         ensures { (old new : WalkState) (found : List (Option (Bor Node)))
-            → AreSteps old found new
+            → AreWalkSteps old found new
             → count_by is_some found + length new.to_come ≡ length old.to_come }
     {}
 }

@@ -24,7 +24,7 @@ use Rattle.std.proofs.Common.{
   append_assoc,
   arith,
 }
-use Rattle.std.proofs.lemmas.Bool.{eqb-true, eqb-false, false≢true}
+use Rattle.std.proofs.lemmas.Bool.{eqb-true, eqb-false}
 use Rattle.std.proofs.lemmas.List.{append-nil}
 use Rattle.std.proofs.lemmas.List.Elements.{All-contains, Contains-append_left, Contains-push}
 use Rattle.std.specs.List.{All, Contains}
@@ -80,15 +80,11 @@ add comment old up =
     )
 
 -- a comment is a JSDoc comment or isn't
-abbrev is_block : CommentKind → Bool
-is_block Line = false
-is_block Block = true
-
 abbrev IsJsDocText : CommentKind → List ℕ → Type 0
 IsJsDocText kind text = (kind ≡ Block) × ((rest : List ℕ) × (text ≡ codes "*" ++ rest))
 
 decided : (kind : CommentKind) (text : List ℕ) → IsJsDocText kind text ⊎ (IsJsDocText kind text → ⊥)
-decided Line text = inr (λ is. false≢true (ap is_block is.0))
+decided Line text = inr (λ is. let same = is.0 in cc)
 decided Block [] = inr (λ is.
     let same : [] ≡ star ∷ is.1.0 = is.1.1 in
     absurd (cc))

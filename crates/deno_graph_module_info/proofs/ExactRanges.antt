@@ -20,6 +20,7 @@ use Rattle.std.proofs.Common.{
   refl,
   sym,
   subst,
+  ◌∙◌,
   slice_get,
   get_or,
   codes,
@@ -53,7 +54,7 @@ use Rattle.deno_graph_info.specs.declared.analysis.type_script_reference.TypeScr
 use Rattle.deno_graph_jsdoc.specs.JsDocImport.{Import}
 use Rattle.deno_graph_jsdoc.proofs.ImportsIn.{has_specifier}
 use Rattle.deno_graph_pragmas.specs.Finders as finder
-use Rattle.deno_graph_pragmas.specs.Split.{Pattern, TextPart, IsCaptured, IsInQuotes}
+use Rattle.deno_graph_pragmas.specs.Split.{TextPart, IsCaptured, IsInQuotes}
 use Rattle.deno_graph_pragmas.proofs.Captured.{captured_slice, attribute_in_quotes, pragma_in_quotes}
 use Rattle.deno_graph_source.specs.Comments.{FiledComments, comments_of}
 use Rattle.deno_graph_source.specs.MediaType.{is_typed}
@@ -87,7 +88,6 @@ use Rattle.deno_graph_module_info.specs.Pragma.{
   jsx_import_source_types_pragma,
   quoted,
   quoteless,
-  quoteless_in_blocks,
   self_types_pragma,
   source_mapping_url_pragma,
 }
@@ -140,16 +140,13 @@ attribute_quotes name text part utf8 is quotes = attribute_in_quotes name text p
 pragma_quotes : (name : List ℕ) → Quotes (quoted (finder.quoted_pragma name))
 pragma_quotes name text part utf8 is quotes = pragma_in_quotes name text part utf8 is
 
-no_quotes : (pattern : Pattern) → Quotes (quoteless pattern)
-no_quotes pattern text part utf8 is quotes = absurd (false≢true (sym quotes))
-
-no_quotes_in_blocks : (pattern : Pattern) → Quotes (quoteless_in_blocks pattern)
-no_quotes_in_blocks pattern text part utf8 is quotes = absurd (false≢true (sym quotes))
+no_quotes : (pragma : Pragma) → pragma.is_quoteless ≡ true → Quotes pragma
+no_quotes pragma bare text part utf8 is quotes = absurd (false≢true (sym quotes ∙ bare))
 
 type_quotes : All Quotes dependency_types_pragmas
 type_quotes = All-from_recursion Quotes dependency_types_pragmas (
   pragma_quotes (codes "@ts-types"),
-  (pragma_quotes (codes "@deno-types"), (no_quotes finder.quoteless_deno_types_pattern, tt)),
+  (pragma_quotes (codes "@deno-types"), (no_quotes (quoteless finder.quoteless_deno_types_pattern) refl, tt)),
 )
 
 module _ (source : List ℕ) where
@@ -300,13 +297,13 @@ exact_ranges source media_type program comments info valid utf8 is =
           (pragma_quotes (codes "@ts-self-types"))
           (all_if (Fits source) (is_typed media_type) head head_fit).1 is.self_types_specifier;
       jsx_import_source = first_covers source jsx_import_source_pragma _ info.jsx_import_source
-          (no_quotes_in_blocks finder.jsx_import_source_pattern) jsx_fit is.jsx_import_source;
+          (no_quotes jsx_import_source_pragma refl) jsx_fit is.jsx_import_source;
       jsx_import_source_types = first_covers source jsx_import_source_types_pragma _
-          info.jsx_import_source_types (no_quotes_in_blocks finder.jsx_import_source_types_pattern) jsx_fit
+          info.jsx_import_source_types (no_quotes jsx_import_source_types_pragma refl) jsx_fit
           is.jsx_import_source_types;
       jsdoc_imports = imports_cover source (reads_jsdoc media_type) (comments_of comments)
           info.jsdoc_imports fit is.jsdoc_imports;
       source_map_url = last_covers source source_mapping_url_pragma (tail_comments program comments)
-          info.source_map_url (no_quotes finder.source_mapping_url_pattern)
+          info.source_map_url (no_quotes source_mapping_url_pragma refl)
           (all_tail (Fits source) comments fit program) is.source_map_url;
     }

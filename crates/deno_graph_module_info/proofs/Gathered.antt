@@ -8,6 +8,7 @@ use Rattle.std.proofs.Common.{
   ◌⊎◌,
   inl,
   inr,
+  ⊎_elim,
   List,
   [],
   ◌∷◌,
@@ -16,7 +17,6 @@ use Rattle.std.proofs.Common.{
   take,
   map,
   get_or,
-  refl,
   sym,
   ap,
   ◌∙◌,
@@ -31,6 +31,7 @@ use Rattle.std.proofs.lemmas.List.Elements.{
   Contains-push,
   Contains-push_cases,
 }
+use Rattle.std.proofs.lemmas.Simd.{map-map}
 use Rattle.std.specs.List.{All, AllPairs, Contains}
 use Rattle.std.specs.Str.{IsUtf8, chars}
 use Rattle.deno_graph_jsdoc.specs.JsDocImports.{AreImportsIn, IsImportIn}
@@ -115,19 +116,26 @@ Gathered-start comments = record {
   complete = λ comment has. absurd (omega (arith, has.1));
 }
 
+-- a list with the imports of each comment, for one more comment
+pub complete_more : (done : List DependencyComment) (comment : DependencyComment) (imports : List Import)
+    → ((other : DependencyComment) → Contains done other → (import : Import) → IsImportOf other import
+    → Contains imports import)
+    → ((import : Import) → IsImportOf comment import → Contains imports import)
+    → (other : DependencyComment) → Contains (done ++ comment ∷ []) other → (import : Import)
+    → IsImportOf other import → Contains imports import
+complete_more done comment imports complete own other has import is =
+    ⊎_elim (λ there. complete other there import is)
+    (λ same. own import (subst (λ (c : DependencyComment). IsImportOf c import) (sym same) is))
+    (Contains-push_cases done comment other has)
+
 pub Gathered-skip : (comments done : List DependencyComment) (comment : DependencyComment)
     (imports : List Import) → (IsJsDoc comment → ⊥) → Gathered comments done imports
     → Gathered comments (done ++ comment ∷ []) imports
 Gathered-skip comments done comment imports none gathered = record {
   ascending = gathered.ascending;
   sound = gathered.sound;
-  complete = λ other has import is. by_moved other (Contains-push_cases done comment other has) import is;
+  complete = complete_more done comment imports gathered.complete (λ import is. absurd (none is.jsdoc));
 }
-  where
-    by_moved : (other : DependencyComment) → Contains done other ⊎ (comment ≡ other) → (import : Import)
-        → IsImportOf other import → Contains imports import
-    by_moved other (inl has) import is = gathered.complete other has import is
-    by_moved other (inr same) import is = absurd (none (subst IsJsDoc (sym same) is.jsdoc))
 
 module _ (text : List ℕ) (comments : List DependencyComment) (spelled : All (IsSpelled text) comments)
     (apart : AreApart comments) where
@@ -138,7 +146,8 @@ module _ (text : List ℕ) (comments : List DependencyComment) (spelled : All (I
   Gathered-more done comment imports more inside jsdoc utf8 gathered gains = record {
     ascending = gains.ascending;
     sound = sound;
-    complete = λ other has import is. by_moved other (Contains-push_cases done comment other has) import is;
+    complete = complete_more done comment more
+        (λ other has import is. gains.kept import (gathered.complete other has import is)) added;
   }
     where
       import_of_added : (import : Import) → IsMovedImport comment import → IsImportOf comment import
@@ -166,12 +175,6 @@ module _ (text : List ℕ) (comments : List DependencyComment) (spelled : All (I
           (All-contains (IsSpelled text) comments comment spelled inside)
           from.2 utf8 there.0 import from.3 is there.2)
           there.1
-
-      by_moved : (other : DependencyComment) → Contains done other ⊎ (comment ≡ other) → (import : Import)
-          → IsImportOf other import → Contains more import
-      by_moved other (inl has) import is = gains.kept import (gathered.complete other has import is)
-      by_moved other (inr same) import is =
-          added import (subst (λ (c : DependencyComment). IsImportOf c import) (sym same) is)
 
 pub Gathered-imports : (comments : List DependencyComment) (imports : List Import)
     → Gathered comments comments imports → AreImports comments imports
@@ -247,10 +250,6 @@ module _ (by : ℕ) (items : List JsDocImport) where
       (GainsImports-more old now new (placed (take k items)) (moved by (import_of item)) gains
       (subst (λ i. GainsImport now i new) same gain))
 
-  twice : (some : List JsDocImport) → placed some ≡ map (moved by) (map import_of some)
-  twice [] = refl
-  twice (x ∷ xs) = ap (λ t. moved by (import_of x) ∷ t) (twice xs)
-
   pub insert_all : (k : ℕ) (old new : List Import) (text : List ℕ) → length items ≤ k
       → AreImportsIn text (map import_of items) → GainsImports old (Contains (placed (take k items))) new
       → GainsImports old (λ import. (inner : Import) × IsImportIn text inner × (import ≡ moved by inner)) new
@@ -260,7 +259,7 @@ module _ (by : ℕ) (items : List JsDocImport) where
       (moved_is_inner by (map import_of items) text inners)
       (inner_is_moved by (map import_of items) text inners)
       (subst (λ xs. GainsImports old (Contains xs) new)
-      (ap placed (take_all k items done) ∙ twice items) gains)
+      (ap placed (take_all k items done) ∙ sym (map-map (moved by) import_of items)) gains)
 
   pub import_in_text : (k : ℕ) (d : JsDocImport) (text : List ℕ) → k < length items
       → AreImportsIn text (map import_of items) → IsImportIn text (import_of (get_or items k d))

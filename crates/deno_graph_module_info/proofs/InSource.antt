@@ -9,6 +9,7 @@ use Rattle.std.proofs.Common.{
   ◌⊎◌,
   inl,
   inr,
+  ⊎_elim,
   false,
   true,
   Bool,
@@ -29,7 +30,6 @@ use Rattle.std.proofs.Common.{
   length-append,
   length-drop,
   arith,
-  codes,
   encode_utf8_all,
 }
 use Rattle.std.proofs.lemmas.List.{
@@ -54,6 +54,7 @@ use Rattle.deno_graph_source.specs.declared.tree.comments.DependencyComment.{Dep
 use Rattle.deno_graph_info.specs.declared.analysis.specifier_with_range.SpecifierWithRange.{SpecifierWithRange}
 use Rattle.deno_graph_jsdoc.specs.Characters.{apostrophe, double_quote}
 use Rattle.deno_graph_jsdoc.specs.JsDocImport.{Import}
+use Rattle.deno_graph_pragmas.specs.Piece.{is_quote}
 use Rattle.deno_graph_pragmas.specs.Split.{TextPart, IsSliceOf, IsInQuotes, with_beside}
 use Rattle.deno_graph_module_info.specs.Pragma.{range_in_source, specifier_of_part, positions_of}
 use Rattle.deno_graph_module_info.specs.internal.HeadPragma.{Covers}
@@ -207,34 +208,38 @@ has_between source range bytes is slice = record {
 -- the range of an import's info covers the specifier with its two equal quotes
 pub in_same_quotes : (source : List ℕ) (import : Import) → IsQuotedAt source import
     → CoversInSameQuotes source (info_of source import).specifier
-in_same_quotes source import at = by_mark at.quoted
+in_same_quotes source import at = ⊎_elim (by_mark double_quote refl) (by_mark apostrophe refl) at.quoted
   where
     range : IsTextRange source (quoted_range import)
     range = record { ordered = (let ordered = at.ordered in omega arith); start = at.start; end = at.end }
 
-    by_mark : (slice_of source (quoted_range import) ≡ codes "\"" ++ encode_utf8_all import.specifier
-        ++ codes "\"")
-        ⊎ (slice_of source (quoted_range import) ≡ codes "'" ++ encode_utf8_all import.specifier ++ codes "'")
+    by_mark : (mark : ℕ) → is_quote mark ≡ true → slice_of source (quoted_range import)
+        ≡ mark ∷ (encode_utf8_all import.specifier ++ mark ∷ [])
         → CoversInSameQuotes source (info_of source import).specifier
-    by_mark (inl double) = (
+    by_mark mark is_mark slice = (
       record {
-        left = double_quote;
-        right = double_quote;
-        left_quote = refl;
-        right_quote = refl;
-        between = has_between source (quoted_range import) _ range double;
+        left = mark;
+        right = mark;
+        left_quote = is_mark;
+        right_quote = is_mark;
+        between = has_between source (quoted_range import) _ range slice;
       },
       refl,
     )
-    by_mark (inr single) = (
-      record {
-        left = apostrophe;
-        right = apostrophe;
-        left_quote = refl;
-        right_quote = refl;
-        between = has_between source (quoted_range import) _ range single;
-      },
-      refl,
+
+-- a slice of a comment's text is a slice of the source
+slice_of_comment : (source : List ℕ) (comment : DependencyComment) (part : TextPart) (range : SourceRange)
+    → IsSpelled source comment → IsSliceOf comment.text part
+    → range_from (comment.range.start + 2) part ≡ range
+    → IsTextRange source range × (slice_of source range ≡ part.text) × (range.end ≤ comment.range.end)
+unfolding range_from
+slice_of_comment source comment part range spelled slice same =
+    let there = comment_lies source comment.text comment.kind comment.range spelled.range spelled.slice in
+    let here = slice_in_source source comment.text
+    (comment.range.start + 2) comment.range.end part there slice in (
+      subst (IsTextRange source) same here.0,
+      ap (slice_of source) (sym same) ∙ here.1,
+      subst (λ (r : SourceRange). r.end ≤ comment.range.end) same here.2,
     )
 
 pub in_source : (source : List ℕ) (comment : DependencyComment) (part : TextPart) (is_quoteless : Bool)
@@ -242,36 +247,24 @@ pub in_source : (source : List ℕ) (comment : DependencyComment) (part : TextPa
     → (is_quoteless ≡ false → IsInQuotes comment.text part) → InSource source comment part is_quoteless
 unfolding range_from
 in_source source comment part true spelled slice quoted =
-    let there = comment_lies source comment.text comment.kind comment.range spelled.range spelled.slice in
-    let here = slice_in_source source comment.text
-    (comment.range.start + 2) comment.range.end part there slice in
     let range = range_in_source comment.range.start part.start part.end true in
-    let same : range_from (comment.range.start + 2) part ≡ range =
-    same_range _ _ (omega arith) (omega arith) in
-    let is : IsTextRange source range = subst (IsTextRange source) same here.0 in
-    record {
-      range = is;
-      inside = omega (arith, here.2);
-      covers = has_between source range part.text is (ap (slice_of source) (sym same) ∙ here.1);
-    }
+    let here = slice_of_comment source comment part range spelled slice
+    (same_range _ _ (omega arith) (omega arith)) in
+    record { range = here.0; inside = here.2; covers = has_between source range part.text here.0 here.1 }
 in_source source comment part false spelled slice quoted =
-    let there = comment_lies source comment.text comment.kind comment.range spelled.range spelled.slice in
     let quotes = quoted refl in
     let wide = with_beside quotes.left quotes.right part in
-    let here = slice_in_source source comment.text
-    (comment.range.start + 2) comment.range.end wide there quotes.is_slice in
     let range = range_in_source comment.range.start part.start part.end false in
-    let same : range_from (comment.range.start + 2) wide ≡ range =
-    same_range _ _ (omega (arith, quotes.has_front)) (omega arith) in
-    let is : IsTextRange source range = subst (IsTextRange source) same here.0 in
+    let here = slice_of_comment source comment wide range spelled quotes.is_slice
+    (same_range _ _ (omega (arith, quotes.has_front)) (omega arith)) in
     record {
-      range = is;
-      inside = omega (arith, here.2);
+      range = here.0;
+      inside = here.2;
       covers = record {
         left = quotes.left;
         right = quotes.right;
         left_quote = quotes.left_quote;
         right_quote = quotes.right_quote;
-        between = has_between source range wide.text is (ap (slice_of source) (sym same) ∙ here.1);
+        between = has_between source range wide.text here.0 here.1;
       };
     }

@@ -13,7 +13,6 @@ use Rattle.std.proofs.Common.{
   take,
   map,
   get_or,
-  refl,
   sym,
   ap,
   ◌∙◌,
@@ -21,6 +20,7 @@ use Rattle.std.proofs.Common.{
   arith,
 }
 use Rattle.std.proofs.lemmas.List.{get_or-map, length-map, map-append, take_all, take_more}
+use Rattle.std.proofs.lemmas.Simd.{map-map}
 use Rattle.std.specs.List.{All}
 use Rattle.deno_graph_jsdoc.specs.JsDocImport.{Import, import_of}
 use Rattle.deno_graph_jsdoc.specs.declared.import.JsDocImport.{JsDocImport}
@@ -48,10 +48,7 @@ module _ (text : List ℕ) where
       ∙ map-append (λ (i : JsDocImport). info_of text (import_of i)) (take k items)
       (get_or items k d ∷ []))
 
-  twice : (items : List JsDocImport) → infos items ≡ map (info_of text) (map import_of items)
-  twice [] = refl
-  twice (x ∷ xs) = ap (λ t. info_of text (import_of x) ∷ t) (twice xs)
-
   pub infos_all : (items all : List JsDocImport) (k : ℕ) (new : List JsDocImportInfo) → length items ≤ k
       → items ≡ all → new ≡ infos (take k items) → new ≡ map (info_of text) (map import_of all)
-  infos_all items all k new done same is = is ∙ ap infos (take_all k items done ∙ same) ∙ twice all
+  infos_all items all k new done same is =
+      is ∙ ap infos (take_all k items done ∙ same) ∙ sym (map-map (info_of text) import_of all)

@@ -3,7 +3,6 @@ use Rattle.std.proofs.Common.{
   ◌≡◌,
   ℕ,
   ◌-◌,
-  ◌⊎◌,
   inl,
   inr,
   ◌↔◌,
@@ -27,7 +26,7 @@ use Rattle.std.proofs.Common.{
   subst,
   slice_get,
 }
-use Rattle.std.specs.List.{AllByRecursion, AllZip, flat_map}
+use Rattle.std.specs.List.{AllZip, flat_map}
 use Rattle.std.specs.Option.{option_to_list}
 use Rattle.std.proofs.lemmas.Bool.{false≢true}
 use Rattle.std.proofs.lemmas.List.Elements.{All-from_recursion, All-head, All-tail}
@@ -41,7 +40,7 @@ use Rattle.deno_graph_info.specs.declared.analysis.type_script_reference.TypeScr
 }
 use Rattle.deno_graph_base.specs.ResolutionMode.{mode_named}
 use Rattle.deno_graph_base.specs.declared.values.resolution_mode.TypeScriptTypesResolutionMode.{TypeScriptTypesResolutionMode}
-use Rattle.deno_graph_pragmas.specs.Finders as finder
+use Rattle.deno_graph_pragmas.specs.Finders.{EachFinder}
 use Rattle.deno_graph_pragmas.specs.Split.{HasOnePart, TextPart}
 use Rattle.deno_graph_source.specs.Comments.{FiledComments, comments_of}
 use Rattle.deno_graph_source.specs.declared.tree.comments.DependencyComment.{DependencyComment}
@@ -52,7 +51,6 @@ use Rattle.deno_graph_dep.proofs.Unique.{AreDependencies-unique}
 use Rattle.deno_graph_module_info.specs.CommentImports.{reads_jsdoc}
 use Rattle.deno_graph_module_info.specs.HeadTail.{head_comments, tail_comments}
 use Rattle.deno_graph_module_info.specs.ModuleInfo.{
-  AreDescribed,
   Describes,
   IsModuleInfo,
   comments_before,
@@ -75,7 +73,6 @@ use Rattle.deno_graph_module_info.specs.Pragma.{
   specifier_of_part,
 }
 use Rattle.deno_graph_module_info.specs.References.{
-  AreReferences,
   IsModeOf,
   IsReferenceOf,
   RefersTo,
@@ -159,13 +156,13 @@ module _ (source : List ℕ) (pragma : Pragma) (one : One pragma) (comments : Li
       ap Some (one_name source pragma comment a b one names
       (subst (λ c. Names source pragma c b) (sym same) also_names))
 
-module _ (parts : AllByRecursion HasOnePart finder.finder_patterns) (source : List ℕ) where
+module _ (parts : EachFinder HasOnePart) (source : List ℕ) where
   -- The types of a dependency
 
   one_types_each : All One dependency_types_pragmas
   one_types_each =
-      let more = parts.1.1.1.1.1.1.1 in
-      All-from_recursion One dependency_types_pragmas (more.0, (more.1.0, (more.1.1.0, tt)))
+      All-from_recursion One dependency_types_pragmas
+      (parts.ts_types, (parts.deno_types, (parts.quoteless_deno_types, tt)))
 
   one_of_types : (last : Option DependencyComment) (a b : Option SpecifierWithRange)
       → NamesDependencyTypesIn source last a → NamesDependencyTypesIn source last b → a ≡ b
@@ -201,8 +198,8 @@ module _ (parts : AllByRecursion HasOnePart finder.finder_patterns) (source : Li
   one_mode text a b (inl is) (inr also) = absurd (is.0 also.1.split)
   one_mode text a b (inr is) (inl also) = absurd (also.0 is.1.split)
   one_mode text a b (inr is) (inr also) =
-      is.2 ∙ (ap (λ (part : TextPart). mode_named part.text) (parts.1.1.0 text is.0 also.0 is.1 also.1)
-      ∙ sym also.2)
+      is.2 ∙ (ap (λ (part : TextPart). mode_named part.text)
+      (parts.resolution_mode text is.0 also.0 is.1 also.1) ∙ sym also.2)
 
   -- a comment has the pragma by which it names a specifier, if the pragma counts in all comments
   has_named : (pragma : Pragma) (comment : DependencyComment) (specifier : SpecifierWithRange)
@@ -228,9 +225,9 @@ module _ (parts : AllByRecursion HasOnePart finder.finder_patterns) (source : Li
   one_referred comment (Some (Types s mode)) (Some (Path t)) is also =
       absurd (is.0 (has_named path_reference_pragma comment t refl also))
   one_referred comment (Some (Path s)) (Some (Path t)) is also =
-      ap (λ u. Some (Path u)) (one_name source path_reference_pragma comment s t parts.0 is also)
+      ap (λ u. Some (Path u)) (one_name source path_reference_pragma comment s t parts.path_reference is also)
   one_referred comment (Some (Types s mode)) (Some (Types t other)) is also =
-      let names = one_name source types_reference_pragma comment s t parts.1.0 is.1 also.1 in
+      let names = one_name source types_reference_pragma comment s t parts.types_reference is.1 also.1 in
       let modes = one_mode comment.text mode other is.2 also.2 in
       λ i. Some (Types (names i) (modes i))
 
@@ -260,7 +257,7 @@ one_truth P true false is also = absurd (false≢true (also.1 (is.0 refl)))
 one_truth P false true is also = absurd (false≢true (is.1 (also.0 refl)))
 one_truth P false false is also = refl
 
-pub one_info : (parts : AllByRecursion HasOnePart finder.finder_patterns) (source : List ℕ)
+pub one_info : (parts : EachFinder HasOnePart) (source : List ℕ)
     (media_type : MediaType) (program : Program) (comments : FiledComments) (info other : ModuleInfo)
     → IsModuleInfo source media_type program comments info
     → IsModuleInfo source media_type program comments other → info ≡ other
@@ -278,17 +275,17 @@ one_info parts source media_type program comments info other is also =
     let references : info.ts_references ≡ other.ts_references =
     is.ts_references.those ∙ (ap (flat_map option_to_list) each ∙ sym also.ts_references.those) in
     let script = one_truth _ info.is_script other.is_script is.is_script also.is_script in
-    let self_types = one_first_name source self_types_pragma parts.1.1.1.1.1.1.0
+    let self_types = one_first_name source self_types_pragma parts.ts_self_types
     (comments_for_types media_type head) info.self_types_specifier other.self_types_specifier
     is.self_types_specifier also.self_types_specifier in
-    let jsx = one_first_name source jsx_import_source_pragma parts.1.1.1.0 jsx_comments
+    let jsx = one_first_name source jsx_import_source_pragma parts.jsx_import_source jsx_comments
     info.jsx_import_source other.jsx_import_source is.jsx_import_source also.jsx_import_source in
-    let jsx_types = one_first_name source jsx_import_source_types_pragma parts.1.1.1.1.0 jsx_comments
-    info.jsx_import_source_types other.jsx_import_source_types is.jsx_import_source_types
+    let jsx_types = one_first_name source jsx_import_source_types_pragma parts.jsx_import_source_types
+    jsx_comments info.jsx_import_source_types other.jsx_import_source_types is.jsx_import_source_types
     also.jsx_import_source_types in
     let jsdoc = one_info_list (reads_jsdoc media_type) source (comments_of comments) info.jsdoc_imports
     other.jsdoc_imports is.jsdoc_imports also.jsdoc_imports in
-    let map_url = one_last_name source source_mapping_url_pragma parts.1.1.1.1.1.0
+    let map_url = one_last_name source source_mapping_url_pragma parts.source_mapping_url
     (tail_comments program comments) info.source_map_url other.source_map_url is.source_map_url
     also.source_map_url in
     λ i. record {

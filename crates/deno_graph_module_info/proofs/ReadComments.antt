@@ -29,7 +29,6 @@ use Rattle.std.proofs.lemmas.List.Elements.{
   All-contains,
   Contains-append_left,
   Contains-push,
-  Contains-push_cases,
 }
 use Rattle.std.specs.List.{All, Contains}
 use Rattle.std.specs.List.Sorted.{IsNonDecreasingBy}
@@ -37,10 +36,10 @@ use Rattle.std.specs.Str.{IsUtf8}
 use Rattle.deno_graph_jsdoc.specs.JsDocImport.{Import}
 use Rattle.deno_graph_source.specs.Source.{IsSpelled}
 use Rattle.deno_graph_source.specs.declared.tree.comments.DependencyComment.{DependencyComment}
-use Rattle.deno_graph_module_info.specs.CommentImports.{AreApart, IsImportOf, IsJsDoc}
+use Rattle.deno_graph_module_info.specs.CommentImports.{AreApart, IsJsDoc}
 use Rattle.deno_graph_module_info.specs.internal.CommentImportSteps.{AreJsDocOf, GainsImports, IsMovedImport}
 use Rattle.deno_graph_module_info.proofs.Chosen.{all, item_in, item_next}
-use Rattle.deno_graph_module_info.proofs.Gathered.{Gathered, Gathered-more, Gathered-start}
+use Rattle.deno_graph_module_info.proofs.Gathered.{Gathered, Gathered-more, Gathered-start, complete_more}
 use Rattle.deno_graph_module_info.proofs.ImportRanges.{comment_size}
 use Rattle.deno_graph_module_info.proofs.Pushed.{inside_end}
 
@@ -67,15 +66,8 @@ Gathered-again : (comments done : List DependencyComment) (comment : DependencyC
 Gathered-again comments done comment imports there gathered = record {
   ascending = gathered.ascending;
   sound = gathered.sound;
-  complete = λ other has import is. by_place other (Contains-push_cases done comment other has) import is;
+  complete = complete_more done comment imports gathered.complete (gathered.complete comment there);
 }
-  where
-    by_place : (other : DependencyComment) → Contains done other ⊎ (comment ≡ other) → (import : Import)
-        → IsImportOf other import → Contains imports import
-    by_place other (inl has) import is = gathered.complete other has import is
-    by_place other (inr same) import is =
-        gathered.complete comment there import
-        (subst (λ (c : DependencyComment). IsImportOf c import) (sym same) is)
 
 module _ (text : List ℕ) (comments : List DependencyComment) (spelled : All (IsSpelled text) comments)
     (apart : AreApart comments) (items : List (Bor DependencyComment))

@@ -13,12 +13,12 @@ use Rattle.std.proofs.Common.{
   ap,
   subst,
   ◌∙◌,
-  append_assoc,
   All,
   IfSome,
 }
-use Rattle.std.proofs.lemmas.List.Elements.{All-push}
 use Rattle.std.proofs.lemmas.List.{append-nil}
+use Rattle.std.proofs.lemmas.List.Concat.{flat_map-append}
+use Rattle.std.proofs.lemmas.List.Elements.{All-push}
 use Rattle.std.specs.List.{AllZip, flat_map}
 use Rattle.std.specs.Option.{option_to_list}
 use Rattle.deno_graph_source.specs.declared.tree.comments.DependencyComment.{DependencyComment}
@@ -34,9 +34,9 @@ AllZip-push R (a ∷ xs) (b ∷ ys) x y all one = (all.0, AllZip-push R xs ys x 
 
 those-push : {X : Type 0} (each : List (Option X)) (own : Option X)
     → flat_map option_to_list (each ++ own ∷ []) ≡ flat_map option_to_list each ++ option_to_list own
-those-push [] own = append-nil (option_to_list own)
-those-push (o ∷ each) own = ap (λ t. option_to_list o ++ t) (those-push each own)
-    ∙ sym (append_assoc (option_to_list o) (flat_map option_to_list each) (option_to_list own))
+those-push each own =
+    flat_map-append option_to_list each (own ∷ [])
+    ∙ ap (λ t. flat_map option_to_list each ++ t) (append-nil (option_to_list own))
 
 pub AreReferences-push : (source : List ℕ) (comments : List DependencyComment)
     (references : List TypeScriptReference) (comment : DependencyComment) (own : Option TypeScriptReference)

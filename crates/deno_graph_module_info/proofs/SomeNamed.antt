@@ -146,40 +146,24 @@ some_name source pragma comment has =
 
 pub names_first : (source : List ℕ) (pragma : Pragma) (comments : List DependencyComment)
     → (specifier : Option SpecifierWithRange) × NamesFirst source pragma comments specifier
-names_first source pragma comments = by (first_with (HasPragma pragma) (decide_pragma pragma) comments)
-  where
-    by : ((comment : DependencyComment) × IsFirstWith (HasPragma pragma) comments comment)
-        ⊎ All (λ comment. ¬ HasPragma pragma comment) comments
-        → (specifier : Option SpecifierWithRange) × NamesFirst source pragma comments specifier
-    by (inl found) =
-        let name = some_name source pragma found.0 found.1.has in
-        (Some name.0, (found.0, found.1, name.1))
-    by (inr none) = (None, none)
+names_first source pragma comments =
+    ⊎_elim (λ found. let name = some_name source pragma found.0 found.1.has in
+    (Some name.0, (found.0, found.1, name.1)))
+    (λ none. (None, none)) (first_with (HasPragma pragma) (decide_pragma pragma) comments)
 
 pub names_last : (source : List ℕ) (pragma : Pragma) (comments : List DependencyComment)
     → (specifier : Option SpecifierWithRange) × NamesLast source pragma comments specifier
-names_last source pragma comments = by (last_with (HasPragma pragma) (decide_pragma pragma) comments)
-  where
-    by : ((comment : DependencyComment) × IsLastWith (HasPragma pragma) comments comment)
-        ⊎ All (λ comment. ¬ HasPragma pragma comment) comments
-        → (specifier : Option SpecifierWithRange) × NamesLast source pragma comments specifier
-    by (inl found) =
-        let name = some_name source pragma found.0 found.1.has in
-        (Some name.0, (found.0, found.1, name.1))
-    by (inr none) = (None, none)
+names_last source pragma comments =
+    ⊎_elim (λ found. let name = some_name source pragma found.0 found.1.has in
+    (Some name.0, (found.0, found.1, name.1)))
+    (λ none. (None, none)) (last_with (HasPragma pragma) (decide_pragma pragma) comments)
 
 names_by_first : (source : List ℕ) (pragmas : List Pragma) (comment : DependencyComment)
     → (specifier : Option SpecifierWithRange) × NamesByFirst source pragmas comment specifier
 names_by_first source pragmas comment =
-    by (first_with (λ pragma. HasPragma pragma comment) (λ pragma. decide_pragma pragma comment) pragmas)
-  where
-    by : ((pragma : Pragma) × IsFirstWith (λ p. HasPragma p comment) pragmas pragma)
-        ⊎ All (λ pragma. ¬ HasPragma pragma comment) pragmas
-        → (specifier : Option SpecifierWithRange) × NamesByFirst source pragmas comment specifier
-    by (inl found) =
-        let name = some_name source found.0 comment found.1.has in
-        (Some name.0, (found.0, found.1, name.1))
-    by (inr none) = (None, none)
+    ⊎_elim (λ found. let name = some_name source found.0 comment found.1.has in
+    (Some name.0, (found.0, found.1, name.1))) (λ none. (None, none))
+    (first_with (λ pragma. HasPragma pragma comment) (λ pragma. decide_pragma pragma comment) pragmas)
 
 pub names_types : (source : List ℕ) (comments : List DependencyComment)
     → (specifier : Option SpecifierWithRange) × NamesDependencyTypes source comments specifier

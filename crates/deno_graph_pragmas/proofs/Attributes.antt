@@ -1,8 +1,8 @@
 -- The search for the first attribute, character by character.
-use Rattle.std.proofs.Common.{◌≡◌, ℕ, ◌≤◌, true, List, [], ◌∷◌, ◌++◌, take, Some, None, length, refl, sym, ap}
+use Rattle.std.proofs.Common.{◌≡◌, ℕ, ◌≤◌, true, List, [], ◌∷◌, ◌++◌, Some, None, length, sym, ap}
 use Rattle.std.proofs.Common.{◌∙◌, append_assoc, length-append, inl, inr, arith}
 use Rattle.std.proofs.lemmas.Bool.{cond-true, cond-false, cases_Bool, cases_lt, false≢true}
-use Rattle.std.proofs.lemmas.List.{append-nil, append_cancel_left, take_at, nil_from_length}
+use Rattle.std.proofs.lemmas.List.{append-nil, nil_from_length}
 use Rattle.std.proofs.lemmas.Str.{chars_past_char, chars-nil, IsUtf8-past_char}
 use Rattle.std.specs.Char.{is_whitespace}
 use Rattle.std.specs.Option.{option_and_then}
@@ -15,7 +15,7 @@ use Rattle.deno_graph_pragmas.specs.internal.Reading.{IsAttributeAt}
 use Rattle.deno_graph_pragmas.specs.Split.{ArePieces, Split, IsCaptured, TextPart}
 use Rattle.deno_graph_pragmas.proofs.Barriers.{attribute_apart}
 use Rattle.deno_graph_pragmas.proofs.Found.{bytes_of, rest_read, IsCaptured-read}
-use Rattle.deno_graph_pragmas.proofs.Splits.{after_before, after_front, front_read}
+use Rattle.deno_graph_pragmas.proofs.Splits.{after_before, after_front, front_read, same_front}
 
 -- the text is `passed` and `rest`, and none of its splits begins in `passed`
 pub record IsPassed (name text rest : List ℕ) : Type 0 where
@@ -23,14 +23,6 @@ pub record IsPassed (name text rest : List ℕ) : Type 0 where
   pub passed : List ℕ
   pub whole : chars text ≡ passed ++ chars rest
   pub none : (split : Split (attribute name) (chars text)) → length passed ≤ length split.before
-
--- two fronts of a list that are equally long are the same
-same_front : (one other rest left : List ℕ) → one ++ rest ≡ other ++ left → length one ≡ length other
-    → (one ≡ other) × (rest ≡ left)
-same_front one other rest left whole same =
-    let front : one ≡ other = sym (take_at one rest (length one) refl) ∙ ap (λ t. take (length one) t) whole
-    ∙ take_at other left (length one) (sym same) in
-    (front, append_cancel_left one rest left (whole ∙ ap (λ t. t ++ left) (sym front)))
 
 -- the front of a split that begins after `passed`
 front_here : (name text passed here : List ℕ) → text ≡ passed ++ here

@@ -1,41 +1,29 @@
 -- The captured part: its range in the text, its quotes, and that there is at most one.
-use Rattle.std.proofs.Common.{◌≡◌, ℕ, ◌+◌, ◌-◌, ◌<◌, true, List, [], ◌∷◌, ◌++◌, Option, IfSome, length, take}
+use Rattle.std.proofs.Common.{◌≡◌, ℕ, ◌+◌, ◌-◌, ◌<◌, true, List, [], ◌∷◌, ◌++◌, length, take}
 use Rattle.std.proofs.Common.{drop, refl, sym, ap, subst, ◌∙◌, append_assoc, length-append, arith, codes}
-use Rattle.std.proofs.lemmas.Bool.{and_parts}
 use Rattle.std.proofs.lemmas.Bool.Decides.{nat_tests}
 use Rattle.std.proofs.lemmas.List.{take_at, drop_at, append-nil}
-use Rattle.std.proofs.lemmas.Option.{IfSome_then}
-use Rattle.std.proofs.lemmas.Str.{encodes-chars, encodes-append, encode_ascii, scalars-chars}
-use Rattle.std.proofs.lemmas.Str.{IsCharBoundary-at_seam}
-use Rattle.std.specs.List.{AllByRecursion}
+use Rattle.std.proofs.lemmas.Str.{encodes-append, encode_ascii, IsCharBoundary-at_seam}
 use Rattle.std.specs.Str.{chars, IsUtf8}
-use lib.Utf8.{encodes, encode, scalar, scalars}
-use Rattle.deno_graph_pragmas.specs.Finders.{attribute, quoted_pragma, quoteless_pragma, jsx_pragma}
-use Rattle.deno_graph_pragmas.specs.Finders.{source_mapping_url_pattern, finder_patterns}
-use Rattle.deno_graph_pragmas.specs.declared.finders.matches.Match.{Match}
-use Rattle.deno_graph_pragmas.specs.Match.{match_part_of}
+use lib.Utf8.{encodes, encode}
+use Rattle.deno_graph_pragmas.specs.Finders.{EachFinder, attribute, quoted_pragma}
 use Rattle.deno_graph_pragmas.specs.Piece.{Piece, white_space, any_white_space, keyword, literal, quote}
 use Rattle.deno_graph_pragmas.specs.Piece.{is_quote}
 use Rattle.deno_graph_pragmas.specs.Split.{Pattern, ArePieces, Split, IsCaptured, IsSliceOf, IsInQuotes}
 use Rattle.deno_graph_pragmas.specs.Split.{StartDetermines, HasOnePart, TextPart, with_beside}
 use Rattle.deno_graph_pragmas.proofs.Barriers.{attribute_apart, quoted_pragma_apart, quoteless_pragma_apart}
 use Rattle.deno_graph_pragmas.proofs.Barriers.{jsx_pragma_apart, source_mapping_url_apart}
-use Rattle.deno_graph_pragmas.proofs.Splits.{IsDetermined, after_before, same_captured}
+use Rattle.deno_graph_pragmas.proofs.Splits.{IsDetermined, after_before, same_captured, same_front}
+use Rattle.deno_graph_pragmas.proofs.TextSteps.{scalars-parts, text_of}
 
 -- Slices
-
-scalars-back : (front back : List ℕ) → scalars (front ++ back) ≡ true → scalars back ≡ true
-scalars-back [] back all = all
-scalars-back (c ∷ front) back all =
-    scalars-back front back (and_parts (scalar c) (scalars (front ++ back)) all).1
 
 -- the bytes of a text whose characters are cut in two
 cut : (text front back : List ℕ) → IsUtf8 text → chars text ≡ front ++ back
     → (text ≡ encodes front ++ encodes back) × IsUtf8 (encodes back)
-cut text front back utf8 whole = (
-  sym (encodes-chars text utf8) ∙ ap encodes whole ∙ encodes-append front back,
-  (back, (scalars-back front back (ap scalars (sym whole) ∙ scalars-chars text utf8), refl)),
-)
+cut text front back utf8 whole =
+    let all = text_of text (front ++ back) utf8 whole in
+    (all.0 ∙ encodes-append front back, (back, ((scalars-parts front back all.1).1, refl)))
 
 same_part : (one other : TextPart) → one.text ≡ other.text → one.start ≡ other.start
     → one.end ≡ other.end → one ≡ other
@@ -79,12 +67,6 @@ captured_slice pattern text part utf8 is =
     } in
     subst (IsSliceOf text) (same_part slice part (sym is.bytes) (sym is.start) (sym is.end))
     (slice_of_chars text head split.captured tail utf8 whole)
-
-pub found_slice : (pattern : Pattern) (text : List ℕ) (result : Option Match)
-    → IsUtf8 text → IfSome result (λ found. IsCaptured pattern text (match_part_of found))
-    → IfSome result (λ found. IsSliceOf text (match_part_of found))
-found_slice pattern text result utf8 found =
-    IfSome_then result found (λ m. captured_slice pattern text (match_part_of m) utf8)
 
 -- Quotes
 
@@ -207,9 +189,8 @@ one_part pattern apart text one other first second =
     let a = first.split in
     let b = second.split in
     let lengths : length a.before ≡ length b.before = omega (arith, first.first b, second.first a) in
-    let starts : a.before ≡ b.before = sym (take_at a.before (after_before a) (length a.before) refl)
-    ∙ ap (take (length a.before)) (sym a.whole ∙ b.whole)
-    ∙ take_at b.before (after_before b) (length a.before) (sym lengths) in
+    let starts =
+    (same_front a.before b.before (after_before a) (after_before b) (sym a.whole ∙ b.whole) lengths).0 in
     let parts = same_captured pattern (chars text) apart a b starts in
     let heads : a.before ++ a.front ≡ b.before ++ b.front =
     ap (λ t. t ++ a.front) starts ∙ ap (λ t. b.before ++ t) parts.front in
@@ -220,45 +201,22 @@ one_part pattern apart text one other first second =
     ∙ ap (λ t. length (encodes (b.before ++ b.front ++ t))) parts.captured ∙ sym second.end)
 
 -- a property of the pattern of each finder that captures a part
-of_each : (P : Pattern → Type 0) → ((pattern : Pattern) → IsDetermined pattern → P pattern)
-    → AllByRecursion P finder_patterns
-of_each P from = (
-  from (attribute (codes "path")) (attribute_apart (codes "path")),
-  (
-    from (attribute (codes "types")) (attribute_apart (codes "types")),
-    (
-      from (attribute (codes "resolution-mode")) (attribute_apart (codes "resolution-mode")),
-      (
-        from (jsx_pragma (codes "@jsxImportSource")) (jsx_pragma_apart (codes "@jsxImportSource") refl),
-        (
-          from (jsx_pragma (codes "@jsxImportSourceTypes"))
-              (jsx_pragma_apart (codes "@jsxImportSourceTypes") refl),
-          (
-            from source_mapping_url_pattern source_mapping_url_apart,
-            (
-              from (quoted_pragma (codes "@ts-self-types"))
-                  (quoted_pragma_apart (codes "@ts-self-types") refl),
-              (
-                from (quoted_pragma (codes "@ts-types")) (quoted_pragma_apart (codes "@ts-types") refl),
-                (
-                  from (quoted_pragma (codes "@deno-types")) (quoted_pragma_apart (codes "@deno-types") refl),
-                  (
-                    from (quoteless_pragma (codes "@deno-types"))
-                        (quoteless_pragma_apart (codes "@deno-types") refl),
-                    tt,
-                  ),
-                ),
-              ),
-            ),
-          ),
-        ),
-      ),
-    ),
-  ),
-)
+of_each : (P : Pattern → Type 0) → ((pattern : Pattern) → IsDetermined pattern → P pattern) → EachFinder P
+of_each P from = record {
+  path_reference = from _ (attribute_apart (codes "path"));
+  types_reference = from _ (attribute_apart (codes "types"));
+  resolution_mode = from _ (attribute_apart (codes "resolution-mode"));
+  jsx_import_source = from _ (jsx_pragma_apart (codes "@jsxImportSource") refl);
+  jsx_import_source_types = from _ (jsx_pragma_apart (codes "@jsxImportSourceTypes") refl);
+  source_mapping_url = from _ source_mapping_url_apart;
+  ts_self_types = from _ (quoted_pragma_apart (codes "@ts-self-types") refl);
+  ts_types = from _ (quoted_pragma_apart (codes "@ts-types") refl);
+  deno_types = from _ (quoted_pragma_apart (codes "@deno-types") refl);
+  quoteless_deno_types = from _ (quoteless_pragma_apart (codes "@deno-types") refl);
+}
 
-pub starts_determine : AllByRecursion StartDetermines finder_patterns
+pub starts_determine : EachFinder StartDetermines
 starts_determine = of_each StartDetermines determined
 
-pub one_part_each : AllByRecursion HasOnePart finder_patterns
+pub one_part_each : EachFinder HasOnePart
 one_part_each = of_each HasOnePart one_part

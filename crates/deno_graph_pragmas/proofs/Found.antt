@@ -4,7 +4,7 @@ use Rattle.std.proofs.Common.{IsSome, IsNone, IfSome, is_some, ◌↔◌, IsTrue
 use Rattle.std.proofs.Common.{append_assoc, length-append, arith, zero-le}
 use Rattle.std.proofs.lemmas.Bool.{false≢true}
 use Rattle.std.proofs.lemmas.List.{append_cancel_right}
-use Rattle.std.proofs.lemmas.Option.{IfSome_then}
+use Rattle.std.proofs.lemmas.Option.{none-some}
 use Rattle.std.proofs.lemmas.Str.{encodes-chars, encodes-append}
 use Rattle.std.specs.Option.{option_and_then}
 use Rattle.std.specs.Str.{chars, IsUtf8}
@@ -14,14 +14,12 @@ use Rattle.deno_graph_pragmas.specs.declared.finders.matches.Match.{Match}
 use Rattle.deno_graph_pragmas.specs.Piece.{Piece, IsPiece}
 use Rattle.deno_graph_pragmas.specs.internal.Reading.{after_piece, after_pieces, IsCapturedAt}
 use Rattle.deno_graph_pragmas.specs.Split.{Pattern, ArePieces, Split, HasSplit, TextPart, IsCaptured}
+use Rattle.deno_graph_pragmas.proofs.Captured.{captured_slice}
 use Rattle.deno_graph_pragmas.proofs.ReadPieces.{after_piece-front, after_pieces-front}
 use Rattle.deno_graph_pragmas.proofs.Splits.{IsDetermined, after_before, after_front, front_read}
 use Rattle.deno_graph_pragmas.proofs.Splits.{captured_read, back_read}
 
 -- A text without a split
-
-none_some : {A : Type 0} (o : Option A) (x : A) → o ≡ None → o ≡ Some x → ⊥
-none_some o x none some = cc
 
 -- an anchored split begins at the start of the text
 pub at_start : (pattern : Pattern) (text : List ℕ) → pattern.anchored ≡ true → (split : Split pattern text)
@@ -32,7 +30,7 @@ at_start pattern text anchored split =
 pub no_front : (pattern : Pattern) (text : List ℕ) → IsDetermined pattern → pattern.anchored ≡ true
     → after_pieces pattern.front text ≡ None → ¬ (Split pattern text)
 no_front pattern text determined anchored none split =
-    none_some _ _ none (ap (after_pieces pattern.front) (sym (at_start pattern text anchored split))
+    none-some _ (sym none ∙ ap (after_pieces pattern.front) (sym (at_start pattern text anchored split))
     ∙ front_read pattern text determined split)
 
 -- the captured part and the pieces after it are read after the front
@@ -49,8 +47,8 @@ no_rest pattern text rest determined anchored front none split =
     let here : after_pieces pattern.front text ≡ Some (after_front split) = ap (after_pieces pattern.front)
     (sym (at_start pattern text anchored split)) ∙ front_read pattern text determined split in
     let same : rest ≡ after_front split = cc in
-    none_some _ _ none
-    (ap (after_pieces (pattern.captured ∷ pattern.back)) same ∙ rest_read pattern text determined split)
+    none-some _ (sym none ∙ ap (after_pieces (pattern.captured ∷ pattern.back)) same
+    ∙ rest_read pattern text determined split)
 
 -- a finder returns None if the text has no split
 pub none_result : {A : Type 0} {S : Type 0} (result : Option A) → result ≡ None → ¬ S → IsNone result ↔ ¬ S
@@ -171,29 +169,6 @@ IsCapturedAt-front piece back text rest front tail part utf8 captured back_read 
       end = end ∙ ap (λ t. part.start + length t) (sym is);
     }
 
--- The result of a finder that has read the front
-
-pub found_after : (pattern : Pattern) (text rest : List ℕ) (result : Option Match)
-    → IsUtf8 text → IsUtf8 rest → after_pieces pattern.front (chars text) ≡ Some (chars rest)
-    → IfSome result (λ found. IsCapturedAt pattern.captured pattern.back text rest (match_part_of found))
-    → IfSome result (λ found. IsCaptured pattern text (match_part_of found))
-found_after pattern text rest result text_utf8 rest_utf8 front read =
-    IfSome_then result read
-    (λ found. IsCaptured-at_start pattern text rest (match_part_of found) text_utf8 rest_utf8 front)
-
-pub none_after : (pattern : Pattern) (text rest : List ℕ) (result : Option Match) → IsUtf8 text → IsUtf8 rest
-    → IsDetermined pattern → pattern.anchored ≡ true → after_pieces pattern.front (chars text) ≡ Some
-    (chars rest)
-    → IfSome result (λ found. IsCapturedAt pattern.captured pattern.back text rest (match_part_of found))
-    → (IsNone result → after_pieces (pattern.captured ∷ pattern.back) (chars rest) ≡ None)
-    → IsNone result ↔ ¬ (Split pattern (chars text))
-none_after pattern text rest None text_utf8 rest_utf8 determined anchored front read none =
-    none_result {A = Match} None refl
-    (no_rest pattern (chars text) (chars rest) determined anchored front (none refl))
-none_after pattern text rest (Some found) text_utf8 rest_utf8 determined anchored front read none =
-    some_answer
-    (IsCaptured-at_start pattern text rest (match_part_of found) text_utf8 rest_utf8 front read).split
-
 -- The result of a finder if the text has no split
 
 pub finds_none : (pattern : Pattern) (text : List ℕ) (result : Option Match)
@@ -212,3 +187,23 @@ finds_none_in_quotes pattern text None is none = record {
   slice = tt;
   quotes = tt;
 }
+
+-- The result of a finder of an anchored pattern that has read the front
+
+pub finds_after : (pattern : Pattern) (text rest : List ℕ) (result : Option Match) → IsUtf8 text
+    → IsUtf8 rest → IsDetermined pattern → pattern.anchored ≡ true
+    → after_pieces pattern.front (chars text) ≡ Some (chars rest)
+    → IfSome result (λ found. IsCapturedAt pattern.captured pattern.back text rest (match_part_of found))
+    → (IsNone result → after_pieces (pattern.captured ∷ pattern.back) (chars rest) ≡ None)
+    → FindsFirst pattern text result
+finds_after pattern text rest None text_utf8 rest_utf8 determined anchored front read none =
+    finds_none pattern text None refl
+    (no_rest pattern (chars text) (chars rest) determined anchored front (none refl))
+finds_after pattern text rest (Some found) text_utf8 rest_utf8 determined anchored front read none =
+    let part = match_part_of found in
+    let is = IsCaptured-at_start pattern text rest part text_utf8 rest_utf8 front read in
+    record {
+      found = is;
+      none = some_answer is.split;
+      slice = captured_slice pattern text part text_utf8 is;
+    }

@@ -3,6 +3,7 @@ use Rattle.std.proofs.Common.{◌≡◌, ◌↔◌, ℕ, ◌<◌, Bool, true, Li
 use Rattle.std.proofs.Common.{refl, sym, ap, subst, ◌∙◌, append_assoc, length-append, arith, inl, inr, codes}
 use Rattle.std.proofs.lemmas.Bool.{and_parts, and_from, both_ways}
 use Rattle.std.proofs.lemmas.List.{take_at, drop_at, get_or_at}
+use Rattle.std.proofs.lemmas.List.Folds.{list_all-append}
 use Rattle.std.proofs.lemmas.Str.{encodes-chars, encodes-append, chars-append, chars_past_char}
 use Rattle.std.proofs.lemmas.Str.{IsUtf8-past_char, IsUtf8-take, IsUtf8-drop, IsCharBoundary-before_ascii}
 use Rattle.std.specs.List.{list_all}
@@ -49,20 +50,6 @@ in_bytes line utf8 (front, back, whole) = (
 
 -- The first line and the text
 
-list_all-front : (test : ℕ → Bool) (xs ys : List ℕ)
-    → list_all test (xs ++ ys) ≡ true → list_all test xs ≡ true
-list_all-front test [] ys all = refl
-list_all-front test (x ∷ xs) ys all =
-    let parts = and_parts (test x) (list_all test (xs ++ ys)) all in
-    and_from (test x) (list_all test xs) parts.0 (list_all-front test xs ys parts.1)
-
-list_all-both : (test : ℕ → Bool) (xs ys : List ℕ) → list_all test xs ≡ true → list_all test ys ≡ true
-    → list_all test (xs ++ ys) ≡ true
-list_all-both test [] ys one other = other
-list_all-both test (x ∷ xs) ys one other =
-    let parts = and_parts (test x) (list_all test xs) one in
-    and_from (test x) (list_all test (xs ++ ys)) parts.0 (list_all-both test xs ys parts.1 other)
-
 -- a front without a line feed is in the first line
 inside : (front line rest after : List ℕ) → list_all is_in_line front ≡ true
     → line ++ line_feed ∷ rest ≡ front ++ after → (more : List ℕ) × (line ≡ front ++ more)
@@ -86,15 +73,18 @@ to_line text line (all, whole) (front, after, in_front, is) = elim whole [
       let parts : line ++ line_feed ∷ more.0 ≡ (front ++ codes "/>") ++ after =
       sym more.1 ∙ is ∙ sym (append_assoc front (codes "/>") after) in
       let within = inside (front ++ codes "/>") line more.0 after
-      (list_all-both is_in_line front (codes "/>") in_front refl) parts in
+      (list_all-append is_in_line front (codes "/>")
+      ∙ and_from (list_all is_in_line front) true in_front refl)
+      parts in
       (front, within.0, within.1 ∙ append_assoc front (codes "/>") within.0)
 ]
 
 from_line : (text line : List ℕ) → IsFirstLine text line → HasClose line → IsClosedInLine text
 unfolding HasClose
 from_line text line (all, whole) (front, back, is) =
-    let in_front = list_all-front is_in_line front (codes "/>" ++ back)
-    (subst (λ t. list_all is_in_line t ≡ true) is all) in
+    let in_front = (and_parts (list_all is_in_line front) (list_all is_in_line (codes "/>" ++ back))
+    (sym (list_all-append is_in_line front (codes "/>" ++ back))
+    ∙ ap (list_all is_in_line) (sym is) ∙ all)).0 in
     elim whole [
       | inl same ↦ (front, back, in_front, same ∙ is)
       | inr more ↦ (

@@ -1,8 +1,9 @@
 -- Triple-slash references.
-use Rattle.std.proofs.Common.{◌≡◌, ◌↔◌, ℕ, Bool, true, false, List, [], ◌++◌, Option, Some, None, refl, sym}
+use Rattle.std.proofs.Common.{◌≡◌, ◌↔◌, ℕ, Bool, true, false, List, [], ◌++◌, Some, None, refl, sym}
 use Rattle.std.proofs.Common.{ap, subst, ◌∙◌, codes}
 use Rattle.std.proofs.lemmas.Bool.{false≢true}
 use Rattle.std.proofs.lemmas.List.{append-nil}
+use Rattle.std.proofs.lemmas.Option.{none-some, same_Some}
 use Rattle.deno_graph_pragmas.specs.Finders.{triple_slash_reference_pattern}
 use Rattle.deno_graph_pragmas.specs.internal.Reading.{after_pieces, IsClosedInLine}
 use Rattle.deno_graph_pragmas.specs.Split.{ArePieces, Split}
@@ -48,23 +49,17 @@ closed text split =
     ∙ ap (λ t. codes "/>" ++ t) piece.4 ∙ append-nil (codes "/>") in
     (split.captured, split.after, split.captured_piece, ap (λ t. split.captured ++ (t ++ split.after)) is)
 
-some_same : {o : Option (List ℕ)} {x y : List ℕ} → o ≡ Some x → o ≡ Some y → x ≡ y
-some_same one other = cc
-
-none_some : {o : Option (List ℕ)} {x : List ℕ} → o ≡ None → o ≡ Some x → ⊥
-none_some none some = cc
-
 pub reference_iff : (text rest : List ℕ) (result : Bool)
     → after_pieces triple_slash_reference_pattern.front text ≡ Some rest
     → (result ≡ true) ↔ IsClosedInLine rest → (result ≡ true) ↔ Split triple_slash_reference_pattern text
 reference_iff text rest result front is = (
   λ yes. made text rest front (is.0 yes),
   λ split.
-      let same : after_front split ≡ rest = some_same (front_is text split) front in
+      let same : after_front split ≡ rest = same_Some _ _ (sym (front_is text split) ∙ front) in
       is.1 (subst IsClosedInLine same (closed text split)),
 )
 
 pub no_reference : (text : List ℕ) → after_pieces triple_slash_reference_pattern.front text ≡ None
     → (false ≡ true) ↔ Split triple_slash_reference_pattern text
 no_reference text none =
-    (λ never. absurd (false≢true never), λ split. absurd (none_some none (front_is text split)))
+    (λ never. absurd (false≢true never), λ split. absurd (none-some _ (sym none ∙ front_is text split)))

@@ -3,6 +3,7 @@ use Rattle.std.proofs.Common.{◌≡◌, ◌≢◌, ◌==◌, ◌⊎◌, inl, in
 use Rattle.std.proofs.Common.{length, Some, None, refl, sym, ap, ◌∙◌, arith, length-append, eqb-true}
 use Rattle.std.proofs.lemmas.Bool.{cond_both, cond-true, cond-false, eqb-false}
 use Rattle.std.proofs.lemmas.List.{nil_from_length}
+use Rattle.std.proofs.lemmas.Option.{same_Some}
 use Rattle.std.proofs.lemmas.Str.{chars-nil, encodes-chars}
 use Rattle.std.specs.Option.{option_map, option_and_then}
 use Rattle.std.specs.Str.{chars, IsUtf8}
@@ -55,14 +56,11 @@ after_some-empty test text front whole empty =
 
 -- A piece that may be empty, and the same piece that may not
 
-some_same : {x y : List ℕ} → Some x ≡ Some y → x ≡ y
-some_same same = cc
-
 tail_is : (test : ℕ → Bool) (back : List Piece) (text rest : List ℕ) (part : TextPart)
     → (read : IsCapturedAt (any test) back text rest part)
     → chars rest ≡ chars part.text ++ skip_while test (chars rest)
 tail_is test back text rest part read =
-    let same : skip_while test (chars rest) ≡ read.tail = some_same read.captured in
+    let same : skip_while test (chars rest) ≡ read.tail = same_Some _ _ read.captured in
     read.whole ∙ ap (λ t. chars part.text ++ t) (sym same)
 
 pub read_nonempty : (test : ℕ → Bool) (back : List Piece) (text rest : List ℕ) (part : TextPart)

@@ -1,7 +1,9 @@
 -- Reading from left to right finds the splits of a text. The start of a split determines what the split
 -- captures.
-use Rattle.std.proofs.Common.{◌≡◌, ℕ, List, [], ◌∷◌, ◌++◌, Option, Some, sym, ap, subst, ◌∙◌, append_assoc}
-use Rattle.std.proofs.lemmas.List.{append_cancel_left, append_cancel_right}
+use Rattle.std.proofs.Common.{◌≡◌, ℕ, List, [], ◌∷◌, ◌++◌, length, take, Some, refl, sym, ap, subst, ◌∙◌}
+use Rattle.std.proofs.Common.{append_assoc}
+use Rattle.std.proofs.lemmas.List.{append_cancel_left, append_cancel_right, take_at}
+use Rattle.std.proofs.lemmas.Option.{same_Some}
 use Rattle.deno_graph_pragmas.specs.Piece.{Piece, IsPiece}
 use Rattle.deno_graph_pragmas.specs.internal.Reading.{after_piece, after_pieces}
 use Rattle.deno_graph_pragmas.specs.Split.{Pattern, ArePieces, Split}
@@ -77,8 +79,13 @@ pub record SameCaptured {pattern : Pattern} {text : List ℕ} (one other : Split
   pub front : one.front ≡ other.front
   pub captured : one.captured ≡ other.captured
 
-some_same : {A : Type 0} (o : Option A) (x y : A) → o ≡ Some x → o ≡ Some y → x ≡ y
-some_same o x y is also = cc
+-- two fronts of a list that are equally long are the same
+pub same_front : (one other rest left : List ℕ) → one ++ rest ≡ other ++ left → length one ≡ length other
+    → (one ≡ other) × (rest ≡ left)
+same_front one other rest left whole same =
+    let front : one ≡ other = sym (take_at one rest (length one) refl) ∙ ap (λ t. take (length one) t) whole
+    ∙ take_at other left (length one) (sym same) in
+    (front, append_cancel_left one rest left (whole ∙ ap (λ t. t ++ left) (sym front)))
 
 pub same_captured : (pattern : Pattern) (text : List ℕ) → IsDetermined pattern
     → (one other : Split pattern text) → one.before ≡ other.before → SameCaptured one other
@@ -87,12 +94,12 @@ same_captured pattern text determined one other same =
     sym one.whole ∙ other.whole ∙ ap (λ before. before ++ after_before other) (sym same) in
     let starts : after_before one ≡ after_before other =
     append_cancel_left one.before (after_before one) (after_before other) wholes in
-    let fronts : after_front one ≡ after_front other = some_same
-    (after_pieces pattern.front (after_before one)) _ _ (front_read pattern text determined one)
-    (ap (after_pieces pattern.front) starts ∙ front_read pattern text determined other) in
-    let rests : after_captured one ≡ after_captured other = some_same
-    (after_piece pattern.captured (after_front one)) _ _ (captured_read pattern text determined one)
-    (ap (after_piece pattern.captured) fronts ∙ captured_read pattern text determined other) in
+    let fronts : after_front one ≡ after_front other =
+    same_Some _ _ (sym (front_read pattern text determined one)
+    ∙ ap (after_pieces pattern.front) starts ∙ front_read pattern text determined other) in
+    let rests : after_captured one ≡ after_captured other =
+    same_Some _ _ (sym (captured_read pattern text determined one)
+    ∙ ap (after_piece pattern.captured) fronts ∙ captured_read pattern text determined other) in
     record {
       front = append_cancel_right one.front other.front (after_front one)
           (starts ∙ ap (λ rest. other.front ++ rest) (sym fronts));

@@ -4,6 +4,7 @@ use Rattle.std.proofs.Common.{◌∷◌, ◌++◌, drop, Option, Some, None, Bor
 use Rattle.std.proofs.Common.{◌∙◌, arith, append_assoc}
 use Rattle.std.proofs.lemmas.Bool.{cond_both, cond-true, cond-false, and_parts, and_from}
 use Rattle.std.proofs.lemmas.List.{take-append-drop, append-nil}
+use Rattle.std.proofs.lemmas.List.Folds.{list_all-append}
 use Rattle.std.proofs.lemmas.Str.{chars-encodes, encodes-chars, scalars-chars, chars_past_char}
 use Rattle.std.proofs.lemmas.Str.{IsUtf8-past_char, cons_from_encodes, len_utf8_bounds, chars_from_encodes}
 use Rattle.std.specs.Char.{is_whitespace}
@@ -20,7 +21,7 @@ use Rattle.deno_graph_pragmas.proofs.ReadPieces.{skip_while-append}
 -- The first character of a text
 
 -- the bytes of a text, by its characters
-text_of : (bs cs : List ℕ) → IsUtf8 bs → chars bs ≡ cs → (bs ≡ encodes cs) × (scalars cs ≡ true)
+pub text_of : (bs cs : List ℕ) → IsUtf8 bs → chars bs ≡ cs → (bs ≡ encodes cs) × (scalars cs ≡ true)
 text_of bs cs utf8 is =
     (sym (encodes-chars bs utf8) ∙ ap encodes is, ap scalars (sym is) ∙ scalars-chars bs utf8)
 
@@ -114,13 +115,6 @@ IsTrimmed : (ℕ → Bool) → List ℕ → List ℕ → Type 0
 IsTrimmed test bs r = (front : List ℕ) × (chars bs ≡ front ++ chars r)
     × (list_all test front ≡ true) × IsUtf8 r
 
-list_all-append : (test : ℕ → Bool) (xs ys : List ℕ) → list_all test xs ≡ true → list_all test ys ≡ true
-    → list_all test (xs ++ ys) ≡ true
-list_all-append test [] ys one other = other
-list_all-append test (x ∷ xs) ys one other =
-    let parts = and_parts (test x) (list_all test xs) one in
-    and_from (test x) (list_all test (xs ++ ys)) parts.0 (list_all-append test xs ys parts.1 other)
-
 trimmed : (P : (ℕ → Bool) → Type 0) (test : ℕ → Bool) (bs r : List ℕ) (ns : List ℕ) → IsUtf8 bs → P test
     → (let F : List ℕ → Option ℕ → Type 0 = λ s o. (k : ℕ → Bool) → P k → FindsPrefixBy k s o in
     CutsPrefixes F bs ns r) → IsTrimmed test bs r
@@ -133,7 +127,8 @@ trimmed P test bs r (n ∷ ns) utf8 matches (m, cuts, found, is) =
       before.0 ++ past.0 ∷ [],
       before.1 ∙ ap (λ cs. before.0 ++ cs) (past.2 ∙ ap (λ t. past.0 ∷ chars t) (sym is))
           ∙ sym (append_assoc before.0 (past.0 ∷ []) (chars r)),
-      list_all-append test before.0 (past.0 ∷ []) before.2 (and_from (test past.0) true past.1 refl),
+      list_all-append test before.0 (past.0 ∷ [])
+          ∙ and_from (list_all test before.0) _ before.2 (and_from (test past.0) true past.1 refl),
       subst IsUtf8 (sym is) (IsUtf8-past_char m (drop n m) past.0 before.3 here),
     )
 
@@ -166,7 +161,7 @@ no_char_passes : (test : ℕ → Bool) (bs : List ℕ) → IsUtf8 bs → NoCharP
 no_char_passes test bs utf8 (cs, is, none) =
     ap (list_all (λ c. not (test c))) (sym (chars_from_encodes cs bs utf8 is)) ∙ none_pass test cs none
 
-scalars-parts : (xs ys : List ℕ) → scalars (xs ++ ys) ≡ true → (scalars xs ≡ true) × (scalars ys ≡ true)
+pub scalars-parts : (xs ys : List ℕ) → scalars (xs ++ ys) ≡ true → (scalars xs ≡ true) × (scalars ys ≡ true)
 scalars-parts [] ys all = (refl, all)
 scalars-parts (c ∷ xs) ys all =
     let parts = and_parts (scalar c) (scalars (xs ++ ys)) all in

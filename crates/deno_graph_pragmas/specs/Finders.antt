@@ -89,9 +89,15 @@ deno_types_pattern = quoted_pragma (codes "@deno-types")
 abbrev pub quoteless_deno_types_pattern : Pattern
 quoteless_deno_types_pattern = quoteless_pragma (codes "@deno-types")
 
--- the patterns of the finders that capture a part
-abbrev pub finder_patterns : List Pattern
-finder_patterns =
-    path_reference_pattern ∷ types_reference_pattern ∷ resolution_mode_pattern ∷ jsx_import_source_pattern
-    ∷ jsx_import_source_types_pattern ∷ source_mapping_url_pattern ∷ ts_self_types_pattern
-    ∷ ts_types_pattern ∷ deno_types_pattern ∷ quoteless_deno_types_pattern ∷ []
+-- the pattern of each finder that captures a part has the property
+pub record EachFinder (P : Pattern → Type 0) : Type 0 where
+  pub path_reference : P path_reference_pattern
+  pub types_reference : P types_reference_pattern
+  pub resolution_mode : P resolution_mode_pattern
+  pub jsx_import_source : P jsx_import_source_pattern
+  pub jsx_import_source_types : P jsx_import_source_types_pattern
+  pub source_mapping_url : P source_mapping_url_pattern
+  pub ts_self_types : P ts_self_types_pattern
+  pub ts_types : P ts_types_pattern
+  pub deno_types : P deno_types_pattern
+  pub quoteless_deno_types : P quoteless_deno_types_pattern

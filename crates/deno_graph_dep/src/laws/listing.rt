@@ -2,7 +2,7 @@
 
 ghost use Rattle.std.specs.Prelude.{◌≡◌, ◌≢◌, ◌⊎◌, ◌↔◌, ◌++◌, List};
 ghost use Rattle.deno_graph_source.specs.declared.tree.node.Node.{Node};
-ghost use Rattle.deno_graph_dep.specs.DependencyNodes.{dependencies_below, dependencies_in, own_after, own_before};
+ghost use Rattle.deno_graph_dep.specs.DependencyNodes.{dependency_nodes_below, dependency_nodes_in, own_after, own_before};
 ghost use Rattle.deno_graph_dep.specs.DependencyRules.{children_to_visit};
 ghost use Rattle.deno_graph_dep.specs.Listing.{IsListing, Precedes, Rules};
 ghost use Rattle.deno_graph_source.specs.NodePath.{NodePath};
@@ -29,6 +29,6 @@ pub fn tree_order()
 /// Ensures that a dependency comes right before or right after the dependencies inside the node.
 pub fn own_nodes_and_inside()
     ensures { (node : Node)
-        → dependencies_in node
-        ≡ own_before node ++ dependencies_below (children_to_visit node) ++ own_after node }
+        → dependency_nodes_in node
+        ≡ own_before node ++ dependency_nodes_below (children_to_visit node) ++ own_after node }
 {}

@@ -2,15 +2,14 @@
 //! every text.
 
 ghost use Rattle.std.specs.Prelude.{◌⊎◌, ℕ, List};
-ghost use Rattle.std.specs.List.{AllByRecursion};
-ghost use Rattle.deno_graph_pragmas.specs.Finders.{attribute, finder_patterns, quoted_pragma};
+ghost use Rattle.deno_graph_pragmas.specs.Finders.{EachFinder, attribute, quoted_pragma};
 ghost use Rattle.deno_graph_pragmas.specs.Split.{HasOnePart, HasSplit, IsCaptured, Pattern, TextPart};
 ghost use Rattle.deno_graph_pragmas.specs.Split.{IsInQuotes, StartDetermines};
 
 /// The part that a finder returns is the only one, and the start of a split determines the part.
 pub fn captures_are_unique()
-    ensures starts { AllByRecursion StartDetermines finder_patterns }
-    ensures parts { AllByRecursion HasOnePart finder_patterns }
+    ensures starts { EachFinder StartDetermines }
+    ensures parts { EachFinder HasOnePart }
 {}
 
 /// Every text has a part that the pattern captures, or no split by the pattern.

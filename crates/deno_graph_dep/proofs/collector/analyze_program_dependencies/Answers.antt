@@ -9,7 +9,7 @@ use Rattle.deno_graph_dep.specs.declared.descriptor.DependencyDescriptor.{Depend
 use Rattle.deno_graph_dep.specs.DependencyRules.{is_dependency}
 use Rattle.deno_graph_dep.specs.Descriptor.{descriptor_seen}
 use Rattle.deno_graph_dep.specs.DescriptorOf.{IsDescriptorOf}
-use Rattle.deno_graph_dep.specs.Walk.{IsStep}
+use Rattle.deno_graph_dep.specs.Walk.{IsWalkStep}
 use Rattle.deno_graph_dep.proofs.Returned.{
   AreReturned,
   AreReturned-more,
@@ -26,7 +26,7 @@ pub descriptor_of-requires : goal.descriptor_of-requires
 descriptor_of-requires c =
     let new = c.step.new.self in
     let step =
-    subst (λ (o : Option (Bor Node)). IsStep c.nodes.walk new o) c.in-Some.is c.in_ok-node.ensures.step in
+    subst (λ (o : Option (Bor Node)). IsWalkStep c.nodes.walk new o) c.in-Some.is c.in_ok-node.ensures.step in
     step-shaped c.args.comments.now c.args.program.now c.new-walk.result c.nodes.walk new
     (map descriptor_seen c.nodes.descriptors.items) c.in-Some.node c.new-walk.ensures.program c.requires
     c.nodes.invariant step
@@ -38,7 +38,7 @@ nodes-preserved-in_default-2 c =
     let new = c.step.new.self in
     let node = c.in-Some.node in
     let step =
-    subst (λ (o : Option (Bor Node)). IsStep c.nodes.walk new o) c.in-Some.is c.in_ok-node.ensures.step in
+    subst (λ (o : Option (Bor Node)). IsWalkStep c.nodes.walk new o) c.in-Some.is c.in_ok-node.ensures.step in
     let none =
     subst (λ (o : Option DependencyDescriptor). MatchOption o (is_dependency node.now ≡ false)
     (λ d. IsDescriptorOf comments node.now (descriptor_seen d))) c.in_default-2.is
@@ -56,7 +56,7 @@ nodes-preserved c =
     let so_far = c.nodes.descriptors.items in
     let descriptor = c.in-Some-2.descriptor in
     let step =
-    subst (λ (o : Option (Bor Node)). IsStep c.nodes.walk new o) c.in-Some.is c.in_ok-node.ensures.step in
+    subst (λ (o : Option (Bor Node)). IsWalkStep c.nodes.walk new o) c.in-Some.is c.in_ok-node.ensures.step in
     let described =
     subst (λ (o : Option DependencyDescriptor). MatchOption o (is_dependency node.now ≡ false)
     (λ d. IsDescriptorOf comments node.now (descriptor_seen d))) c.in-Some-2.is
@@ -72,7 +72,7 @@ nodes-preserved c =
 pub returns-clause-listing : goal.returns-clause-listing
 returns-clause-listing c =
     let step =
-    subst (λ (o : Option (Bor Node)). IsStep c.nodes.walk c.step.new.self o) c.in_default.is
+    subst (λ (o : Option (Bor Node)). IsWalkStep c.nodes.walk c.step.new.self o) c.in_default.is
     c.in_ok-node.ensures.step in
     AreDependencies-given c.args.comments.now c.new-walk.result c.nodes.walk
     (map descriptor_seen c.nodes.descriptors.items) c.args.program.now
@@ -81,7 +81,7 @@ returns-clause-listing c =
 pub returns-clause-recursive : goal.returns-clause-recursive
 returns-clause-recursive c =
     let step =
-    subst (λ (o : Option (Bor Node)). IsStep c.nodes.walk c.step.new.self o) c.in_default.is
+    subst (λ (o : Option (Bor Node)). IsWalkStep c.nodes.walk c.step.new.self o) c.in_default.is
     c.in_ok-node.ensures.step in
     AreDescriptorsOf-given c.args.comments.now c.new-walk.result c.nodes.walk
     (map descriptor_seen c.nodes.descriptors.items) c.args.program.now
@@ -90,7 +90,7 @@ returns-clause-recursive c =
 pub returns-clause-spells : goal.returns-clause-spells
 returns-clause-spells c =
     let step =
-    subst (λ (o : Option (Bor Node)). IsStep c.nodes.walk c.step.new.self o) c.in_default.is
+    subst (λ (o : Option (Bor Node)). IsWalkStep c.nodes.walk c.step.new.self o) c.in_default.is
     c.in_ok-node.ensures.step in
     dependencies_spell c.args.comments.now c.args.program.now (map descriptor_seen c.nodes.descriptors.items)
     c.requires

@@ -5,10 +5,10 @@ use Rattle.deno_graph_info.proofs.conversion.dependency.column_overflows.Goals a
 
 pub returns-in-Ok : goal.returns-in-Ok
 returns-in-Ok c =
-    let parts = c.captures_are_unique.ensures.parts.1.1.1.1.1.1.1.1 in
+    let parts = c.captures_are_unique.ensures.parts in
     let d = data_of c.args.dependency in
     let read = sym c.in_ok-comments.ensures ∙ c.in-Some.is in (
       λ overflows. absurd (cc),
-      λ overflows. absurd (typed_fits parts.0 parts.1.0 d c.in-Some.comments c.in-Ok._types read
-          c.in-Ok.ensures.ok overflows),
+      λ overflows. absurd (typed_fits parts.deno_types parts.quoteless_deno_types d c.in-Some.comments
+          c.in-Ok._types read c.in-Ok.ensures.ok overflows),
     )

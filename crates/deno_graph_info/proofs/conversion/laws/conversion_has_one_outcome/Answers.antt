@@ -7,10 +7,10 @@ returns-clause-some c = some_converted
 
 pub returns-clause-one : goal.returns-clause-one
 returns-clause-one c =
-    let parts = c.captures_are_unique.ensures.parts.1.1.1.1.1.1.1.1 in
-    converted_once parts.0 parts.1.0
+    let parts = c.captures_are_unique.ensures.parts in
+    converted_once parts.deno_types parts.quoteless_deno_types
 
 pub returns-clause-none : goal.returns-clause-none
 returns-clause-none c =
-    let parts = c.captures_are_unique.ensures.parts.1.1.1.1.1.1.1.1 in
-    converted_or_overflows parts.0 parts.1.0
+    let parts = c.captures_are_unique.ensures.parts in
+    converted_or_overflows parts.deno_types parts.quoteless_deno_types

@@ -1,8 +1,7 @@
 use Rattle.std.proofs.Common.{refl, sym}
 use Rattle.deno_graph_pragmas.specs.Finders.{jsx_pragma}
-use Rattle.deno_graph_pragmas.proofs.Captured.{found_slice}
 use Rattle.deno_graph_pragmas.proofs.Barriers.{jsx_pragma_apart}
-use Rattle.deno_graph_pragmas.proofs.Found.{no_front, finds_none, length_left, found_after, none_after}
+use Rattle.deno_graph_pragmas.proofs.Found.{no_front, finds_none, finds_after, length_left}
 use Rattle.deno_graph_pragmas.proofs.finders.jsx.find_jsx_pragma.Goals as goal
 
 pub returns-in_err-value : goal.returns-in_err-value
@@ -20,13 +19,5 @@ pub returns : goal.returns
 returns c =
     let value = c.in_ok-value.ensures in
     let run = c.capture_run.ensures in
-    let found = found_after (jsx_pragma c.args.name.now) _ _ _ c.utf8.text value.utf8
-    (sym value.left) run.found in
-    record {
-      found = found;
-      none =
-          none_after (jsx_pragma c.args.name.now) _ _ _ c.utf8.text value.utf8
-          (jsx_pragma_apart c.args.name.now c.requires.start) refl
-          (sym value.left) run.found run.none;
-      slice = found_slice (jsx_pragma c.args.name.now) _ _ c.utf8.text found;
-    }
+    finds_after (jsx_pragma c.args.name.now) _ _ _ c.utf8.text value.utf8
+    (jsx_pragma_apart c.args.name.now c.requires.start) refl (sym value.left) run.found run.none

@@ -1,8 +1,7 @@
 use Rattle.std.proofs.Common.{refl, sym}
 use Rattle.deno_graph_pragmas.specs.Finders.{source_mapping_url_pattern}
-use Rattle.deno_graph_pragmas.proofs.Captured.{found_slice}
 use Rattle.deno_graph_pragmas.proofs.Barriers.{source_mapping_url_apart}
-use Rattle.deno_graph_pragmas.proofs.Found.{no_front, finds_none, length_left, found_after, none_after}
+use Rattle.deno_graph_pragmas.proofs.Found.{no_front, finds_none, finds_after, length_left}
 use Rattle.deno_graph_pragmas.proofs.finders.source_map.find_source_mapping_url.Goals as goal
 
 pub returns-in_err-value : goal.returns-in_err-value
@@ -19,12 +18,5 @@ pub returns : goal.returns
 returns c =
     let value = c.in_ok-value.ensures in
     let run = c.capture_run.ensures in
-    let found = found_after source_mapping_url_pattern _ _ _ c.utf8.text value.utf8
-    (sym value.left) run.found in
-    record {
-      found = found;
-      none =
-          none_after source_mapping_url_pattern _ _ _ c.utf8.text value.utf8 source_mapping_url_apart refl
-          (sym value.left) run.found run.none;
-      slice = found_slice source_mapping_url_pattern _ _ c.utf8.text found;
-    }
+    finds_after source_mapping_url_pattern _ _ _ c.utf8.text value.utf8
+    source_mapping_url_apart refl (sym value.left) run.found run.none
