@@ -64,7 +64,7 @@ Ascend-put k d no_members h = (tt, tt)
 Ascend-put k d (member l e ms) h =
     Ascend-at (slice_cmp nat_cmp k l) k l d e ms refl h (Ascend-put k d ms h.1)
 
-Ascend-put_members : (ms : flat.Members) (found : Members) → Ascend found → Ascend (put_members ms found)
+Ascend-put_members : (ms : flat.ValueMembers) (found : Members) → Ascend found → Ascend (put_members ms found)
 unfolding value_data
 Ascend-put_members flat.no_members found h = h
 Ascend-put_members (flat.member k v ms) found h =

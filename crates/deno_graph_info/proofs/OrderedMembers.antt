@@ -85,7 +85,7 @@ module _ (last : Option (Bor (List ℕ))) (passed : Members) (k : List ℕ) (d :
       ap (λ ms. followed_by ms rest) (put_last k d passed (below_all last passed k is test))
       ∙ followed_by-twice passed (member k d no_members) rest
 
-pub listed_next : (k : List ℕ) (e : Element) (old left : flat.Members) → old ≡ flat.member k (value_of e) left
-    → listed old ≡ member k (data_of e) (listed left)
+pub listed_next : (k : List ℕ) (e : Element) (old left : flat.ValueMembers)
+    → old ≡ flat.member k (value_of e) left → listed old ≡ member k (data_of e) (listed left)
 unfolding data_of
 listed_next k e old left is = ap listed is

@@ -5,7 +5,7 @@ use Rattle.serde_json.specs.Data.{Data, Items, no_items, item, depth, items_dept
 use Rattle.serde_json.specs.Find.{get_item}
 use Rattle.deno_graph_json.specs.Data.{data_of, elements_data, items_data}
 use Rattle.serde_json.specs.Events.{items_len}
-use Rattle.deno_graph_json.specs.Value.{Value}
+use Rattle.deno_graph_json.specs.Value.{Value, ValueItems}
 use Rattle.deno_graph_json.specs.Value as flat
 use Rattle.deno_graph_json.specs.View.{count_of, items_left, items_with}
 use Rattle.deno_graph_json.specs.declared.flat.Element.{Element}
@@ -30,7 +30,7 @@ unfolding items_left
 count_next old new element is =
     old.is_counted ∙ ap flat.item_count is ∙ ap (λ n. n + 1) (sym new.is_counted)
 
-same_length : (vs : flat.Items) → flat.item_count vs ≡ items_len (items_data vs)
+same_length : (vs : ValueItems) → flat.item_count vs ≡ items_len (items_data vs)
 unfolding items_data
 same_length flat.no_items = refl
 same_length (flat.item v vs) = omega (arith, same_length vs)

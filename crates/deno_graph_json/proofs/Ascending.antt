@@ -30,16 +30,13 @@ use Rattle.serde_json.specs.Data.{Data, Members, no_members, member}
 use Rattle.deno_graph_base.specs.TextMap.{IsAscending}
 use Rattle.deno_graph_json.specs.Ascending.{is_below, has_ascending_keys}
 use Rattle.deno_graph_json.specs.Object.{Entry, put_present, put_entries}
+use Rattle.deno_graph_json.proofs.Objects.{and_right}
 
 -- ---- the test of entries
 
 and_left : (a b : Bool) → a && b ≡ true → a ≡ true
 and_left true b h = refl
 and_left false b h = h
-
-and_right : (a b : Bool) → a && b ≡ true → b ≡ true
-and_right true b h = h
-and_right false b h = absurd (true≢false (sym h))
 
 less : (o : Ordering) → is_lt o ≡ true → o ≡ Less
 less Less h = refl

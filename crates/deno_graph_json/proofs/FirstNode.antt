@@ -5,14 +5,14 @@ use Rattle.serde_json.specs.Data.{Num}
 use Rattle.deno_graph_json.specs.Data.{data_of, value_data, view_data, elements_data, members_data}
 use Rattle.deno_graph_json.specs.Flat.{PlainNode, plain, IsFlatText}
 use Rattle.deno_graph_json.specs.Flat as flat
-use Rattle.deno_graph_json.specs.Value.{Value, null, boolean, number, string, array, object, Items, Members}
-use Rattle.deno_graph_json.specs.Value.{no_items, item}
+use Rattle.deno_graph_json.specs.Value.{Value, null, boolean, number, string, array, object}
+use Rattle.deno_graph_json.specs.Value.{ValueItems, no_items, item, ValueMembers}
 use Rattle.deno_graph_json.specs.Value.{item_count, flat_value, flat_items, flat_members, value_within}
 use Rattle.deno_graph_json.specs.Value.{value_in, items_in, members_in, AreOfValue, AreOfItems, AreOfMembers}
 use Rattle.deno_graph_json.specs.Value.{plain_value}
 use Rattle.deno_graph_json.specs.View.{value_of, view_value, IsValueOf}
 use Rattle.deno_graph_json.specs.declared.flat.Element.{Element}
-use Rattle.deno_graph_json.specs.declared.flat.Node.{Node}
+use Rattle.deno_graph_json.specs.declared.flat.FlatNode.{FlatNode}
 use Rattle.deno_graph_json.specs.declared.flat.view.View.{View}
 use Rattle.deno_graph_json.specs.declared.flat.view.View.TheVariants as view
 use Rattle.deno_graph_json.proofs.Values.{plain_listed, is_value, is_items, is_members, of_value, of_items}
@@ -46,7 +46,7 @@ module _ (ns : List PlainNode) where
   key_first s = step (flat.key s)
 
 array_at : (v : Value) (count size : ℕ) (ns : List PlainNode) → flat_value v ≡ flat.array count size ∷ ns
-    → (vs : Items) × (v ≡ array vs) × (ns ≡ flat_items vs) × (count ≡ item_count vs)
+    → (vs : ValueItems) × (v ≡ array vs) × (ns ≡ flat_items vs) × (count ≡ item_count vs)
 unfolding flat_value
 array_at null count size ns e = absurd (cc)
 array_at (boolean b) count size ns e = absurd (cc)
@@ -56,7 +56,7 @@ array_at (array vs) count size ns e = (vs, refl, cc, cc)
 array_at (object ms) count size ns e = absurd (cc)
 
 object_at : (v : Value) (size : ℕ) (ns : List PlainNode) → flat_value v ≡ flat.object size ∷ ns
-    → (ms : Members) × (v ≡ object ms) × (ns ≡ flat_members ms)
+    → (ms : ValueMembers) × (v ≡ object ms) × (ns ≡ flat_members ms)
 unfolding flat_value
 object_at null size ns e = absurd (cc)
 object_at (boolean b) size ns e = absurd (cc)
@@ -65,7 +65,7 @@ object_at (string s) size ns e = absurd (cc)
 object_at (array vs) size ns e = absurd (cc)
 object_at (object ms) size ns e = (ms, refl, cc)
 
-few_items : (vs : Items) → item_count vs ≤ length (flat_items vs)
+few_items : (vs : ValueItems) → item_count vs ≤ length (flat_items vs)
 unfolding flat_value
 few_items no_items = omega arith
 few_items (item v vs) =
@@ -73,7 +73,8 @@ few_items (item v vs) =
 
 module _ (nodes ns : List PlainNode) (of : AreOfValue nodes) where
   module _ (count size : ℕ) (is : nodes ≡ flat.array count size ∷ ns) where
-    has_items : (vs : Items) × (value_in nodes ≡ array vs) × (ns ≡ flat_items vs) × (count ≡ item_count vs)
+    has_items : (vs : ValueItems) × (value_in nodes ≡ array vs) × (ns ≡ flat_items vs)
+        × (count ≡ item_count vs)
     has_items = array_at (value_in nodes) count size ns (of ∙ is)
 
     pub items_inside : AreOfItems ns
@@ -89,7 +90,7 @@ module _ (nodes ns : List PlainNode) (of : AreOfValue nodes) where
     counted_nodes = let has = has_items in omega (arith, has.3, few_items has.0, ap length has.2)
 
   module _ (size : ℕ) (is : nodes ≡ flat.object size ∷ ns) where
-    has_members : (ms : Members) × (value_in nodes ≡ object ms) × (ns ≡ flat_members ms)
+    has_members : (ms : ValueMembers) × (value_in nodes ≡ object ms) × (ns ≡ flat_members ms)
     has_members = object_at (value_in nodes) size ns (of ∙ is)
 
     pub members_inside : AreOfMembers ns
@@ -112,7 +113,7 @@ view_as_data (view.Array elements) = refl
 view_as_data (view.Object members) = refl
 
 -- the nodes of an element, by the parts that `split_first` finds
-pub nodes_are : (e : Element) (node found : Node) (rest : List Node) → e.nodes.now ≡ node ∷ rest
+pub nodes_are : (e : Element) (node found : FlatNode) (rest : List FlatNode) → e.nodes.now ≡ node ∷ rest
     → node ≡ found → map plain e.nodes.now ≡ plain found ∷ map plain rest
 nodes_are e node found rest is same = ap (map plain) (is ∙ ap (λ n. n ∷ rest) same)
 
@@ -127,7 +128,7 @@ seen e v is = ap value_data is ∙ view_as_data v
 
 -- ---- the whole text
 
-module _ (text : List ℕ) (nodes : List Node) (is : IsFlatText text nodes) where
+module _ (text : List ℕ) (nodes : List FlatNode) (is : IsFlatText text nodes) where
   pub text_listed : AreOfValue (map plain nodes)
   text_listed = of_value (map plain nodes) (plain_value is.0) (is.2 ∙ sym (plain_listed is.0))
 

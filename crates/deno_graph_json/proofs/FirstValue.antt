@@ -5,18 +5,18 @@ use Rattle.std.proofs.lemmas.List.{take_at, length-map, map-append}
 use Rattle.std.specs.Borrow.{Bor}
 use Rattle.deno_graph_json.specs.Flat.{PlainNode, plain}
 use Rattle.deno_graph_json.specs.Flat as flat
-use Rattle.deno_graph_json.specs.Value.{Value, null, boolean, number, string, array, object, Items}
-use Rattle.deno_graph_json.specs.Value.{no_items, item, Members, no_members, member, item_count, flat_value}
-use Rattle.deno_graph_json.specs.Value.{flat_items, flat_members, plain_inside, value_in, items_in}
-use Rattle.deno_graph_json.specs.Value.{members_in}
+use Rattle.deno_graph_json.specs.Value.{Value, null, boolean, number, string, array, object}
+use Rattle.deno_graph_json.specs.Value.{ValueItems, no_items, item, ValueMembers, no_members, member}
+use Rattle.deno_graph_json.specs.Value.{item_count, flat_value, flat_items, flat_members, plain_inside}
+use Rattle.deno_graph_json.specs.Value.{value_in, items_in, members_in}
 use Rattle.deno_graph_json.specs.Value.{AreOfValue, AreOfItems, AreOfMembers, value_within}
 use Rattle.deno_graph_json.specs.internal.Nodes.{BeginsValue}
 use Rattle.deno_graph_json.specs.View.{items_left, items_with, members_of, members_with}
 use Rattle.deno_graph_json.specs.declared.flat.Element.{Element}
 use Rattle.deno_graph_json.specs.declared.flat.Elements.{Elements}
 use Rattle.deno_graph_json.specs.declared.flat.Members.{Members as ElementMembers}
-use Rattle.deno_graph_json.specs.declared.flat.Node.{Node}
-use Rattle.deno_graph_json.specs.declared.flat.Node.TheVariants.{
+use Rattle.deno_graph_json.specs.declared.flat.FlatNode.{FlatNode}
+use Rattle.deno_graph_json.specs.declared.flat.FlatNode.TheVariants.{
   Null,
   Bool as TheBool,
   Whole,
@@ -46,8 +46,8 @@ front_length (array vs) r n ns e =
 front_length (object ms) r n ns e = let same : n ≡ flat.object (length (flat_members ms)) = cc in omega
     (arith, ap plain_inside same)
 
-module _ (nodes : List Node) (node : Node) (ns : List PlainNode) (is : map plain nodes ≡ plain node ∷ ns)
-    (begins : BeginsValue (map plain nodes)) where
+module _ (nodes : List FlatNode) (node : FlatNode) (ns : List PlainNode)
+    (is : map plain nodes ≡ plain node ∷ ns) (begins : BeginsValue (map plain nodes)) where
   first : (v : Value) × (r : List PlainNode) × (map plain nodes ≡ flat_value v ++ r)
   first = begins (omega (arith, ap length is))
 
@@ -66,7 +66,7 @@ module _ (nodes : List Node) (node : Node) (ns : List PlainNode) (is : map plain
       )
 
   -- `own` are as many nodes as the first one counts
-  module _ (own rest : List Node) (whole : nodes ≡ own ++ rest)
+  module _ (own rest : List FlatNode) (whole : nodes ≡ own ++ rest)
       (long : length own ≡ plain_inside (plain node) + 1) where
     parts : map plain nodes ≡ map plain own ++ map plain rest
     parts = ap (map plain) whole ∙ map-append plain own rest
@@ -85,7 +85,7 @@ module _ (nodes : List Node) (node : Node) (ns : List PlainNode) (is : map plain
 
 -- ---- the first item
 
-begins : (vs : Items) (ns : List PlainNode) → flat_items vs ≡ ns → BeginsValue ns
+begins : (vs : ValueItems) (ns : List PlainNode) → flat_items vs ≡ ns → BeginsValue ns
 unfolding flat_value
 begins no_items ns is = λ some. absurd (omega (arith, ap length is))
 begins (item v vs) ns is = λ some. (v, flat_items vs, sym is)
@@ -94,8 +94,8 @@ pub begins_item : (ns : List PlainNode) → AreOfItems ns → BeginsValue ns
 begins_item ns of = begins (items_in ns) ns of
 
 module _ (w : Value) (ns rest : List PlainNode) (is : ns ≡ flat_value w ++ rest) where
-  item_passed : (vs : Items) → flat_items vs ≡ ns
-      → (more : Items) × (vs ≡ item w more) × (rest ≡ flat_items more)
+  item_passed : (vs : ValueItems) → flat_items vs ≡ ns
+      → (more : ValueItems) × (vs ≡ item w more) × (rest ≡ flat_items more)
   unfolding flat_value
   item_passed no_items of = absurd
       (omega (arith, ap length (of ∙ is), length-append (flat_value w) rest, some_value w))
@@ -112,7 +112,7 @@ module _ (w : Value) (ns rest : List PlainNode) (is : ns ≡ flat_value w ++ res
 
 -- ---- the first member
 
-is_name : (node : Node) (k : List ℕ) → plain node ≡ flat.key k → (name : Bor (List ℕ)) × (node ≡ Key name)
+is_name : (node : FlatNode) (k : List ℕ) → plain node ≡ flat.key k → (name : Bor (List ℕ)) × (node ≡ Key name)
 is_name Null k e = absurd (cc)
 is_name (TheBool b) k e = absurd (cc)
 is_name (Whole n) k e = absurd (cc)
@@ -123,8 +123,8 @@ is_name (Key s) k e = (s, refl)
 is_name (Array count nodes) k e = absurd (cc)
 is_name (Object nodes) k e = absurd (cc)
 
-module _ (node : Node) (ns : List PlainNode) where
-  named : (ms : Members) → flat_members ms ≡ plain node ∷ ns
+module _ (node : FlatNode) (ns : List PlainNode) where
+  named : (ms : ValueMembers) → flat_members ms ≡ plain node ∷ ns
       → (k : List ℕ) × (plain node ≡ flat.key k)
       × (v : Value) × (r : List PlainNode) × (ns ≡ flat_value v ++ r)
   unfolding flat_value
@@ -146,8 +146,8 @@ module _ (node : Node) (ns : List PlainNode) where
 
 module _ (name : List ℕ) (w : Value) (ns rest : List PlainNode) (is : ns ≡ flat_value w ++ rest)
     (of : AreOfMembers (flat.key name ∷ ns)) where
-  passed : (ms : Members) → flat_members ms ≡ flat.key name ∷ ns
-      → (more : Members) × (ms ≡ member name w more) × (rest ≡ flat_members more)
+  passed : (ms : ValueMembers) → flat_members ms ≡ flat.key name ∷ ns
+      → (more : ValueMembers) × (ms ≡ member name w more) × (rest ≡ flat_members more)
   unfolding flat_value
   passed no_members e = absurd (cc)
   passed (member k v ms) e =

@@ -9,18 +9,18 @@ use Rattle.deno_graph_json.specs.declared.error.ReadError.{ReadError}
 use Rattle.deno_graph_json.specs.declared.error.ReadError.TheVariants.{Mismatch, OutOfMemory}
 
 -- whether there is a float, by the result of `find_float`
-pub none_of : (b : Bool) → unless_float b ≡ Some tt → b ≡ false
-none_of true is = absurd (none-some _ is)
-none_of false is = refl
+pub no_float_found : (b : Bool) → unless_float b ≡ Some tt → b ≡ false
+no_float_found true is = absurd (none-some _ is)
+no_float_found false is = refl
 
-float_of : (b : Bool) → unless_float b ≡ None → b ≡ true
-float_of true is = refl
-float_of false is = absurd (none-some _ (sym is))
+pub float_found : (b : Bool) → unless_float b ≡ None → b ≡ true
+float_found true is = refl
+float_found false is = absurd (none-some _ (sym is))
 
 -- an error in a value with a float is an error in the value around it
 pub float_error : (value : Data) (here all : Bool) (error : ReadError) → (here ≡ true → all ≡ true)
     → IsReadError value (unless_float here) error → IsReadError value (unless_float all) error
-float_error value here all (Mismatch found) among h = (ap unless_float (among (float_of here h.0)), h.1)
+float_error value here all (Mismatch found) among h = (ap unless_float (among (float_found here h.0)), h.1)
 float_error value here all OutOfMemory among h = tt
 
 -- the items or members that are left have a float if all have one

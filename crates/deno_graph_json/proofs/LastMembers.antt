@@ -11,19 +11,20 @@ use Rattle.serde_json.specs.Data.{Members, member, put}
 use Rattle.serde_json.specs.Find.{get_member}
 use Rattle.serde_json.proofs.Views.{get_member-put, get_member-put_other}
 use Rattle.deno_graph_json.specs.Data.{value_data, put_members, data_of, named_data}
+use Rattle.deno_graph_json.specs.Value.{ValueMembers}
 use Rattle.deno_graph_json.specs.Value as flat
 use Rattle.deno_graph_json.specs.View.{value_of}
 use Rattle.deno_graph_json.specs.declared.flat.Element.{Element}
 
 -- the next member is put
-pub pass : (k : List ℕ) (e : Element) (old left : flat.Members) (passed all : Members)
+pub pass : (k : List ℕ) (e : Element) (old left : ValueMembers) (passed all : Members)
     → old ≡ flat.member k (value_of e) left → put_members old passed ≡ all
     → put_members left (put k (data_of e) passed) ≡ all
 unfolding value_data data_of
 pass k e old left passed all is so_far = sym (ap (λ ms. put_members ms passed) is) ∙ so_far
 
 -- no member is left
-pub all_passed : (left : flat.Members) (passed all : Members) → left ≡ flat.no_members
+pub all_passed : (left : ValueMembers) (passed all : Members) → left ≡ flat.no_members
     → put_members left passed ≡ all → passed ≡ all
 unfolding value_data
 all_passed left passed all none so_far = sym (ap (λ ms. put_members ms passed) none) ∙ so_far

@@ -14,11 +14,11 @@ use Rattle.json.specs.declared.token.Token.{Token as Read}
 use Rattle.json.specs.declared.token.Token.TheVariants.{BeginObject, EndObject, BeginArray, EndArray, Key}
 use Rattle.json.specs.declared.token.Token.TheVariants.{String, Number, Bool, Null, Bad}
 use Rattle.deno_graph_json.specs.Flat.{PlainNode, plain, flat_list}
-use Rattle.deno_graph_json.specs.declared.flat.Node.{Node}
+use Rattle.deno_graph_json.specs.declared.flat.FlatNode.{FlatNode}
 
-module _ (old now : List Node) (hole : PlainNode) (inside : List PlainNode)
+module _ (old now : List FlatNode) (hole : PlainNode) (inside : List PlainNode)
     (has : map plain now ≡ map plain old ++ hole ∷ inside) where
-  pub filled : (at : ℕ) (n : Node) → at ≡ length old
+  pub filled : (at : ℕ) (n : FlatNode) → at ≡ length old
       → map plain (slice_set now at n) ≡ map plain old ++ plain n ∷ inside
   filled at n is =
       let place : at ≡ length (map plain old) = is ∙ sym (length-map old plain) in
@@ -36,11 +36,11 @@ module _ (old now : List Node) (hole : PlainNode) (inside : List PlainNode)
         length-append (map plain old) (hole ∷ inside),
       )
 
-  pub has_more : (next : List Node) (j : List PlainNode) → map plain next ≡ map plain now ++ j
+  pub has_more : (next : List FlatNode) (j : List PlainNode) → map plain next ≡ map plain now ++ j
       → map plain next ≡ map plain old ++ hole ∷ (inside ++ j)
   has_more next j more = more ∙ ap (λ l. l ++ j) has ∙ append_assoc (map plain old) (hole ∷ inside) j
 
-pub begun : (old now : List Node) (n : Node) → now ≡ old ++ n ∷ []
+pub begun : (old now : List FlatNode) (n : FlatNode) → now ≡ old ++ n ∷ []
     → map plain now ≡ map plain old ++ plain n ∷ []
 begun old now n is = ap (map plain) is ∙ map-append plain old (n ∷ [])
 

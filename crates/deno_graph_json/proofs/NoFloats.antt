@@ -64,8 +64,8 @@ no_float-at k l d e ms rest Less none here later put_later = neither _ _ none (n
 no_float-at k l d e ms rest Equal none here later put_later = neither _ _ none later
 no_float-at k l d e ms rest Greater none here later put_later = neither _ _ here put_later
 
-no_float-put : (k : List ℕ) (d : Data) (ms : Members) → has_float d ≡ false → members_have_float ms ≡ false
-    → members_have_float (put k d ms) ≡ false
+pub no_float-put : (k : List ℕ) (d : Data) (ms : Members) → has_float d ≡ false
+    → members_have_float ms ≡ false → members_have_float (put k d ms) ≡ false
 no_float-put k d no_members none h = neither _ _ none refl
 no_float-put k d (member l e ms) none h =
     let later = others_none (has_float e) (members_have_float ms) h in

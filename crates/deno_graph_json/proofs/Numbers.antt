@@ -1,16 +1,14 @@
 -- The number that a text of decimal digits writes.
-use Rattle.std.proofs.Common.{◌≡◌, ℕ, ◌^◌, ◌<◌, List, [], ◌∷◌, ◌++◌, length, get_or, true, false, Some, None}
-use Rattle.std.proofs.Common.{Option, Err, IfOk, refl, sym, ap, ◌∙◌, arith, append-nil, lt-ltb, ne_eqb}
-use Rattle.std.specs.Prelude.{IsTrue, OnOk, is_some, option_map}
-use Rattle.std.specs.Option.{ok_or}
+use Rattle.std.proofs.Common.{◌≡◌, ℕ, ◌^◌, ◌<◌, List, [], ◌∷◌, ◌++◌, length, get_or, true, false, Some}
+use Rattle.std.proofs.Common.{refl, sym, ap, ◌∙◌, arith, append-nil, lt-ltb, ne_eqb}
+use Rattle.std.specs.Prelude.{IsTrue}
 use Rattle.std.specs.Char.{digit_value}
 use Rattle.std.specs.Str.Parse.{AllDigits, IsNumeral, digits_value}
 use Rattle.fast_float.specs.Text.{Parts, digits_of, IsWellFormed}
 use Rattle.fast_float.proofs.Writing.{scan-text_of}
 use Rattle.serde_json.specs.Data.{Num, unsigned}
 use Rattle.serde_json.specs.Read.{number_of, number_from, is_integer}
-use Rattle.deno_graph_json.specs.Flat.{plain, number, number_node, number_fits}
-use Rattle.deno_graph_json.specs.declared.flat.Node.{Node}
+use Rattle.deno_graph_json.specs.Flat.{number, number_node, number_fits}
 
 no_minus : (text : List ℕ) → AllDigits 10 text → 0 < length text → get_or text 0 0 ≡ 45 → ⊥
 no_minus [] digits some e = omega arith
@@ -62,36 +60,3 @@ read_node text x e = rw e refl
 
 pub read_fits : (text : List ℕ) (x : Num) → number_of text ≡ Some x → IsTrue (number_fits text)
 read_fits text x e = rw e refl
-
--- ---- the result of a parser
-
-some_parsed : (node : Node) (o : Option Num) → Some (plain node) ≡ option_map number o
-    → (x : Num) × (o ≡ Some x) × (plain node ≡ number x)
-some_parsed node None e = absurd (cc)
-some_parsed node (Some x) e = (x, refl, cc)
-
-none_parsed : (o : Option Num) → None ≡ option_map number o → is_some o ≡ false
-none_parsed None e = refl
-none_parsed (Some x) e = absurd (cc)
-
-abbrev pub IsParsed : List ℕ → Option Node → Type 0
-IsParsed text r = option_map plain r ≡ option_map number (number_of text)
-
-module _ {E : Type 0} (text : List ℕ) (error : E) where
-  pub node_parsed : (r : Option Node) → IsParsed text r
-      → IfOk (ok_or r error) (λ node. plain node ≡ number_node text)
-  node_parsed None e = tt
-  node_parsed (Some node) e =
-      let found = some_parsed node (number_of text) e in
-      found.2 ∙ read_node text found.0 found.1
-
-  pub fits_parsed : (r : Option Node) → IsParsed text r → OnOk (ok_or r error) (IsTrue (number_fits text))
-  fits_parsed None e = tt
-  fits_parsed (Some node) e =
-      let found = some_parsed node (number_of text) e in
-      read_fits text found.0 found.1
-
-  pub large_parsed : (r : Option Node) → IsParsed text r → ok_or r error ≡ Err error
-      → number_fits text ≡ false
-  large_parsed None e stopped = none_parsed (number_of text) e
-  large_parsed (Some node) e stopped = absurd (cc)

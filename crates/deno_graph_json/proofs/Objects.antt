@@ -28,6 +28,7 @@ use Rattle.serde_json.specs.Data.{Data, Members}
 use Rattle.serde_json.specs.Find.{get_member}
 use Rattle.serde_json.proofs.Views.{get_member-put, get_member-put_other}
 use Rattle.deno_graph_json.specs.Object.{Entry, put_present, put_entries}
+use Rattle.deno_graph_json.proofs.NoFloats.{first_none, others_none}
 
 -- ---- entries
 
@@ -51,19 +52,11 @@ entry_at k (e ∷ es) = if bytes_eq k e.0 then e.1 else entry_at k es
 apart : (k l : List ℕ) → bytes_eq k l ≡ false → k ≡ l → ⊥
 apart k l differ same = true≢false (sym ((bytes_eq-Decides k l).1 same) ∙ differ)
 
-or_left : (a b : Bool) → a || b ≡ false → a ≡ false
-or_left true b h = h
-or_left false b h = refl
-
-or_right : (a b : Bool) → a || b ≡ false → b ≡ false
-or_right true b h = absurd (true≢false h)
-or_right false b h = h
-
 and_left : (a b : Bool) → not a && b ≡ true → a ≡ false
 and_left true b h = sym h
 and_left false b h = refl
 
-and_right : (a b : Bool) → a && b ≡ true → b ≡ true
+pub and_right : (a b : Bool) → a && b ≡ true → b ≡ true
 and_right true b h = h
 and_right false b h = absurd (true≢false (sym h))
 
@@ -78,8 +71,8 @@ absent_stays : (k : List ℕ) (es : List Entry) (ms : Members) → has_key k es 
     → get_member k (put_entries es ms) ≡ get_member k ms
 absent_stays k [] ms absent = refl
 absent_stays k (e ∷ es) ms absent =
-    absent_stays k es (put_present e.0 e.1 ms) (or_right _ _ absent)
-    ∙ other_stays k e.0 e.1 ms (or_left _ _ absent)
+    absent_stays k es (put_present e.0 e.1 ms) (others_none _ _ absent)
+    ∙ other_stays k e.0 e.1 ms (first_none _ _ absent)
 
 -- a key that had no value has the value that was put there, if there was one
 present_found : (k : List ℕ) (o : Option Data) (ms : Members) → get_member k ms ≡ None

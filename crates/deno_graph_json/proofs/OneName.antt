@@ -11,6 +11,7 @@ use Rattle.std.specs.Ordering.{is_eq, match_ordering}
 use Rattle.serde_json.specs.Data.{Data, Members, no_members, member, put}
 use Rattle.serde_json.specs.Events.{members_len}
 use Rattle.deno_graph_json.specs.Data.{put_members, value_data}
+use Rattle.deno_graph_json.specs.Value.{ValueMembers}
 use Rattle.deno_graph_json.specs.Value as flat
 
 -- none was passed, or all of this name
@@ -37,7 +38,7 @@ longer : (k : List ℕ) (d : Data) (ms : Members) → members_len ms ≤ members
 longer k d no_members = omega arith
 longer k d (member l e ms) = longer_at (slice_cmp nat_cmp k l) k l d e ms (longer k d ms)
 
-all_longer : (ms : flat.Members) (found : Members) → members_len found ≤ members_len (put_members ms found)
+all_longer : (ms : ValueMembers) (found : Members) → members_len found ≤ members_len (put_members ms found)
 unfolding value_data
 all_longer flat.no_members found = omega arith
 all_longer (flat.member k v ms) found =
@@ -54,7 +55,7 @@ two_at Equal k l d e is other =
 two_at Greater k l d e is other = omega arith
 
 -- after a member of another name there are two or more
-pub two_names : (k l : List ℕ) (d e : Data) (ms : flat.Members) (all : Members) → (l ≡ k → ⊥)
+pub two_names : (k l : List ℕ) (d e : Data) (ms : ValueMembers) (all : Members) → (l ≡ k → ⊥)
     → put_members ms (put k d (member l e no_members)) ≡ all → false ≡ (members_len all == 1)
 two_names k l d e ms all other is =
     let two = two_at (slice_cmp nat_cmp k l) k l d e refl other in

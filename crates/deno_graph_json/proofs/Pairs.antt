@@ -9,14 +9,13 @@ use Rattle.deno_graph_json.specs.Data.{data_of, elements_data, items_data, value
 use Rattle.deno_graph_json.specs.Flat.{plain}
 use Rattle.deno_graph_json.specs.Flat as flat
 use Rattle.deno_graph_json.specs.Read.Partial.{◌>>=◌, as_usize, reads_pair, two_items}
-use Rattle.deno_graph_json.specs.Value.{Value, null, boolean, number, string, array, object, Items, no_items}
-use Rattle.deno_graph_json.specs.Value.{item}
-use Rattle.deno_graph_json.specs.Value.{flat_items}
+use Rattle.deno_graph_json.specs.Value.{Value, null, boolean, number, string, array, object}
+use Rattle.deno_graph_json.specs.Value.{ValueItems, no_items, item, flat_items}
 use Rattle.deno_graph_json.specs.View.{items_left}
 use Rattle.deno_graph_json.specs.declared.flat.Element.{Element}
 use Rattle.deno_graph_json.specs.declared.flat.Elements.{Elements}
-use Rattle.deno_graph_json.specs.declared.flat.Node.{Node}
-use Rattle.deno_graph_json.specs.declared.flat.Node.TheVariants.{
+use Rattle.deno_graph_json.specs.declared.flat.FlatNode.{FlatNode}
+use Rattle.deno_graph_json.specs.declared.flat.FlatNode.TheVariants.{
   Null,
   Bool as TheBool,
   Whole,
@@ -52,7 +51,7 @@ whole_is : (n : ℕ) → n < 2 ^ 64 → as_usize (serde.number (unsigned n)) ≡
 unfolding as_usize
 whole_is n fits = let below : nat_lt n (2 ^ 64) ≡ true = grind (arith, nat_tests, fits) in rw below refl
 
-two : ℕ → ℕ → Items
+two : ℕ → ℕ → ValueItems
 two m n = item (number (unsigned m)) (item (number (unsigned n)) no_items)
 
 -- two values that aren't both whole numbers
@@ -75,7 +74,7 @@ not_both (string s) w none = refl
 not_both (array vs) w none = refl
 not_both (object ms) w none = refl
 
-not_two : (vs : Items) → ((m n : ℕ) → vs ≡ two m n → ⊥) → pair_of (items_data vs) ≡ None
+not_two : (vs : ValueItems) → ((m n : ℕ) → vs ≡ two m n → ⊥) → pair_of (items_data vs) ≡ None
 unfolding two value_data pair_of
 not_two no_items none = refl
 not_two (item v no_items) none = refl
@@ -85,7 +84,7 @@ not_two (item v (item w no_items)) none =
     ∙ ap (λ u. item (number (unsigned m)) (item u no_items)) second))
 not_two (item v (item w (item u vs))) none = refl
 
-is_whole : (node : Node) (m : ℕ) → plain node ≡ flat.number (unsigned m) → node ≡ Whole m
+is_whole : (node : FlatNode) (m : ℕ) → plain node ≡ flat.number (unsigned m) → node ≡ Whole m
 is_whole Null m e = absurd (cc)
 is_whole (TheBool b) m e = absurd (cc)
 is_whole (Whole n) m e = cc
@@ -96,7 +95,7 @@ is_whole (Key s) m e = absurd (cc)
 is_whole (Array a b) m e = absurd (cc)
 is_whole (Object nodes) m e = absurd (cc)
 
-two_nodes : (nodes : List Node) (m n : ℕ)
+two_nodes : (nodes : List FlatNode) (m n : ℕ)
     → map plain nodes ≡ flat.number (unsigned m) ∷ flat.number (unsigned n) ∷ []
     → nodes ≡ Whole m ∷ Whole n ∷ []
 two_nodes [] m n e = absurd (cc)
@@ -107,7 +106,7 @@ two_nodes (x ∷ (y ∷ [])) m n e =
     cc
 two_nodes (x ∷ (y ∷ (z ∷ zs))) m n e = absurd (cc)
 
-from_parts : (nodes : List Node) (m n : ℕ) → length nodes ≡ 2 → get_or nodes 0 Null ≡ Whole m
+from_parts : (nodes : List FlatNode) (m n : ℕ) → length nodes ≡ 2 → get_or nodes 0 Null ≡ Whole m
     → get_or nodes 1 Null ≡ Whole n → nodes ≡ Whole m ∷ Whole n ∷ []
 from_parts [] m n long first second = absurd (omega arith)
 from_parts (x ∷ []) m n long first second = absurd (omega arith)

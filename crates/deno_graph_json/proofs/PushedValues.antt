@@ -6,13 +6,13 @@ use Rattle.serde_json.specs.Data as serde
 use Rattle.serde_json.specs.View.{items_of}
 use Rattle.deno_graph_json.specs.Data.{value_data, items_data, put_members}
 use Rattle.deno_graph_json.specs.Flat as flat
-use Rattle.deno_graph_json.specs.Value.{Value, Items, Members, flat_value, flat_items, flat_members}
+use Rattle.deno_graph_json.specs.Value.{Value, ValueItems, ValueMembers, flat_value, flat_items, flat_members}
 use Rattle.deno_graph_json.specs.Value.{item_count}
 use Rattle.deno_graph_json.specs.Value as value
 
 -- ---- items
 
-abbrev pub items : List Value → Items
+abbrev pub items : List Value → ValueItems
 items [] = value.no_items
 items (v ∷ vs) = value.item v (items vs)
 
@@ -35,7 +35,7 @@ items_seen (v ∷ vs) = ap (serde.item (value_data v)) (items_seen vs)
 
 -- ---- members
 
-abbrev pub members : List (List ℕ × Value) → Members
+abbrev pub members : List (List ℕ × Value) → ValueMembers
 members [] = value.no_members
 members (m ∷ ms) = value.member m.0 m.1 (members ms)
 

@@ -15,7 +15,7 @@ use Rattle.deno_graph_json.specs.Flat.{PlainNode, key, plain, number_node, numbe
 use Rattle.deno_graph_json.specs.Flat.{members_list, element_count, token_fits}
 use Rattle.deno_graph_json.specs.internal.Parsing.{IsAhead, NoneAhead, IsPut}
 use Rattle.deno_graph_json.specs.Flat.{IsUnreadable}
-use Rattle.deno_graph_json.specs.declared.flat.Node.{Node}
+use Rattle.deno_graph_json.specs.declared.flat.FlatNode.{FlatNode}
 
 -- ---- each number fits
 
@@ -48,7 +48,7 @@ same_ahead j k r s e =
 
 -- ---- a value of one token
 
-pub put_one : (d : ℕ) (t : Token) (ts : List Token) (j : Json) (old new : List Node) (n : Node)
+pub put_one : (d : ℕ) (t : Token) (ts : List Token) (j : Json) (old new : List FlatNode) (n : FlatNode)
     → json_tokens j ≡ t ∷ [] → depth j ≡ 0 → Fit (json_tokens j) → new ≡ old ++ n ∷ []
     → flat_list j ≡ plain n ∷ [] → IsPut d (t ∷ ts) ts old new
 put_one d t ts j old new n is shallow fit more same = (
@@ -57,7 +57,7 @@ put_one d t ts j old new n is shallow fit more same = (
   ap (map plain) more ∙ map-append plain old (n ∷ []) ∙ ap (λ l. map plain old ++ l) (sym same),
 )
 
-pub put_number : (d : ℕ) (text : List ℕ) (ts us : List Token) (old new : List Node) → us ≡ ts
+pub put_number : (d : ℕ) (text : List ℕ) (ts us : List Token) (old new : List FlatNode) → us ≡ ts
     → map plain new ≡ map plain old ++ number_node text ∷ [] → number_fits text ≡ true
     → IsPut d (Token.number text ∷ ts) us old new
 put_number d text ts us old new same more fits =
@@ -317,7 +317,7 @@ pub unreadable_text : (text : List ℕ) (ts : List Token) → tokens text ≡ ts
 unreadable_text text ts is none j whole =
     none j [] (sym is ∙ whole.0 ∙ sym (append-nil (json_tokens j)), whole.1, whole.2)
 
-pub text_and_more : (text : List ℕ) (ts rest : List Token) (old new : List Node) → tokens text ≡ ts
+pub text_and_more : (text : List ℕ) (ts rest : List Token) (old new : List FlatNode) → tokens text ≡ ts
     → (rest ≡ [] → ⊥) → IsPut 127 ts rest old new → IsUnreadable text
 text_and_more text ts rest old new is more put j whole =
     more (same_ahead put.0 j rest [] (sym put.1.0 ∙ sym is ∙ whole.0 ∙ sym (append-nil (json_tokens j)))).1

@@ -34,10 +34,10 @@ use Rattle.deno_graph_json.specs.Value.{
   string,
   array,
   object,
-  Items,
+  ValueItems,
   no_items,
   item,
-  Members,
+  ValueMembers,
   no_members,
   member,
   item_count,
@@ -107,7 +107,8 @@ mutual
       ap (λ l. object (members_within n l)) (take_at (flat_members ms) r (length (flat_members ms)) refl)
       ∙ ap object (in_members ms n (omega arith))
 
-  pub in_items : (vs : Items) (n : ℕ) → 2 * length (flat_items vs) ≤ n → items_within n (flat_items vs) ≡ vs
+  pub in_items : (vs : ValueItems) (n : ℕ) → 2 * length (flat_items vs) ≤ n
+      → items_within n (flat_items vs) ≡ vs
   in_items no_items zero enough = refl
   in_items no_items (suc n) enough = refl
   in_items (item v vs) zero enough = absurd
@@ -120,7 +121,7 @@ mutual
       ∙ ap (λ l. item v (items_within n l)) (after_value_front v (flat_items vs))
       ∙ ap (item v) (in_items vs n (omega (arith, all, some_value v)))
 
-  pub in_members : (ms : Members) (n : ℕ) → 2 * length (flat_members ms) ≤ n
+  pub in_members : (ms : ValueMembers) (n : ℕ) → 2 * length (flat_members ms) ≤ n
       → members_within n (flat_members ms) ≡ ms
   in_members no_members zero enough = refl
   in_members no_members (suc n) enough = refl
@@ -148,13 +149,14 @@ is_value nodes v e =
     let n = 2 * length nodes in
     ap (value_within n) (e ∙ sym (append-nil (flat_value v))) ∙ in_value v n [] (omega (arith, ap length e))
 
-pub is_items : (nodes : List PlainNode) (vs : Items) → nodes ≡ flat_items vs → items_in nodes ≡ vs
+pub is_items : (nodes : List PlainNode) (vs : ValueItems) → nodes ≡ flat_items vs → items_in nodes ≡ vs
 unfolding items_in
 is_items nodes vs e =
     let n = 2 * length nodes in
     ap (items_within n) e ∙ in_items vs n (omega (arith, ap length e))
 
-pub is_members : (nodes : List PlainNode) (ms : Members) → nodes ≡ flat_members ms → members_in nodes ≡ ms
+pub is_members : (nodes : List PlainNode) (ms : ValueMembers) → nodes ≡ flat_members ms
+    → members_in nodes ≡ ms
 unfolding members_in
 is_members nodes ms e =
     let n = 2 * length nodes in
@@ -164,11 +166,11 @@ pub of_value : (nodes : List PlainNode) (v : Value) → nodes ≡ flat_value v
     → flat_value (value_in nodes) ≡ nodes
 of_value nodes v e = ap flat_value (is_value nodes v e) ∙ sym e
 
-pub of_items : (nodes : List PlainNode) (vs : Items) → nodes ≡ flat_items vs
+pub of_items : (nodes : List PlainNode) (vs : ValueItems) → nodes ≡ flat_items vs
     → flat_items (items_in nodes) ≡ nodes
 of_items nodes vs e = ap flat_items (is_items nodes vs e) ∙ sym e
 
-pub of_members : (nodes : List PlainNode) (ms : Members) → nodes ≡ flat_members ms
+pub of_members : (nodes : List PlainNode) (ms : ValueMembers) → nodes ≡ flat_members ms
     → flat_members (members_in nodes) ≡ nodes
 of_members nodes ms e = ap flat_members (is_members nodes ms e) ∙ sym e
 

@@ -19,7 +19,7 @@ use Rattle.serde_json.specs.Data.{
   member,
   put,
 }
-use Rattle.deno_graph_json.specs.Value.{Value}
+use Rattle.deno_graph_json.specs.Value.{Value, ValueItems, ValueMembers}
 use Rattle.deno_graph_json.specs.Value as flat
 use Rattle.deno_graph_json.specs.View.{value_of, tape_value, items_left, members_of}
 use Rattle.deno_graph_json.specs.declared.flat.Element.{Element}
@@ -38,12 +38,12 @@ unfoldable mutual
   value_data (flat.array vs) = array (items_data vs)
   value_data (flat.object ms) = object (put_members ms no_members)
 
-  pub items_data : flat.Items → Items
+  pub items_data : ValueItems → Items
   items_data flat.no_items = no_items
   items_data (flat.item v vs) = item (value_data v) (items_data vs)
 
   -- the members, after which the others are put, one after another
-  pub put_members : flat.Members → Members → Members
+  pub put_members : ValueMembers → Members → Members
   put_members flat.no_members found = found
   put_members (flat.member k v ms) found = put_members ms (put k (value_data v) found)
 

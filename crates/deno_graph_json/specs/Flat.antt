@@ -9,8 +9,8 @@ use Rattle.json.specs.Token.{Token}
 use Rattle.json.specs.Tree.{json_tokens, depth}
 use Rattle.serde_json.specs.Data.{Num, unsigned, negative, float}
 use Rattle.serde_json.specs.Read.{number_of}
-use Rattle.deno_graph_json.specs.declared.flat.Node.{Node}
-use Rattle.deno_graph_json.specs.declared.flat.Node.TheVariants as node
+use Rattle.deno_graph_json.specs.declared.flat.FlatNode.{FlatNode}
+use Rattle.deno_graph_json.specs.declared.flat.FlatNode.TheVariants as node
 
 -- a node with its text in place of a reference to the text
 pub data PlainNode : Type 0 where
@@ -22,7 +22,7 @@ pub data PlainNode : Type 0 where
   array : ℕ → ℕ → PlainNode
   object : ℕ → PlainNode
 
-abbrev pub plain : Node → PlainNode
+abbrev pub plain : FlatNode → PlainNode
 plain node.Null = null
 plain (node.Bool b) = boolean b
 plain (node.Whole n) = number (unsigned n)
@@ -73,7 +73,7 @@ IsTextOf text j = (tokens text ≡ json_tokens j) × (depth j ≤ 127)
     × IsTrue (list_all token_fits (json_tokens j))
 
 -- the text is a value, and the nodes are the value's flat list
-abbrev pub IsFlatText : List ℕ → List Node → Type 0
+abbrev pub IsFlatText : List ℕ → List FlatNode → Type 0
 IsFlatText text nodes = (j : Json) × IsTextOf text j × (map plain nodes ≡ flat_list j)
 
 -- the text isn't a value that can be read

@@ -14,18 +14,18 @@ mutual
     boolean : Bool → Value
     number : Num → Value
     string : List ℕ → Value
-    array : Items → Value
-    object : Members → Value
+    array : ValueItems → Value
+    object : ValueMembers → Value
 
-  pub data Items : Type 0 where
-    no_items : Items
-    item : Value → Items → Items
+  pub data ValueItems : Type 0 where
+    no_items : ValueItems
+    item : Value → ValueItems → ValueItems
 
-  pub data Members : Type 0 where
-    no_members : Members
-    member : List ℕ → Value → Members → Members
+  pub data ValueMembers : Type 0 where
+    no_members : ValueMembers
+    member : List ℕ → Value → ValueMembers → ValueMembers
 
-abbrev pub item_count : Items → ℕ
+abbrev pub item_count : ValueItems → ℕ
 item_count no_items = 0
 item_count (item v vs) = item_count vs + 1
 
@@ -42,11 +42,11 @@ unfoldable mutual
   plain_value (json.array js) = array (plain_items js)
   plain_value (json.object ms) = object (plain_members ms)
 
-  pub plain_items : json.Items → Items
+  pub plain_items : json.Items → ValueItems
   plain_items json.no_items = no_items
   plain_items (json.item j js) = item (plain_value j) (plain_items js)
 
-  pub plain_members : json.Members → Members
+  pub plain_members : json.Members → ValueMembers
   plain_members json.no_members = no_members
   plain_members (json.member k j ms) = member k (plain_value j) (plain_members ms)
 
@@ -60,11 +60,11 @@ unfoldable mutual
   flat_value (array vs) = flat.array (item_count vs) (length (flat_items vs)) ∷ flat_items vs
   flat_value (object ms) = flat.object (length (flat_members ms)) ∷ flat_members ms
 
-  pub flat_items : Items → List PlainNode
+  pub flat_items : ValueItems → List PlainNode
   flat_items no_items = []
   flat_items (item v vs) = flat_value v ++ flat_items vs
 
-  pub flat_members : Members → List PlainNode
+  pub flat_members : ValueMembers → List PlainNode
   flat_members no_members = []
   flat_members (member k v ms) = flat.key k ∷ (flat_value v ++ flat_members ms)
 
@@ -98,13 +98,13 @@ unfoldable mutual
   value_within (suc turns) (flat.array _ nodes ∷ ns) = array (items_within turns (take nodes ns))
   value_within (suc turns) (flat.object nodes ∷ ns) = object (members_within turns (take nodes ns))
 
-  pub items_within : ℕ → List PlainNode → Items
+  pub items_within : ℕ → List PlainNode → ValueItems
   items_within zero ns = no_items
   items_within (suc turns) [] = no_items
   items_within (suc turns) (n ∷ ns) =
       item (value_within turns (n ∷ ns)) (items_within turns (after_value (n ∷ ns)))
 
-  pub members_within : ℕ → List PlainNode → Members
+  pub members_within : ℕ → List PlainNode → ValueMembers
   members_within zero ns = no_members
   members_within (suc turns) [] = no_members
   members_within (suc turns) (flat.null ∷ ns) = no_members
@@ -120,10 +120,10 @@ unfoldable mutual
 unfoldable pub value_in : List PlainNode → Value
 value_in nodes = value_within (2 * length nodes) nodes
 
-unfoldable pub items_in : List PlainNode → Items
+unfoldable pub items_in : List PlainNode → ValueItems
 items_in nodes = items_within (2 * length nodes) nodes
 
-unfoldable pub members_in : List PlainNode → Members
+unfoldable pub members_in : List PlainNode → ValueMembers
 members_in nodes = members_within (2 * length nodes) nodes
 
 -- the nodes are the flat list of a value, of items or of members

@@ -3,9 +3,8 @@ use Rattle.std.specs.Prelude.{◌≡◌, ℕ, List, length, map, Option, Some, N
 use Rattle.std.specs.Borrow.{Bor}
 use Rattle.deno_graph_json.specs.Flat.{plain, IsTextOf}
 use Rattle.deno_graph_json.specs.Value.{Value, null, boolean, number, string, array, object}
-use Rattle.deno_graph_json.specs.Value.{Items, no_items, item, no_members, member}
+use Rattle.deno_graph_json.specs.Value.{ValueItems, no_items, item, ValueMembers, no_members, member}
 use Rattle.deno_graph_json.specs.Value.{plain_value, value_in, items_in, members_in}
-use Rattle.deno_graph_json.specs.Value as kept
 use Rattle.json.specs.Json.{Json}
 use Rattle.serde_json.specs.Data.{unsigned, negative, float}
 use Rattle.deno_graph_json.specs.declared.flat.Element.{Element}
@@ -23,7 +22,7 @@ unfoldable pub value_of : Element → Value
 value_of element = value_in (map plain element.nodes.now)
 
 -- the elements that are left
-unfoldable pub items_left : Elements → Items
+unfoldable pub items_left : Elements → ValueItems
 items_left elements = items_in (map plain elements.nodes.now)
 
 -- the number of the elements that are left
@@ -31,7 +30,7 @@ abbrev pub count_of : Elements → ℕ
 count_of elements = elements.count
 
 -- the members that are left
-unfoldable pub members_of : Members → kept.Members
+unfoldable pub members_of : Members → ValueMembers
 members_of members = members_in (map plain members.nodes.now)
 
 -- an upper bound of the number of the members that are left
@@ -39,11 +38,11 @@ abbrev pub left_of : Members → ℕ
 left_of members = length members.nodes.now
 
 -- the element that was found, if there was one, followed by those that are left
-abbrev pub items_with : Option Element → Items → Items
+abbrev pub items_with : Option Element → ValueItems → ValueItems
 items_with None left = no_items
 items_with (Some element) left = item (value_of element) left
 
-abbrev pub members_with : Option (Bor (List ℕ) × Element) → kept.Members → kept.Members
+abbrev pub members_with : Option (Bor (List ℕ) × Element) → ValueMembers → ValueMembers
 members_with None left = no_members
 members_with (Some found) left = member found.0.now (value_of found.1) left
 

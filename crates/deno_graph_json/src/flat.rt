@@ -25,7 +25,7 @@ pub use view::View;
 
 /// One node of a tape.
 #[derive(Clone, Copy)]
-pub enum Node<'a> {
+pub enum FlatNode<'a> {
     Null,
     Bool(bool),
     /// A whole number from 0 to 2^64 - 1, written without a sign, a point and an exponent.
@@ -47,7 +47,7 @@ pub enum Node<'a> {
 /// scratch.
 #[derive(Drop)]
 pub struct Tape<'a> {
-    nodes: Vec<Node<'a>>,
+    nodes: Vec<FlatNode<'a>>,
     ghost of_value: { AreOfValue (map plain nodes.items) },
 }
 
@@ -90,7 +90,7 @@ impl<'a> Tape<'a> {
 #[derive(Clone, Copy)]
 pub struct Element<'a> {
     /// The node of the value, and the nodes of its items or members.
-    nodes: &'a [Node<'a>],
+    nodes: &'a [FlatNode<'a>],
     ghost of_value: { AreOfValue (map plain nodes.now) },
 }
 
@@ -107,7 +107,7 @@ impl<'a> Element<'a> {
         ensures { result ≡ false → has_float (data_of self.entry) ≡ false }
     {
         for node in self.nodes {
-            if let Node::Float(_) = node {
+            if let FlatNode::Float(_) = node {
                 return true;
             }
         }
@@ -136,7 +136,7 @@ impl<'a> Element<'a> {
         ensures { result ≡ reads_pair as_usize (data_of self.entry) }
     {
         match self.elements()?.nodes {
-            [Node::Whole(first), Node::Whole(second)] => Some((*first, *second)),
+            [FlatNode::Whole(first), FlatNode::Whole(second)] => Some((*first, *second)),
             _ => None,
         }
     }
@@ -179,7 +179,7 @@ impl<'a> Element<'a> {
 #[derive(Drop)]
 pub struct Elements<'a> {
     /// The nodes of the elements.
-    nodes: &'a [Node<'a>],
+    nodes: &'a [FlatNode<'a>],
     /// Number of the elements.
     count: usize,
     ghost of_items: { AreOfItems (map plain nodes.now) },
@@ -239,7 +239,7 @@ impl<'a> Iterator for Elements<'a> {
 #[derive(Clone, Copy)]
 pub struct Members<'a> {
     /// The nodes of the members.
-    nodes: &'a [Node<'a>],
+    nodes: &'a [FlatNode<'a>],
     ghost of_members: { AreOfMembers (map plain nodes.now) },
 }
 
@@ -276,7 +276,7 @@ impl<'a> Iterator for Members<'a> {
     #[inline(always)]
     fn next(&mut self) -> Option<(&'a str, Element<'a>)> {
         let (key, nodes) = self.nodes.split_first()?;
-        let Node::Key(name) = key else {
+        let FlatNode::Key(name) = key else {
             return None;
         };
         let (value, nodes) = split_value(nodes)?;

@@ -17,7 +17,7 @@ pub mod write;
 
 pub use error::{Mismatch, ReadError, Step};
 pub use expected::{Expected, Form};
-pub use flat::{Element, Elements, Members, Node, Tape, TapeError, View};
+pub use flat::{Element, Elements, FlatNode, Members, Tape, TapeError, View};
 pub use float::{find_float, has_float};
 pub use json::Writer;
 pub use json_writer::JsonWriter;

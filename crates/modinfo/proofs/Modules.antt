@@ -5,6 +5,7 @@ use Rattle.std.proofs.lemmas.Option.{none-some}
 use Rattle.serde_json.specs.Data.{Data, null, boolean, number, string, array, object, Members}
 use Rattle.serde_json.specs.Find.{as_object, as_str, get_member}
 use Rattle.serde_json.specs.Written.{has_float}
+use Rattle.deno_graph_json.proofs.Floats.{float_found}
 use Rattle.deno_graph_json.proofs.ObjectMembers.{Entry}
 use Rattle.deno_graph_json.proofs.Reading.{is_object}
 use Rattle.deno_graph_json.specs.Data.{data_of, named_data}
@@ -53,19 +54,11 @@ module _ (inner : InfoFault) (all : Members) (left rest : List Entry) (e : Entry
 
 -- ---- The errors of one value
 
-float_of : (b : Bool) → unless_float b ≡ None → b ≡ true
-float_of true is = refl
-float_of false is = absurd (none-some _ (sym is))
-
-pub whole_of : (b : Bool) → unless_float b ≡ Some tt → b ≡ false
-whole_of true is = absurd (none-some _ is)
-whole_of false is = refl
-
 pub float_error : (d : Data) (found : ReadError) → IsReadError d (unless_float (has_float d)) found
     → Expects Integer found → IsFaultIn (IsInfoFault d) d info.Float found
 float_error d (Mismatch found) h expects = (
   (λ same. cc (same)),
-  float_of (has_float d) h.0,
+  float_found (has_float d) h.0,
   h.1,
   λ same. expects,
 )

@@ -7,7 +7,7 @@ use Rattle.deno_graph_info.specs.declared.conversion.ordered.OrderedMembers.{Ord
 use Rattle.deno_graph_info.specs.declared.conversion.ordered.OrderedMembers.TheVariants.{Listed, Sorted}
 
 -- the members in the order of the text, also where a name comes again
-abbrev pub listed : flat.Members → Members
+abbrev pub listed : flat.ValueMembers → Members
 listed flat.no_members = no_members
 listed (flat.member k v ms) = member k (value_data v) (listed ms)
 

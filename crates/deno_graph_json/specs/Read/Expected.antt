@@ -14,6 +14,9 @@ use Rattle.std.specs.Prelude.{
   false,
   true,
   bytes_eq,
+  Option,
+  option_map,
+  unwrap_or,
   Some,
   None,
   IsSomeAnd,
@@ -23,9 +26,10 @@ use Rattle.std.specs.Prelude.{
 use Rattle.std.specs.Borrow.{Bor}
 use Rattle.std.specs.Fmt.{decimal}
 use Rattle.std.specs.List.{AllByRecursion}
-use Rattle.serde_json.specs.Data.{Data, null, boolean, number, string, array, object, Members}
+use Rattle.serde_json.specs.Data.{Data, Members}
 use Rattle.serde_json.specs.Events.{members_len}
-use Rattle.serde_json.specs.Find.{as_array, as_bool, as_number, as_object, as_str, get, get_member, is_float}
+use Rattle.serde_json.specs.Find.{as_array, as_bool, as_null, as_number, as_object, as_str}
+use Rattle.serde_json.specs.Find.{get, get_member, is_float}
 use Rattle.deno_graph_json.specs.Read.Partial.{as_usize, pair_in, reads_pair}
 use Rattle.deno_graph_json.specs.declared.expected.Expected.{Expected}
 use Rattle.deno_graph_json.specs.declared.expected.Expected.TheVariants as expected
@@ -52,44 +56,18 @@ name_count [] ms = 0
 name_count (name ∷ names) ms =
     (if is_some (get_member name.now ms) then 1 else 0) + name_count names ms
 
+-- whether there is a value, and the test holds for it
+abbrev holds_for : {A : Type 0} → (A → Bool) → Option A → Bool
+holds_for test found = unwrap_or (option_map test found) false
+
 -- whether the value has the form
 abbrev pub has_form : Form → Data → Bool
-has_form form.Null null = true
-has_form form.Null (boolean _) = false
-has_form form.Null (number _) = false
-has_form form.Null (string _) = false
-has_form form.Null (array _) = false
-has_form form.Null (object _) = false
-has_form form.String null = false
-has_form form.String (boolean _) = false
-has_form form.String (number _) = false
-has_form form.String (string _) = true
-has_form form.String (array _) = false
-has_form form.String (object _) = false
-has_form (form.Name name) null = false
-has_form (form.Name name) (boolean _) = false
-has_form (form.Name name) (number _) = false
-has_form (form.Name name) (string text) = bytes_eq text name.now
-has_form (form.Name name) (array _) = false
-has_form (form.Name name) (object _) = false
-has_form form.Array null = false
-has_form form.Array (boolean _) = false
-has_form form.Array (number _) = false
-has_form form.Array (string _) = false
-has_form form.Array (array _) = true
-has_form form.Array (object _) = false
-has_form form.ObjectOfOne null = false
-has_form form.ObjectOfOne (boolean _) = false
-has_form form.ObjectOfOne (number _) = false
-has_form form.ObjectOfOne (string _) = false
-has_form form.ObjectOfOne (array _) = false
-has_form form.ObjectOfOne (object members) = members_len members == 1
-has_form (form.ObjectWithOneOf names) null = false
-has_form (form.ObjectWithOneOf names) (boolean _) = false
-has_form (form.ObjectWithOneOf names) (number _) = false
-has_form (form.ObjectWithOneOf names) (string _) = false
-has_form (form.ObjectWithOneOf names) (array _) = false
-has_form (form.ObjectWithOneOf names) (object members) = name_count names.now members == 1
+has_form form.Null value = is_some (as_null value)
+has_form form.String value = is_some (as_str value)
+has_form (form.Name name) value = holds_for (λ text. bytes_eq text name.now) (as_str value)
+has_form form.Array value = is_some (as_array value)
+has_form form.ObjectOfOne value = holds_for (λ ms. members_len ms == 1) (as_object value)
+has_form (form.ObjectWithOneOf names) value = holds_for (λ ms. name_count names.now ms == 1) (as_object value)
 
 -- the value isn't as expected
 abbrev pub IsNot : Expected → Data → Type 0

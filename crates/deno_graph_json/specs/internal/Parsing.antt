@@ -5,7 +5,7 @@ use Rattle.json.specs.Json.{Json}
 use Rattle.json.specs.Token.{Token}
 use Rattle.json.specs.Tree.{json_tokens, depth}
 use Rattle.deno_graph_json.specs.Flat.{plain, flat_list, token_fits}
-use Rattle.deno_graph_json.specs.declared.flat.Node.{Node}
+use Rattle.deno_graph_json.specs.declared.flat.FlatNode.{FlatNode}
 
 -- The tokens are those of a value, which nests at most `most` deep, followed by the rest.
 abbrev pub IsAhead : ℕ → Json → List Token → List Token → Type 0
@@ -17,6 +17,6 @@ abbrev pub NoneAhead : ℕ → List Token → Type 0
 NoneAhead most ahead = (j : Json) → (rest : List Token) → IsAhead most j ahead rest → ⊥
 
 -- such a value was read, and its flat list was appended to the nodes
-abbrev pub IsPut : ℕ → List Token → List Token → List Node → List Node → Type 0
+abbrev pub IsPut : ℕ → List Token → List Token → List FlatNode → List FlatNode → Type 0
 IsPut most ahead rest old new =
     (j : Json) × IsAhead most j ahead rest × (map plain new ≡ map plain old ++ flat_list j)

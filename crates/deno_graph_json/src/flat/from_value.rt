@@ -4,7 +4,7 @@ ghost use Rattle.deno_graph_json.specs.Data.{tape_data};
 ghost use Rattle.deno_graph_json.specs.Flat.{plain, number};
 ghost use Rattle.deno_graph_json.specs.internal.Nodes.{ArePushed, AreItemsPushed, AreMembersPushed};
 
-use crate::flat::{Node, Tape};
+use crate::flat::{FlatNode, Tape};
 use serde_json::{Map, Number, Value};
 use std::alloc::{AllocError, Global};
 
@@ -22,39 +22,39 @@ impl<'a> Tape<'a> {
 
 /// Appends the nodes of a value.
 #[cycle(push)]
-fn push_value<'a>(nodes: &mut Vec<Node<'a>>, value: &'a Value) -> Result<(), AllocError>
+fn push_value<'a>(nodes: &mut Vec<FlatNode<'a>>, value: &'a Value) -> Result<(), AllocError>
     ensures { OnOk result (ArePushed (view value.now) nodes.old.items nodes.new.items) }
 {
     match value {
-        Value::Null => Ok(nodes.push(Node::Null)?),
-        Value::Bool(value) => Ok(nodes.push(Node::Bool(*value))?),
+        Value::Null => Ok(nodes.push(FlatNode::Null)?),
+        Value::Bool(value) => Ok(nodes.push(FlatNode::Bool(*value))?),
         Value::Number(number) => Ok(nodes.push(node_of(number))?),
-        Value::String(text) => Ok(nodes.push(Node::String(text.as_str()))?),
+        Value::String(text) => Ok(nodes.push(FlatNode::String(text.as_str()))?),
         Value::Array(items) => push_items(nodes, items),
         Value::Object(members) => push_members(nodes, members),
     }
 }
 
 /// Returns the node of a number.
-fn node_of<'a>(value: &Number) -> Node<'a>
+fn node_of<'a>(value: &Number) -> FlatNode<'a>
     ensures { plain result ≡ number (number_view value.now) }
 {
     if let Some(whole) = value.as_u64() {
-        return Node::Whole(whole);
+        return FlatNode::Whole(whole);
     }
     match value.as_i64() {
-        Some(negative) => Node::Negative(negative),
-        None => Node::Float(value.as_f64().unwrap_or(0.0)),
+        Some(negative) => FlatNode::Negative(negative),
+        None => FlatNode::Float(value.as_f64().unwrap_or(0.0)),
     }
 }
 
 /// Appends the nodes of an array.
 #[cycle(push)]
-fn push_items<'a>(nodes: &mut Vec<Node<'a>>, items: &'a Vec<Value>) -> Result<(), AllocError>
+fn push_items<'a>(nodes: &mut Vec<FlatNode<'a>>, items: &'a Vec<Value>) -> Result<(), AllocError>
     ensures { OnOk result (AreItemsPushed (items_view items.now.items) nodes.old.items nodes.new.items) }
 {
     let at = nodes.len();
-    nodes.push(Node::Array {
+    nodes.push(FlatNode::Array {
         elements: 0,
         nodes: 0,
     })?;
@@ -62,7 +62,7 @@ fn push_items<'a>(nodes: &mut Vec<Node<'a>>, items: &'a Vec<Value>) -> Result<()
         push_value(nodes, item)?;
     }
     let inside = nodes.len() - at - 1;
-    nodes[at] = Node::Array {
+    nodes[at] = FlatNode::Array {
         elements: items.len(),
         nodes: inside,
     };
@@ -72,19 +72,19 @@ fn push_items<'a>(nodes: &mut Vec<Node<'a>>, items: &'a Vec<Value>) -> Result<()
 /// Appends the nodes of an object.
 #[cycle(push)]
 fn push_members<'a>(
-    nodes: &mut Vec<Node<'a>>,
+    nodes: &mut Vec<FlatNode<'a>>,
     members: &'a Map<String, Value>,
 ) -> Result<(), AllocError>
     ensures { OnOk result (AreMembersPushed (members_view members.now.entries)
         nodes.old.items nodes.new.items) }
 {
     let at = nodes.len();
-    nodes.push(Node::Object { nodes: 0 })?;
+    nodes.push(FlatNode::Object { nodes: 0 })?;
     for (name, value) in members.iter() {
-        nodes.push(Node::Key(name.as_str()))?;
+        nodes.push(FlatNode::Key(name.as_str()))?;
         push_value(nodes, value)?;
     }
     let inside = nodes.len() - at - 1;
-    nodes[at] = Node::Object { nodes: inside };
+    nodes[at] = FlatNode::Object { nodes: inside };
     Ok(())
 }

@@ -9,7 +9,7 @@ ghost use Rattle.deno_graph_json.specs.internal.Parsing.{IsPut, NoneAhead};
 ghost use Rattle.deno_graph_json.specs.Flat.{IsFlatText, IsUnreadable};
 ghost use Rattle.deno_graph_json.specs.declared.flat.error.TapeError.TheVariants.{Json};
 
-use crate::Node;
+use crate::FlatNode;
 use crate::flat::digits::short_whole;
 use crate::flat::error::TapeError;
 use fast_float::Numeral;
@@ -24,7 +24,7 @@ pub fn read<'a>(
     alloc: Global,
     text: &'a str,
     scratch: &'a mut Scratch,
-) -> Result<Vec<Node<'a>>, TapeError>
+) -> Result<Vec<FlatNode<'a>>, TapeError>
     ensures flat { IfOk result (λ nodes. IsFlatText text.now nodes.items) }
     ensures unreadable { (offset : ℕ) → result ≡ Err (Json offset) → IsUnreadable text.now }
 {
@@ -51,7 +51,7 @@ fn offset_after_value(text: &str, offset: usize) -> usize {
 #[derive(Drop)]
 struct Parser<'a> {
     reader: Reader<'a>,
-    nodes: Vec<Node<'a>>,
+    nodes: Vec<FlatNode<'a>>,
     /// Byte offset of the last token.
     offset: usize,
 }
@@ -95,10 +95,10 @@ impl<'a> Parser<'a> {
     {
         let offset = self.offset;
         match first {
-            Token::String(text) => Ok(self.nodes.push(Node::String(text))?),
+            Token::String(text) => Ok(self.nodes.push(FlatNode::String(text))?),
             Token::Number(digits) => self.number(digits),
-            Token::Bool(value) => Ok(self.nodes.push(Node::Bool(value))?),
-            Token::Null => Ok(self.nodes.push(Node::Null)?),
+            Token::Bool(value) => Ok(self.nodes.push(FlatNode::Bool(value))?),
+            Token::Null => Ok(self.nodes.push(FlatNode::Null)?),
             Token::BeginArray if depth > 0 => self.array(depth - 1),
             Token::BeginObject if depth > 0 => self.object(depth - 1),
             Token::BeginArray | Token::BeginObject => Err(TapeError::Json { offset }),
@@ -119,7 +119,7 @@ impl<'a> Parser<'a> {
         ensures reader { self.new.reader ≡ self.old.reader }
     {
         match short_whole(digits.as_bytes()) {
-            Some(whole) => Ok(self.nodes.push(Node::Whole(whole))?),
+            Some(whole) => Ok(self.nodes.push(FlatNode::Whole(whole))?),
             None => {
                 let offset = self.offset;
                 let node = parse_number(digits).ok_or(TapeError::Json { offset })?;
@@ -139,7 +139,7 @@ impl<'a> Parser<'a> {
         ensures shorter { OnOk result (length self.new.reader ≤ length self.old.reader) }
     {
         let at = self.nodes.len();
-        self.nodes.push(Node::Array {
+        self.nodes.push(FlatNode::Array {
             elements: 0,
             nodes: 0,
         })?;
@@ -152,7 +152,7 @@ impl<'a> Parser<'a> {
             elements = elements.saturating_add(1);
         }
         let nodes = self.nodes.len() - at - 1;
-        self.nodes[at] = Node::Array { elements, nodes };
+        self.nodes[at] = FlatNode::Array { elements, nodes };
         Ok(())
     }
 
@@ -167,10 +167,10 @@ impl<'a> Parser<'a> {
         ensures shorter { OnOk result (length self.new.reader ≤ length self.old.reader) }
     {
         let at = self.nodes.len();
-        self.nodes.push(Node::Object { nodes: 0 })?;
+        self.nodes.push(FlatNode::Object { nodes: 0 })?;
         'members: loop {
             match self.token()? {
-                Token::Key(name) => self.nodes.push(Node::Key(name))?,
+                Token::Key(name) => self.nodes.push(FlatNode::Key(name))?,
                 Token::EndObject => break,
                 _ => {
                     return Err(TapeError::Json {
@@ -182,12 +182,12 @@ impl<'a> Parser<'a> {
             self.value(first, depth)?;
         }
         let nodes = self.nodes.len() - at - 1;
-        self.nodes[at] = Node::Object { nodes };
+        self.nodes[at] = FlatNode::Object { nodes };
         Ok(())
     }
 
     /// Returns the nodes. Returns `Json` if anything follows the value of the text.
-    fn finish(self, text: &str) -> Result<Vec<Node<'a>>, TapeError>
+    fn finish(self, text: &str) -> Result<Vec<FlatNode<'a>>, TapeError>
         ensures nodes { IfOk result (λ nodes. nodes ≡ self.entry.nodes) }
         ensures end { OnOk result (self.entry.reader ≡ []) }
         ensures more { OnErr result (self.entry.reader ≢ []) }
@@ -209,7 +209,7 @@ impl<'a> Parser<'a> {
 
 /// Parses a number of JSON. `None` if it is too large for a float.
 #[inline(never)]
-fn parse_number<'a>(text: &str) -> Option<Node<'a>>
+fn parse_number<'a>(text: &str) -> Option<FlatNode<'a>>
     ensures { option_map plain result ≡ option_map number (number_of text.now) }
 {
     let bytes = text.as_bytes();
@@ -230,29 +230,29 @@ fn has_minus(bytes: &[u8]) -> bool
 }
 
 /// Returns the node of a number without a sign. `None` if it is too large for a float.
-fn unsigned<'a>(numeral: &Numeral<'_>) -> Option<Node<'a>>
+fn unsigned<'a>(numeral: &Numeral<'_>) -> Option<FlatNode<'a>>
     ensures { option_map plain result ≡ option_map number (number_from false numeral.now) }
 {
     match numeral.to_u64() {
-        Some(whole) => Some(Node::Whole(whole)),
+        Some(whole) => Some(FlatNode::Whole(whole)),
         None => float(false, numeral),
     }
 }
 
 /// Returns the node of a number after its minus sign. `None` if it is too large for a float.
-fn negative<'a>(numeral: &Numeral<'_>) -> Option<Node<'a>>
+fn negative<'a>(numeral: &Numeral<'_>) -> Option<FlatNode<'a>>
     ensures { option_map plain result ≡ option_map number (number_from true numeral.now) }
 {
     match numeral.to_i64(true) {
-        Some(number) if number < 0 => Some(Node::Negative(number)),
+        Some(number) if number < 0 => Some(FlatNode::Negative(number)),
         _ => float(true, numeral),
     }
 }
 
 /// Returns the node of the nearest float. `None` if it isn't finite.
-fn float<'a>(is_negative: bool, numeral: &Numeral<'_>) -> Option<Node<'a>>
+fn float<'a>(is_negative: bool, numeral: &Numeral<'_>) -> Option<FlatNode<'a>>
     ensures { option_map plain result ≡ option_map number (float_of is_negative numeral.now) }
 {
     let number = numeral.to_float::<f64>(is_negative);
-    number.is_finite().then_some(Node::Float(number))
+    number.is_finite().then_some(FlatNode::Float(number))
 }

@@ -2,7 +2,7 @@ ghost use Rattle.std.specs.Prelude.{◌≡◌};
 ghost use Rattle.deno_graph_json.specs.Data.{data_of, view_data};
 ghost use Rattle.deno_graph_json.specs.View.{value_of, view_value};
 
-use crate::flat::{Element, Elements, Members, Node};
+use crate::flat::{Element, Elements, FlatNode, Members};
 
 /// What a JSON value is, one level deep.
 #[derive(Drop)]
@@ -31,17 +31,17 @@ impl<'a> Element<'a> {
             return View::Null;
         };
         match *node {
-            Node::Null | Node::Key(_) => View::Null,
-            Node::Bool(value) => View::Bool(value),
-            Node::Whole(number) => View::Whole(number),
-            Node::Negative(number) => View::Negative(number),
-            Node::Float(number) => View::Float(number),
-            Node::String(text) => View::String(text),
-            Node::Array { elements, .. } => View::Array(Elements {
+            FlatNode::Null | FlatNode::Key(_) => View::Null,
+            FlatNode::Bool(value) => View::Bool(value),
+            FlatNode::Whole(number) => View::Whole(number),
+            FlatNode::Negative(number) => View::Negative(number),
+            FlatNode::Float(number) => View::Float(number),
+            FlatNode::String(text) => View::String(text),
+            FlatNode::Array { elements, .. } => View::Array(Elements {
                 nodes,
                 count: elements,
             }),
-            Node::Object { .. } => View::Object(Members { nodes }),
+            FlatNode::Object { .. } => View::Object(Members { nodes }),
         }
     }
 }

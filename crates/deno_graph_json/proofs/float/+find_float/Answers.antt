@@ -4,7 +4,7 @@ use Rattle.serde_json.specs.Written.{has_float, items_have_float, members_have_f
 use Rattle.deno_graph_json.specs.Data.{data_of, named_data, elements_data, members_data}
 use Rattle.deno_graph_json.proofs.ArrayElements.{count_next, elements_next, from_next, from_here}
 use Rattle.deno_graph_json.proofs.ArrayElements.{depth_of_item}
-use Rattle.deno_graph_json.proofs.Floats.{none_of, float_error, items_after, members_after}
+use Rattle.deno_graph_json.proofs.Floats.{no_float_found, float_error, items_after, members_after}
 use Rattle.deno_graph_json.proofs.ObjectMembers.{Entry, rest_next, rest_here, depth_of_member}
 use Rattle.deno_graph_json.proofs.Reading.{error_around}
 use Rattle.deno_graph_json.specs.Read.Partial.{unless_float}
@@ -52,7 +52,7 @@ find_float_in_items-loop-item-preserved t c =
       tt,
       tt,
       omega (arith, kept.2, count_next c.loop-item.item-iterator c.next.new.self c.in-Some.item steps),
-      items_after false all left rest d kept.3 first (none_of (has_float d) c.in_default.ensures.read),
+      items_after false all left rest d kept.3 first (no_float_found (has_float d) c.in_default.ensures.read),
       from_next c.loop-item.number all left rest d kept.4 first,
     )
 
@@ -103,6 +103,6 @@ find_float_in_members-loop-name-preserved t c =
     let first = c.in-Some.ensures.steps in
     let kept = c.loop-name.invariant in (
       members_after false all (named_data left) (named_data rest) e.0 d kept.0 (ap named_data first)
-          (none_of (has_float d) c.in_default.ensures.read),
+          (no_float_found (has_float d) c.in_default.ensures.read),
       rest_next all left rest e kept.1 first,
     )

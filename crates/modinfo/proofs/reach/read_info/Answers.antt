@@ -1,6 +1,7 @@
 use Rattle.std.proofs.lemmas.Result.{err_from_is_err_and}
 use Rattle.deno_graph_json.specs.Data.{data_of}
-use Rattle.modinfo.proofs.Modules.{float_error, shape_error_of, stored_info, whole_of}
+use Rattle.deno_graph_json.proofs.Floats.{no_float_found}
+use Rattle.modinfo.proofs.Modules.{float_error, shape_error_of, stored_info}
 use Rattle.modinfo.proofs.reach.read_info.Goals as goal
 
 -- The value has a float, or an allocation failed.
@@ -13,8 +14,8 @@ pub returns-in_err-from_json : goal.returns-in_err-from_json
 returns-in_err-from_json c =
     let is = err_from_is_err_and c.from_residual.result c.from_residual.ensures.1 in
     rw (is.1, is.2) (shape_error_of (data_of c.args.value) c.in_err-from_json.field-0.0
-    (whole_of _ c.in_default.ensures.read) c.in_err-from_json.ensures)
+    (no_float_found _ c.in_default.ensures.read) c.in_err-from_json.ensures)
 
 pub returns : goal.returns
 returns c = stored_info (data_of c.args.value) c.in_ok-from_json.field-0
-    (whole_of _ c.in_default.ensures.read) c.in_ok-from_json.ensures
+    (no_float_found _ c.in_default.ensures.read) c.in_ok-from_json.ensures

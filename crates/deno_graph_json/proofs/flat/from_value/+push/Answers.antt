@@ -17,7 +17,7 @@ use Rattle.deno_graph_json.specs.Flat.{plain}
 use Rattle.deno_graph_json.specs.Flat as flat
 use Rattle.deno_graph_json.specs.Value.{flat_value, flat_items, flat_members, item_count}
 use Rattle.deno_graph_json.specs.Value as value
-use Rattle.deno_graph_json.specs.declared.flat.Node.TheVariants as node
+use Rattle.deno_graph_json.specs.declared.flat.FlatNode.TheVariants as node
 use Rattle.deno_graph_json.proofs.Nested.{begun, filled, has_more, room_taken}
 use Rattle.deno_graph_json.proofs.PushedValues.{items, item_pushed, items_counted, items_seen}
 use Rattle.deno_graph_json.proofs.PushedValues.{members, member_pushed, member_put}

@@ -8,7 +8,7 @@ use Rattle.json.specs.Reads.{token_of}
 use Rattle.deno_graph_json.specs.Flat.{plain, flat_list}
 use Rattle.deno_graph_json.specs.internal.Parsing.{IsAhead, IsPut, NoneAhead}
 use Rattle.deno_graph_json.specs.Flat as flat
-use Rattle.deno_graph_json.specs.declared.flat.Node.TheVariants as node
+use Rattle.deno_graph_json.specs.declared.flat.FlatNode.TheVariants as node
 use Rattle.deno_graph_json.specs.declared.flat.error.TapeError.TheVariants.{Json}
 use Rattle.deno_graph_json.proofs.ValueTokens.{put_one, put_number, none_number, none_deep_array}
 use Rattle.deno_graph_json.proofs.ValueTokens.{none_deep_object}
