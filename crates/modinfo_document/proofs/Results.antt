@@ -1,5 +1,5 @@
 -- Results that are related to what is to be read.
-use Rattle.std.proofs.Common.{◌≡◌, Option, Some, None, Result, Ok, Err}
+use Rattle.std.proofs.Common.{◌≡◌, Option, Some, None, Result}
 use Rattle.std.proofs.Common.{IsErrAnd, IsSomeAnd, refl, sym, subst}
 use Rattle.std.proofs.lemmas.Result.{err_from_is_err_and}
 use Rattle.serde_json.specs.Data.{Data, object, Items, Members}
@@ -20,13 +20,6 @@ pub some_with : {A : Type 0} (P : A → Type 0) (wanted : Option A) → IsSomeAn
     → (x : A) × (wanted ≡ Some x) × P x
 some_with P (Some x) h = (x, refl, h)
 some_with P None h = absurd h
-
--- the exit of a `?` whose error is that of the whole value
-pub whole_error_by : {B C : Type 0} (Meets : B → C → Type 0) (value : Data) (wanted : Option B)
-    (error : ReadError) (answer : Result C ReadError) → IsErrAnd answer (λ other. other ≡ error)
-    → IsReadError value wanted error → IsReadResultBy Meets value wanted answer
-whole_error_by Meets value wanted error answer is h =
-    let p = err_from_is_err_and answer is in rw (p.1, p.2) h
 
 module _ {A B C : Type 0} (Meets : B → C → Type 0) (value : Data) (wanted : Option A) (f : A → Option B) where
   -- the exit of a `?`
@@ -59,14 +52,6 @@ pub object_on_by : {B C : Type 0} (Meets : B → C → Type 0) (d : Data) (f : M
     (answer : Result C ReadError) → as_object d ≡ Some ms → IsReadResultBy Meets (object ms) (f ms) answer
     → IsReadResultBy Meets d (as_object d >>= f) answer
 object_on_by Meets d f ms answer is h = rw (is_object d ms is) h
-
--- a value made of the value that is read
-pub made_of : {A B C : Type 0} (Meets : B → C → Type 0) (make : A → B) (value : Data) (wanted : Option A)
-    (answer : Result C ReadError) → IsReadResultBy (λ x. Meets (make x)) value wanted answer
-    → IsReadResultBy Meets value (wanted >>= (λ x. Some (make x))) answer
-made_of Meets make value None (Ok c) h = h
-made_of Meets make value (Some x) (Ok c) h = h
-made_of Meets make value wanted (Err error) h = step_error value wanted (λ x. Some (make x)) error h
 
 -- the lemmas for a reader that reads step by step, and whose value is related to what is to be read
 pub ruleset reading_by = (goes_on, exits_by, exits_mismatch_by, object_on_by, result_by_on)

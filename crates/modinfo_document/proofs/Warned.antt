@@ -77,9 +77,6 @@ pub values_same : (before after : Warnings) → AreSame before after → HasOnly
 values_same before after same (values, all, keeps) =
     (values, all, record { first = same.0 ∙ keeps.first; others = same.1 ∙ keeps.others })
 
-pub values_none : (warnings : Warnings) → HasNone warnings → HasOnlyValues warnings
-values_none warnings none = ([], All-nil IsOfValue, record { first = none.0; others = none.1 })
-
 -- Warnings about more kinds follow.
 pub about_more : (source : List ℕ) (kinds more : List KindAt) (first later : List Warning)
     → AreAbout source kinds first → AreAbout source more later

@@ -1,8 +1,8 @@
 -- The names of the members that the objects of a document may have.
 use Rattle.std.specs.Prelude.{ℕ, List, [], ◌∷◌, codes, unwrap_or}
 use Rattle.modinfo_document.specs.Kind.{named}
-use Rattle.modinfo_document.specs.declared.names.Role.{Role}
-use Rattle.modinfo_document.specs.declared.names.Role.TheVariants as role
+use Rattle.modinfo_document.specs.declared.names.ObjectKind.{ObjectKind}
+use Rattle.modinfo_document.specs.declared.names.ObjectKind.TheVariants as kind
 
 -- The names of the members that only nodes of one kind have, by the name of the kind.
 abbrev pub own_names : List (List ℕ × List (List ℕ))
@@ -28,14 +28,14 @@ own_names = (
 abbrev pub names_of_node : List ℕ → List (List ℕ)
 names_of_node kind = codes "kind" ∷ codes "range" ∷ codes "children" ∷ unwrap_or (named own_names kind) []
 
--- The names of the members of what an object describes.
-abbrev pub names_of : Role → List (List ℕ)
-names_of role.Document = codes "specifier" ∷ codes "mediaType" ∷ codes "source" ∷ codes "program"
+-- The names of the members of an object of this kind.
+abbrev pub names_of : ObjectKind → List (List ℕ)
+names_of kind.Document = codes "specifier" ∷ codes "mediaType" ∷ codes "source" ∷ codes "program"
     ∷ codes "leading" ∷ codes "trailing" ∷ []
-names_of role.Program = codes "range" ∷ codes "body" ∷ codes "shebang" ∷ []
-names_of role.CommentEntry = codes "pos" ∷ codes "comments" ∷ []
-names_of role.Comment = codes "kind" ∷ codes "range" ∷ codes "text" ∷ []
-names_of role.Literal = codes "value" ∷ codes "range" ∷ []
-names_of role.Argument = codes "range" ∷ codes "spread" ∷ []
-names_of role.Key = codes "str" ∷ codes "ident" ∷ []
-names_of (role.Node kind) = names_of_node kind.now
+names_of kind.Program = codes "range" ∷ codes "body" ∷ codes "shebang" ∷ []
+names_of kind.CommentEntry = codes "pos" ∷ codes "comments" ∷ []
+names_of kind.Comment = codes "kind" ∷ codes "range" ∷ codes "text" ∷ []
+names_of kind.Literal = codes "value" ∷ codes "range" ∷ []
+names_of kind.Argument = codes "range" ∷ codes "spread" ∷ []
+names_of kind.Key = codes "str" ∷ codes "ident" ∷ []
+names_of (kind.Node name) = names_of_node name.now

@@ -3,4 +3,5 @@ pub mod Comments
 pub mod Document
 pub mod Lookup
 pub mod ReportText
+pub mod Token
 pub mod Warned

@@ -3,7 +3,9 @@
 ghost use Rattle.serde_json.specs.Data.{string};
 ghost use Rattle.deno_graph_json.specs.ObjectReader.{readable, value_of};
 ghost use Rattle.deno_graph_json.specs.Read.Result.{IsReadResult};
-ghost use Rattle.modinfo_document.specs.Kind.{named, phases, reads_named, reads_import_decl, reads_named_export, reads_export_all, reads_import_equals, reads_import_type, reads_module_decl};
+ghost use Rattle.modinfo_document.specs.Kind.{named, phases, reads_named, reads_import_decl};
+ghost use Rattle.modinfo_document.specs.Kind.{reads_named_export, reads_export_all, reads_import_equals};
+ghost use Rattle.modinfo_document.specs.Kind.{reads_import_type, reads_module_decl};
 
 use crate::document::Document;
 use deno_graph_json::read::read_str;

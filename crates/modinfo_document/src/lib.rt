@@ -24,4 +24,4 @@ pub use document::{Document, parse_document, read_document};
 pub use error::DocumentError;
 pub use kind::KINDS;
 pub use literal::read_string;
-pub use names::{Role, member_names};
+pub use names::{ObjectKind, member_names};

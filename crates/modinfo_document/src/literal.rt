@@ -3,7 +3,8 @@
 ghost use Rattle.serde_json.specs.Data.{array};
 ghost use Rattle.deno_graph_json.specs.Data.{data_of, elements_data};
 ghost use Rattle.deno_graph_json.specs.Read.Result.{IsReadResult};
-ghost use Rattle.modinfo_document.specs.Literal.{reads_literal, reads_source_range, reads_string, reads_unit, reads_units};
+ghost use Rattle.modinfo_document.specs.Literal.{reads_literal, reads_source_range, reads_string, reads_unit};
+ghost use Rattle.modinfo_document.specs.Literal.{reads_units};
 
 use crate::document::Document;
 use deno_graph_json::read::read_items;

@@ -39,7 +39,8 @@ pub fn find_comment<'a>(
         → IsCommentAt (side_entries contents.comments side) position number
         (option_map (λ found. data_of found.value) result) }
     ensures path { IfSome result (λ found.
-        value_at (comment_path side found.entry found.number) (data_of root.entry) ≡ Some (data_of found.value)) }
+        value_at (comment_path side found.entry found.number) (data_of root.entry)
+        ≡ Some (data_of found.value)) }
 {
     let entries = root.members()?.get(member_of(side))?.elements()?;
     comment_in(entries, position, number)
@@ -47,7 +48,8 @@ pub fn find_comment<'a>(
 
 /// Like `find_comment`, among these entries.
 fn comment_in<'a>(entries: Elements<'a>, position: usize, number: usize) -> Option<FoundComment<'a>>
-    ensures comment { (read : List FiledEntry) → reads_items reads_entry (elements_data entries.entry) ≡ Some read
+    ensures comment { (read : List FiledEntry)
+        → reads_items reads_entry (elements_data entries.entry) ≡ Some read
         → IsCommentAt read position number (option_map (λ found. data_of found.value) result) }
     ensures path { IfSome result (λ found.
         value_at (Item found.number ∷ Member (codes "comments") ∷ Item found.entry ∷ [])

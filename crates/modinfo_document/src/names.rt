@@ -3,9 +3,9 @@
 ghost use Rattle.std.specs.Prelude.{◌≡◌, map};
 ghost use Rattle.modinfo_document.specs.Names.{names_of, names_of_node};
 
-/// What an object of a document describes.
+/// The kind of an object of a document.
 #[derive(Clone, Copy, Debug)]
-pub enum Role<'a> {
+pub enum ObjectKind<'a> {
     Document,
     Program,
     /// An element of `leading` or `trailing`.
@@ -23,11 +23,11 @@ pub enum Role<'a> {
 
 /// The names of the members that an object may have. A node of an unknown kind has those of every
 /// node.
-pub fn member_names(role: Role<'_>) -> &'static [&'static str]
-    ensures { map (λ name. name.now) result.now ≡ names_of role.entry }
+pub fn member_names(kind: ObjectKind<'_>) -> &'static [&'static str]
+    ensures { map (λ name. name.now) result.now ≡ names_of kind.entry }
 {
-    match role {
-        Role::Document => &[
+    match kind {
+        ObjectKind::Document => &[
             "specifier",
             "mediaType",
             "source",
@@ -35,13 +35,13 @@ pub fn member_names(role: Role<'_>) -> &'static [&'static str]
             "leading",
             "trailing",
         ],
-        Role::Program => &["range", "body", "shebang"],
-        Role::CommentEntry => &["pos", "comments"],
-        Role::Comment => &["kind", "range", "text"],
-        Role::Literal => &["value", "range"],
-        Role::Argument => &["range", "spread"],
-        Role::Key => &["str", "ident"],
-        Role::Node(kind) => member_names_of_node(kind),
+        ObjectKind::Program => &["range", "body", "shebang"],
+        ObjectKind::CommentEntry => &["pos", "comments"],
+        ObjectKind::Comment => &["kind", "range", "text"],
+        ObjectKind::Literal => &["value", "range"],
+        ObjectKind::Argument => &["range", "spread"],
+        ObjectKind::Key => &["str", "ident"],
+        ObjectKind::Node(name) => member_names_of_node(name),
     }
 }
 

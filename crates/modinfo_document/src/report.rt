@@ -7,7 +7,9 @@ ghost use Rattle.json.specs.Tree.{json_tokens};
 ghost use Rattle.deno_graph_json.specs.Object.{unless};
 ghost use Rattle.deno_graph_json.specs.Text.{text_in, with_tokens};
 ghost use Rattle.modinfo_document.specs.Report.{LetsPass, Reports};
-ghost use Rattle.modinfo_document.specs.ReportText.{json_of_count, json_of_fault, json_of_offsets, json_of_place, json_of_valid, json_of_warning, json_of_warnings, report_text};
+ghost use Rattle.modinfo_document.specs.ReportText.{json_of_count, json_of_fault, json_of_offsets};
+ghost use Rattle.modinfo_document.specs.ReportText.{json_of_place, json_of_valid, json_of_warning};
+ghost use Rattle.modinfo_document.specs.ReportText.{json_of_warnings, report_text};
 ghost use Rattle.modinfo_document.specs.internal.ReportText.{member_tokens};
 
 mod comment;

@@ -98,7 +98,7 @@ fn is_before(alloc: Global, front: &str, next: &str) -> Result<bool, AllocError>
 
 /// The state of reading a text.
 #[derive(Clone, Copy)]
-enum Place {
+enum InText {
     /// In a string.
     String,
     /// In a string, after a backslash.
@@ -110,17 +110,17 @@ enum Place {
 /// The brackets that close all that is open at the end of a beginning of JSON.
 fn missing_brackets(alloc: Global, front: &str) -> Result<String, AllocError> {
     let mut open = Vec::new(alloc);
-    let mut place = Place::Outside;
+    let mut state = InText::Outside;
     for byte in front.as_bytes() {
-        place = match (place, *byte) {
-            (Place::Outside, b'"') => Place::String,
-            (Place::Outside, bracket) => {
+        state = match (state, *byte) {
+            (InText::Outside, b'"') => InText::String,
+            (InText::Outside, bracket) => {
                 note_bracket(&mut open, bracket)?;
-                Place::Outside
+                InText::Outside
             }
-            (Place::String, b'"') => Place::Outside,
-            (Place::String, b'\\') => Place::Escape,
-            (Place::String | Place::Escape, _) => Place::String,
+            (InText::String, b'"') => InText::Outside,
+            (InText::String, b'\\') => InText::Escape,
+            (InText::String | InText::Escape, _) => InText::String,
         };
     }
     let mut missing = String::new(alloc);

@@ -8,7 +8,8 @@ ghost use Rattle.deno_graph_json.specs.declared.error.Step.{Step};
 ghost use Rattle.deno_graph_source.specs.FaultPlace.{comment_at};
 ghost use Rattle.deno_graph_source.specs.Node.{kind_of};
 ghost use Rattle.deno_graph_source.specs.NodePath.{node_at, node_below};
-ghost use Rattle.modinfo_document.specs.Place.{literal_member, node_path, part_path, part_range, program_path, range_at, range_in};
+ghost use Rattle.modinfo_document.specs.Place.{literal_member, node_path, part_path, part_range};
+ghost use Rattle.modinfo_document.specs.Place.{program_path, range_at, range_in};
 ghost use Rattle.modinfo_document.specs.Pointer.{pointer_text};
 
 use crate::document::Document;
@@ -96,8 +97,8 @@ pub fn part_pointer(
     node: &Node,
     part: NodePart,
 ) -> Result<String, AllocError>
-    ensures { IfOk result
-        (λ pointer. string_bytes pointer ≡ pointer_text (part_path (kind_of node.now) part (node_path path.now))) }
+    ensures { IfOk result (λ pointer. string_bytes pointer
+        ≡ pointer_text (part_path (kind_of node.now) part (node_path path.now))) }
 {
     let mut pointer = node_pointer(alloc, path)?;
     push_part(&mut pointer, &node.kind, part)?;

@@ -115,7 +115,8 @@ fn other_pointer(
 /// The pointer of the range of the value with this pointer.
 fn range_pointer(pointer: Option<String>) -> Result<Option<String>, AllocError>
     ensures { (path : List Step) → IsSomeAnd pointer (λ text. string_bytes text ≡ pointer_text path)
-        → IfOk result (λ of_range. IsSomeAnd of_range (λ text. string_bytes text ≡ pointer_text (range_in path))) }
+        → IfOk result (λ of_range. IsSomeAnd of_range
+        (λ text. string_bytes text ≡ pointer_text (range_in path))) }
 {
     let Some(mut pointer) = pointer else {
         return Ok(None);

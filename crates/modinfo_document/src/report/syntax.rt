@@ -18,7 +18,7 @@ pub fn json_report_at(alloc: Global, text: &str, start: usize) -> Result<FaultRe
     ensures place { IfOk result (HasJsonPlace text.now) }
 {
     let start = start.min(text.len());
-    let offset = invalid_byte(text, start).max(start);
+    let offset = invalid_byte(text, start);
     let fault = String::from_str(alloc, DocumentError::Json { offset }.name())?;
     let expected = String::from_str(alloc, expected_json(alloc, text, start)?)?;
     Ok(FaultReport::of_text(fault, TextPlace::new(text, offset), expected))

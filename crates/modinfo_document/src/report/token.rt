@@ -1,34 +1,42 @@
 //! Finding the first invalid byte of a token of JSON (RFC 8259).
 
+ghost use Rattle.std.specs.Prelude.{◌<◌, ◌≤◌, length};
+ghost use Rattle.modinfo_document.specs.internal.Token.{FindsFrom, IsFrom};
+
 /// The offset of the first invalid byte of a text whose token at `start` is invalid: a byte in the
 /// token, or after a name without a colon; `start` if the whole token is misplaced.
-pub fn invalid_byte(text: &str, start: usize) -> usize {
-    let bytes = text.as_bytes();
-    let end = match bytes.get(start) {
-        Some(b'"') => string_end(bytes, start).map(|end| after_string(bytes, start, end)),
-        Some(b'-' | b'0'..=b'9') => number_end(bytes, start).map(|end| after_word(
-            bytes, start, end,
-        )),
-        Some(b't') => word_end(bytes, start, b"true").map(|end| after_word(bytes, start, end)),
-        Some(b'f') => word_end(bytes, start, b"false").map(|end| after_word(bytes, start, end)),
-        Some(b'n') => word_end(bytes, start, b"null").map(|end| after_word(bytes, start, end)),
-        _ => Ok(start),
-    };
-    match end {
+pub fn invalid_byte(text: &str, start: usize) -> usize
+    ensures { start ≤ length text.now → IsFrom start (length text.now) result }
+{
+    match invalid_in(text.as_bytes(), start) {
         Ok(offset) | Err(offset) => offset,
+    }
+}
+
+/// Like `invalid_byte`: `Err` if the byte is in the token.
+fn invalid_in(bytes: &[u8], start: usize) -> Result<usize, usize>
+    ensures { start ≤ length bytes.now → FindsFrom start (length bytes.now) result }
+{
+    match bytes.get(start) {
+        Some(b'"') => Ok(after_string(bytes, start, string_end(bytes, start)?)),
+        Some(b'-' | b'0'..=b'9') => Ok(after_word(bytes, start, number_end(bytes, start)?)),
+        Some(b't') => Ok(after_word(bytes, start, word_end(bytes, start, b"true")?)),
+        Some(b'f') => Ok(after_word(bytes, start, word_end(bytes, start, b"false")?)),
+        Some(b'n') => Ok(after_word(bytes, start, word_end(bytes, start, b"null")?)),
+        _ => Ok(start),
     }
 }
 
 /// The offset of the invalid byte, for a string that ends at `end`: after the string if that is a name,
 /// else the start of the string.
-fn after_string(bytes: &[u8], start: usize, end: usize) -> usize {
-    let before = bytes.get(..start).unwrap_or(&[]);
-    let string = bytes.get(start..end).unwrap_or(&[]);
-    let previous = before.iter().rev().find(|byte| !is_space(**byte));
-    if matches!(previous, Some(b'{' | b',')) && !string.contains(&b'\\') {
-        let after = bytes.get(end..).unwrap_or(&[]);
-        let spaces = after.iter().position(|byte| !is_space(*byte));
-        end.saturating_add(spaces.unwrap_or(after.len()))
+fn after_string(bytes: &[u8], start: usize, end: usize) -> usize
+    requires { IsFrom start (length bytes.now) end }
+    ensures { IsFrom start (length bytes.now) result }
+{
+    let previous = bytes[..start].iter().rev().find(|byte| !is_space(**byte));
+    if matches!(previous, Some(b'{' | b',')) && !bytes[start..end].contains(&b'\\') {
+        let spaces = bytes[end..].iter().position(|byte| !is_space(*byte));
+        end + spaces.unwrap_or(bytes.len() - end)
     } else {
         start
     }
@@ -36,7 +44,10 @@ fn after_string(bytes: &[u8], start: usize, end: usize) -> usize {
 
 /// The offset of the invalid byte, for a number or a word that ends at `end`: `end` if the byte there
 /// continues the token, else the start of the token.
-fn after_word(bytes: &[u8], start: usize, end: usize) -> usize {
+fn after_word(bytes: &[u8], start: usize, end: usize) -> usize
+    requires { IsFrom start (length bytes.now) end }
+    ensures { IsFrom start (length bytes.now) result }
+{
     match bytes.get(end) {
         Some(b'0'..=b'9' | b'a'..=b'z' | b'A'..=b'Z' | b'.' | b'+' | b'-' | b'_') => end,
         _ => start,
@@ -58,13 +69,14 @@ enum InString {
 }
 
 /// The end of the string that starts with the quote at `start`, or the offset of the first invalid byte.
-fn string_end(bytes: &[u8], start: usize) -> Result<usize, usize> {
+fn string_end(bytes: &[u8], start: usize) -> Result<usize, usize>
+    requires { start < length bytes.now }
+    ensures { FindsFrom start (length bytes.now) result }
+{
     let mut state = InString::Plain;
-    let inside = start.saturating_add(1);
-    for (passed, byte) in bytes.get(inside..).unwrap_or(&[]).iter().enumerate() {
-        let at = inside.saturating_add(passed);
-        state = match (state, *byte) {
-            (InString::Plain, b'"') => return Ok(at.saturating_add(1)),
+    for at in start + 1..bytes.len() {
+        state = match (state, bytes[at]) {
+            (InString::Plain, b'"') => return Ok(at + 1),
             (InString::Plain, b'\\') => InString::Escape,
             (InString::Plain, b' '..) => InString::Plain,
             (InString::Escape, b'u') => InString::Digits(4),
@@ -82,19 +94,22 @@ fn string_end(bytes: &[u8], start: usize) -> Result<usize, usize> {
 }
 
 /// The end of the number that starts at `start`, or the offset of the first invalid byte.
-fn number_end(bytes: &[u8], start: usize) -> Result<usize, usize> {
+fn number_end(bytes: &[u8], start: usize) -> Result<usize, usize>
+    requires { start ≤ length bytes.now }
+    ensures { FindsFrom start (length bytes.now) result }
+{
     let whole = after_one_of(bytes, start, b"-");
     let point = match bytes.get(whole) {
-        Some(b'0') => whole.saturating_add(1),
+        Some(b'0') => whole + 1,
         _ => digits_end(bytes, whole)?,
     };
     let exponent = match bytes.get(point) {
-        Some(b'.') => digits_end(bytes, point.saturating_add(1))?,
+        Some(b'.') => digits_end(bytes, point + 1)?,
         _ => point,
     };
     match bytes.get(exponent) {
         Some(b'e' | b'E') => {
-            let digits = after_one_of(bytes, exponent.saturating_add(1), b"+-");
+            let digits = after_one_of(bytes, exponent + 1, b"+-");
             digits_end(bytes, digits)
         }
         _ => Ok(exponent),
@@ -102,34 +117,40 @@ fn number_end(bytes: &[u8], start: usize) -> Result<usize, usize> {
 }
 
 /// The end of the digits at `start`, or `start` as the offset of the invalid byte if there are none.
-fn digits_end(bytes: &[u8], start: usize) -> Result<usize, usize> {
-    let rest = bytes.get(start..).unwrap_or(&[]);
-    let digits = rest
-        .iter()
-        .position(|byte| !byte.is_ascii_digit())
-        .unwrap_or(rest.len());
-    if digits == 0 {
-        return Err(start);
+fn digits_end(bytes: &[u8], start: usize) -> Result<usize, usize>
+    requires { start ≤ length bytes.now }
+    ensures { FindsFrom start (length bytes.now) result }
+{
+    let rest = &bytes[start..];
+    let digits = rest.iter().position(|byte| !byte.is_ascii_digit());
+    match digits.unwrap_or(rest.len()) {
+        0 => Err(start),
+        count => Ok(start + count),
     }
-    Ok(start.saturating_add(digits))
 }
 
 /// The offset after the byte at `at` if that is one of `these`, else `at`.
-fn after_one_of(bytes: &[u8], at: usize, these: &[u8]) -> usize {
+fn after_one_of(bytes: &[u8], at: usize, these: &[u8]) -> usize
+    requires { at ≤ length bytes.now }
+    ensures { IsFrom at (length bytes.now) result }
+{
     match bytes.get(at) {
-        Some(byte) if these.contains(byte) => at.saturating_add(1),
+        Some(byte) if these.contains(byte) => at + 1,
         _ => at,
     }
 }
 
 /// The end of the word that starts at `start`, or the offset of the first invalid byte.
-fn word_end(bytes: &[u8], start: usize, word: &[u8]) -> Result<usize, usize> {
+fn word_end(bytes: &[u8], start: usize, word: &[u8]) -> Result<usize, usize>
+    requires { start ≤ length bytes.now }
+    ensures { FindsFrom start (length bytes.now) result }
+{
     let mut at = start;
     for letter in word {
         if bytes.get(at) != Some(letter) {
             return Err(at);
         }
-        at = at.saturating_add(1);
+        at += 1;
     }
     Ok(at)
 }

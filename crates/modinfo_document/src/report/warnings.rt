@@ -8,7 +8,7 @@ use crate::lookup::{elements, member};
 use crate::report::pointer::pointer_to;
 use crate::report::spelling::warn_of_literals;
 use crate::report::warning::{MAX_KEPT, ValueWarning, Warning, WarningKind, Warnings};
-use crate::{Document, Role, member_names};
+use crate::{Document, ObjectKind, member_names};
 use deno_graph_json::{Element, ReferenceToken};
 use std::alloc::{AllocError, Global};
 use std::marker::Model;
@@ -104,7 +104,7 @@ fn warn_of_values(
 
 impl<'a> Survey<'a> {
     fn document(&mut self, root: Element<'a>) -> Result<(), AllocError> {
-        self.members(root, Role::Document)?;
+        self.members(root, ObjectKind::Document)?;
         self.entries(root, "leading")?;
         self.entries(root, "trailing")?;
         match member(root, "program") {
@@ -115,7 +115,7 @@ impl<'a> Survey<'a> {
 
     fn program(&mut self, program: Element<'a>) -> Result<(), AllocError> {
         self.enter("program")?;
-        self.members(program, Role::Program)?;
+        self.members(program, ObjectKind::Program)?;
         self.nodes(program, "body")
     }
 
@@ -153,12 +153,12 @@ impl<'a> Survey<'a> {
     }
 
     /// Warns about the members of an object that nothing reads.
-    fn members(&mut self, value: Element<'a>, role: Role<'_>) -> Result<(), AllocError> {
+    fn members(&mut self, value: Element<'a>, kind: ObjectKind<'_>) -> Result<(), AllocError> {
         let Some(members) = value.members() else {
             return Ok(());
         };
         for (name, _) in members {
-            if !is_read(role, name) {
+            if !is_read(kind, name) {
                 self.warn_at(name, ValueWarning::UnreadMember)?;
             }
         }
@@ -174,9 +174,9 @@ impl<'a> Survey<'a> {
         let mut number = 0usize;
         for entry in entries {
             self.enter_item(number)?;
-            self.members(entry, Role::CommentEntry)?;
+            self.members(entry, ObjectKind::CommentEntry)?;
             self.position(entry)?;
-            self.each(entry, "comments", Role::Comment)?;
+            self.each(entry, "comments", ObjectKind::Comment)?;
             self.leave();
             number = number.saturating_add(1);
         }
@@ -189,7 +189,7 @@ impl<'a> Survey<'a> {
         &mut self,
         value: Element<'a>,
         name: &'a str,
-        role: Role<'_>,
+        kind: ObjectKind<'_>,
     ) -> Result<(), AllocError> {
         let Some(values) = elements(value, name) else {
             return Ok(());
@@ -198,7 +198,7 @@ impl<'a> Survey<'a> {
         let mut number = 0usize;
         for value in values {
             self.enter_item(number)?;
-            self.members(value, role)?;
+            self.members(value, kind)?;
             self.leave();
             number = number.saturating_add(1);
         }
@@ -253,7 +253,7 @@ impl<'a> Survey<'a> {
     #[cycle(walk)]
     fn node(&mut self, node: Element<'a>) -> Result<(), AllocError> {
         let kind = member(node, "kind").and_then(|kind| kind.as_str());
-        self.members(node, Role::Node(kind.unwrap_or("Other")))?;
+        self.members(node, ObjectKind::Node(kind.unwrap_or("Other")))?;
         self.parts(node)?;
         self.nodes(node, "children")
     }
@@ -262,13 +262,13 @@ impl<'a> Survey<'a> {
     fn parts(&mut self, node: Element<'a>) -> Result<(), AllocError> {
         if let Some((name, literal)) = literal_of(node) {
             self.enter(name)?;
-            self.members(literal, Role::Literal)?;
+            self.members(literal, ObjectKind::Literal)?;
             self.leave();
         }
-        self.each(node, "args", Role::Argument)?;
+        self.each(node, "args", ObjectKind::Argument)?;
         if let Some(key) = member(node, "key") {
             self.enter("key")?;
-            self.members(key, Role::Key)?;
+            self.members(key, ObjectKind::Key)?;
             self.leave();
         }
         Ok(())
@@ -276,8 +276,8 @@ impl<'a> Survey<'a> {
 }
 
 /// Whether an object may have a member of this name.
-fn is_read(role: Role<'_>, name: &str) -> bool {
-    member_names(role).iter().any(|member| *member == name)
+fn is_read(kind: ObjectKind<'_>, name: &str) -> bool {
+    member_names(kind).iter().any(|member| *member == name)
 }
 
 /// The offsets of the last member `range`, in bytes; `(0, 0)` if there is none.

@@ -2,7 +2,7 @@
 
 use deno_graph_json::{Element, Tape};
 use json::Scratch;
-use modinfo::document::{KINDS, Role, member_names, parse_document};
+use modinfo::document::{KINDS, ObjectKind, member_names, parse_document};
 use std::process::Abort;
 
 /// A document whose objects have all members that are read, each with a value other than the default.
@@ -81,15 +81,15 @@ fn each_member_is_known(rt: HostRuntime) {
     let mut scratch = Scratch::new(rt.alloc());
     let tape = Tape::read(rt.alloc(), DOCUMENT, &mut scratch).expect(&rt, "it is JSON");
     let root = Some(tape.root());
-    assert_members(&rt, Role::Document, root);
+    assert_members(&rt, ObjectKind::Document, root);
     for name in ["leading", "trailing"] {
         let entry = member(root, name).and_then(first);
-        assert_members(&rt, Role::CommentEntry, entry);
+        assert_members(&rt, ObjectKind::CommentEntry, entry);
         let comment = member(entry, "comments").and_then(first);
-        assert_members(&rt, Role::Comment, comment);
+        assert_members(&rt, ObjectKind::Comment, comment);
     }
     let program = member(root, "program");
-    assert_members(&rt, Role::Program, program);
+    assert_members(&rt, ObjectKind::Program, program);
     let body = member(program, "body").and_then(|body| body.elements());
     let Some(nodes) = body else {
         panic!(rt; "there is no body");
@@ -105,41 +105,41 @@ fn assert_node(rt: &impl Abort, node: Option<Element<'_>>) {
     let kind = member(node, "kind").and_then(|kind| kind.as_str());
     let kind = kind.unwrap_or("");
     assert!(rt; KINDS.iter().any(|name| *name == kind), "the kind {kind}");
-    assert_members(rt, Role::Node(kind), node);
+    assert_members(rt, ObjectKind::Node(kind), node);
     for name in ["src", "external", "arg", "name"] {
         if let Some(literal) = member(node, name) {
-            assert_members(rt, Role::Literal, Some(literal));
+            assert_members(rt, ObjectKind::Literal, Some(literal));
         }
     }
     if let Some(args) = member(node, "args") {
-        assert_members(rt, Role::Argument, first(args));
+        assert_members(rt, ObjectKind::Argument, first(args));
     }
     if let Some(key) = member(node, "key") {
-        assert_named(rt, Role::Key, key);
+        assert_named(rt, ObjectKind::Key, key);
     }
 }
 
-/// An object with each member of its role, and no other.
-fn assert_members(rt: &impl Abort, role: Role<'_>, object: Option<Element<'_>>) {
+/// An object with each member of its kind, and no other.
+fn assert_members(rt: &impl Abort, kind: ObjectKind<'_>, object: Option<Element<'_>>) {
     let Some(object) = object else {
-        panic!(rt; "{role:?} isn't there");
+        panic!(rt; "{kind:?} isn't there");
     };
-    for name in member_names(role) {
+    for name in member_names(kind) {
         assert!(rt;
             member(Some(object), name).is_some(),
-            "{role:?} has no {name}"
+            "{kind:?} has no {name}"
         );
     }
-    assert_named(rt, role, object);
+    assert_named(rt, kind, object);
 }
 
-fn assert_named(rt: &impl Abort, role: Role<'_>, object: Element<'_>) {
+fn assert_named(rt: &impl Abort, kind: ObjectKind<'_>, object: Element<'_>) {
     let Some(members) = object.members() else {
-        panic!(rt; "{role:?} is no object");
+        panic!(rt; "{kind:?} is no object");
     };
     for (name, _) in members {
-        let is_named = member_names(role).iter().any(|member| *member == name);
-        assert!(rt; is_named, "{role:?} has {name}");
+        let is_named = member_names(kind).iter().any(|member| *member == name);
+        assert!(rt; is_named, "{kind:?} has {name}");
     }
 }
 
