@@ -8,8 +8,8 @@
  * has both for C++, with strings.
  *
  * modinfo_run reads one JSON document of a command, and writes its answer; the answer of a check is a report on
- * the document. Each command also has a function of its own. modinfo_run_lines does a command for each line of
- * a text. Nothing is kept between calls, and nothing is printed.
+ * the document. Each command also has a function of its own; those on a source text take its parts.
+ * modinfo_run_lines does a command for each line of a text. Nothing is kept between calls, and nothing is printed.
  *
  *     document         the document, in UTF-8
  *     document_length  its length in bytes; no zero byte is needed after it
@@ -76,7 +76,8 @@
  *                       leads to the first of the two comments. With Input and Json there is no
  *                       pointer, but "at":{"line":N,"column":N,"offset":N}: where the document stops
  *                       being UTF-8, or the first token that can't be read goes wrong, in lines and
- *                       characters from zero, and in bytes. In a report of modinfo_check_estree on
+ *                       characters from zero, and in bytes. With Syntax "pointer" leads to the source
+ *                       text, and "at" is a place in it. In a report of modinfo_check_estree on
  *                       a fault from RangeReversed to Shape there is no pointer and no "other".
  *
  * A POINTER is a JSON Pointer (RFC 6901) into the document. The pointer to the whole document is empty.
@@ -149,7 +150,7 @@ enum {
  * is that of the header. */
 uint32_t modinfo_version(void);
 
-/* Runs a command, by its number, on a document: what the function of the command does. Returns MODINFO_NO_COMMAND
+/* Runs a command, by its number, on a document, as the program does. Returns MODINFO_NO_COMMAND
  * where no command has this number. */
 uint8_t modinfo_run(uint8_t command, const uint8_t *document, size_t document_length,
                     uint8_t *answer, size_t room, size_t *length) MODINFO_NONNULL;

@@ -58,6 +58,7 @@ use Rattle.deno_graph_source.specs.declared.tree.node.Kind.TheVariants.{
 use Rattle.deno_graph_source.specs.declared.tree.node.Node.{Node}
 use Rattle.deno_graph_source.specs.declared.tree.node.Program.{Program}
 use Rattle.modinfo_document.specs.Comments.{reads_comment, side_name}
+use Rattle.modinfo_document.specs.Node.{reads_node}
 use Rattle.modinfo_document.specs.Pointer.{pointer_text}
 
 -- The range of a part of a node; for its children, the node's.
@@ -95,6 +96,10 @@ path_below path (index ∷ indices) = path_below (Item index ∷ Member (codes "
 abbrev pub node_path : NodePath → List Step
 node_path [] = program_path
 node_path (index ∷ indices) = path_below (Item index ∷ Member (codes "body") ∷ program_path) indices
+
+-- The path leads to the value that the node was read from.
+abbrev pub LeadsToNode : Data → List Step → Node → Type 0
+LeadsToNode value path node = (value_at path value >>= reads_node) ≡ Some node
 
 -- The name of the member with the string literal, for the kinds that may have one.
 abbrev pub literal_member : Kind → List ℕ

@@ -42,13 +42,15 @@ pub(crate) use warnings::find_warnings;
 pub struct FaultReport {
     /// The name of the fault, as the program prints it.
     pub fault: String,
-    /// The JSON Pointer of the faulty value. `None` for `Json` and `Input`.
+    /// The JSON Pointer of the faulty value. `None` for `Json` and `Input`, and for a fault of the source that
+    /// a parser's tree has.
     pub pointer: Option<String>,
     /// The JSON Pointer of the other value, if two values don't go together.
     pub other: Option<String>,
     /// The faulty range, or the range of the faulty node or comment: two offsets in bytes.
     pub range: Option<SourceRange>,
-    /// For `Json` and `Input`: the place of the first byte that isn't JSON or UTF-8.
+    /// For `Json` and `Input`: the place of the first byte that isn't JSON or UTF-8. For `Syntax`: the place in
+    /// the source text.
     pub at: Option<TextPlace>,
     /// What is expected in place of the value or the byte, in words.
     pub expected: String,

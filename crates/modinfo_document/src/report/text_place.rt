@@ -3,7 +3,7 @@ ghost use Rattle.modinfo_document.specs.Report.{IsPlaceIn};
 
 use deno_graph_source::text::Position;
 
-/// A boundary of the text of a document: its position, and the number of bytes before it.
+/// A boundary of a text: its position, and the number of bytes before it.
 #[derive(Debug, Clone, Copy, PartialEq, Eq)]
 pub struct TextPlace {
     pub position: Position,

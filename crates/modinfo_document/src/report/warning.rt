@@ -80,7 +80,7 @@ pub struct Warning {
     pub kind: WarningKind,
 }
 
-/// The warnings about a document, in the order of reading.
+/// The warnings about a document: those about string literals after all others, each in the order of reading.
 #[derive(Debug, PartialEq, Eq, Drop)]
 pub struct Warnings {
     /// The first 100 warnings.
