@@ -1,4 +1,5 @@
 mod CommandWords
+mod EncodedBytes
 pub mod Faults
 mod LinesSplit
 mod LinesTaken

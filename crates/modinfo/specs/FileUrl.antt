@@ -1,7 +1,8 @@
 -- The URLs of files.
-use Rattle.std.specs.Prelude.{◌≡◌, ◌==◌, ◌++◌, ℕ, List, [], ◌∷◌, codes, Bool, false, None, Err, if◌then◌else◌}
-use Rattle.percent_encoding.specs.Percent.{percent_encode}
-use Rattle.percent_encoding.specs.declared.ascii_set.AsciiSet.{AsciiSet}
+use Rattle.std.specs.Prelude.{◌≡◌, ◌==◌, ◌++◌, ◌||◌, ◌&&◌, ℕ, List, [], ◌∷◌, codes, Bool, false, None, Err, if◌then◌else◌}
+use Rattle.std.specs.Char.{is_ascii, is_ascii_alphanumeric}
+use Rattle.std.specs.List.{flat_map, list_any}
+use Rattle.percent_encoding.specs.Percent.{percent_encode_byte}
 use Rattle.url.specs.Parser.{parse_url}
 use Rattle.url.specs.declared.error.ParseError.{ParseError}
 use Rattle.modinfo.specs.declared.fault.Fault.{Fault}
@@ -12,11 +13,19 @@ abbrev pub is_absolute : List ℕ → Bool
 is_absolute [] = false
 is_absolute (byte ∷ bytes) = byte == 47
 
--- The text of the URL of a path, in which the characters of a set are percent-encoded. A relative path begins
--- in the folder.
-abbrev pub file_text : AsciiSet → List ℕ → List ℕ → List ℕ
-file_text set folder path = codes "file://"
-    ++ (if is_absolute path then [] else percent_encode set folder ++ codes "/") ++ percent_encode set path
+-- The byte stands for itself in the path of a URL (RFC 3986, section 3.3), or is the slash.
+unfoldable pub is_kept : ℕ → Bool
+is_kept byte = is_ascii byte
+    && (is_ascii_alphanumeric byte || list_any (λ kept. kept == byte) (codes "/-._~!$&'()*+,;=:@"))
+
+-- A byte of a path in its URL: itself, or a percent sign and two hexadecimal digits.
+abbrev pub encoded_byte : ℕ → List ℕ
+encoded_byte byte = if is_kept byte then byte ∷ [] else percent_encode_byte byte
+
+-- The text of the URL of a path. A relative path begins in the folder.
+abbrev pub file_text : List ℕ → List ℕ → List ℕ
+file_text folder path = codes "file://"
+    ++ (if is_absolute path then [] else flat_map encoded_byte folder ++ codes "/") ++ flat_map encoded_byte path
 
 -- Why a text isn't parsed: it is no URL, or an allocation failed.
 abbrev pub IsNoUrl : List ℕ → Fault → Type 0
