@@ -9,7 +9,7 @@ from formats.language import GENERATED
 # A path, a name and the lines of a block. It is between two comments with the name; in Rattle, which `rt fmt` lays out,
 # after the code that is the name.
 Block = tuple[str, str, list[str]]
-END_IN_RATTLE = r";|\n +Role::|\n    }"
+END_IN_RATTLE = r";|\n +ObjectKind::|\n    }"
 
 
 def with_block(text: str, block: Block) -> str:

@@ -14,7 +14,7 @@ def blocks(document: Format, _: Format, __: Format) -> Iterator[Block]:
     yield f"{CRATE}/kind.rt", "KINDS: &[&str] =", [f"&{json.dumps([*kinds])}"]
     roles = {each["x-rattle"]: [*each["properties"]] for each in document.titled() if "x-rattle" in each}
     for role in roles:
-        yield f"{CRATE}/names.rt", f"Role::{role} =>", [f"&{json.dumps(roles[role])},"]
+        yield f"{CRATE}/names.rt", f"ObjectKind::{role} =>", [f"&{json.dumps(roles[role])},"]
     members = {kind: f"&{json.dumps([*kinds[kind]])}" for kind in kinds}
     yield f"{CRATE}/names.rt", "match kind {", arms(members)
     literal = dict.fromkeys(kinds, "None")

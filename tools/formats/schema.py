@@ -1,7 +1,7 @@
 """The JSON schemas in docs/, as tools/generate_formats reads them. Besides the keywords of JSON Schema:
 
 - `title` names a type. `x-typescript`, `x-python` and `x-rust` are its name in one language, or null without
-  a type there. `x-rattle` is its `Role` in Rattle.
+  a type there. `x-rattle` is its `ObjectKind` in Rattle.
 - `x-name` names a part of a tuple, `x-variants` the variants of an enum in Rust, `x-none` that of a missing
   member, and `x-rust` in a member without a title its field. An object repeats the members of `x-extends`.
 - `x-values` says what each value of an `enum` means.

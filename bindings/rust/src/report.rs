@@ -21,7 +21,8 @@ pub struct ReportWarning {
 pub struct ValidReport {
     /// Always true.
     pub valid: bool,
-    /// What may not be what its author meant: the first 100, in the order of the document.
+    /// What may not be what its author meant: the first 100, those about string literals after all
+    /// others.
     #[serde(default, skip_serializing_if = "is_default")]
     pub warnings: Vec<ReportWarning>,
     /// How many more warnings there are.

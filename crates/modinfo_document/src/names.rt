@@ -23,10 +23,10 @@ pub enum ObjectKind<'a> {
 
 /// The names of the members that an object may have. A node of an unknown kind has those of every
 /// node.
-pub fn member_names(kind: ObjectKind<'_>) -> &'static [&'static str]
-    ensures { map (λ name. name.now) result.now ≡ names_of kind.entry }
+pub fn member_names(object: ObjectKind<'_>) -> &'static [&'static str]
+    ensures { map (λ name. name.now) result.now ≡ names_of object.entry }
 {
-    match kind {
+    match object {
         ObjectKind::Document => &[
             "specifier",
             "mediaType",

@@ -17,7 +17,8 @@ export interface ValidReport {
   valid: true;
   /** Never there. */
   fault?: never;
-  /** What may not be what its author meant: the first 100, in the order of the document. */
+  /** What may not be what its author meant: the first 100, those about string literals after all
+   * others. */
   warnings?: ReportWarning[];
   /** How many more warnings there are. */
   more?: number;

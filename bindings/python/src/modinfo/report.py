@@ -23,7 +23,7 @@ class ValidReport(TypedDict):
     # Always true.
     valid: Literal[True]
 
-    # What may not be what its author meant: the first 100, in the order of the document.
+    # What may not be what its author meant: the first 100, those about string literals after all others.
     warnings: NotRequired[list[ReportWarning]]
 
     # How many more warnings there are.
