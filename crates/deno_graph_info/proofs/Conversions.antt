@@ -1,13 +1,15 @@
 -- Conversion of the dependencies one by one, and conversion of a converted value.
-use Rattle.std.proofs.Common.{◌≡◌, ℕ, codes, List, [], ◌∷◌, ◌++◌, map, Option, Some, None, option_map, IsSome}
-use Rattle.std.proofs.Common.{IfSome, Result, Ok, Err, OnOk, OnErr, String, Global, string_bytes, string_cmp}
-use Rattle.std.proofs.Common.{true≢false, inl, inr, refl, sym, ap, subst, ◌∙◌}
-use Rattle.std.proofs.lemmas.List.{append_assoc, map-append}
+use Rattle.std.proofs.Common.{◌≡◌, ◌+◌, ◌<◌, ℕ, zero, suc, codes, false, List, [], ◌∷◌, ◌++◌, length, get_or, take}
+use Rattle.std.proofs.Common.{map, Option, Some, None, option_map, IsSome, Result, Ok, Err, OnOk, OnErr, IfErr}
+use Rattle.std.proofs.Common.{IsErrAnd, String, Global, string_bytes, string_cmp, true≢false, inl, inr, refl}
+use Rattle.std.proofs.Common.{sym, ap, subst, ◌∙◌, arith}
+use Rattle.std.proofs.lemmas.List.{map-append, map_more}
+use Rattle.std.proofs.lemmas.Option.{none-some}
+use Rattle.std.proofs.lemmas.Result.{err_from_is_err_and}
 use Rattle.std.specs.BTreeMap.{insert_entry}
 use Rattle.std.specs.Map.{lookup}
 use Rattle.serde_json.proofs.Views.{get_member-put, members_view-insert_entry, view-lookup}
 use Rattle.serde_json.specs.Data.{
-  Members,
   Data,
   null,
   boolean,
@@ -20,12 +22,14 @@ use Rattle.serde_json.specs.Data.{
   item,
   put,
 }
-use Rattle.serde_json.specs.Find.{as_array, get_member}
+use Rattle.serde_json.specs.Find.{as_array, get, get_member}
 use Rattle.serde_json.specs.View.{view, items_of, items_view, members_view}
+use Rattle.serde_json.specs.Written.{has_float}
 use Rattle.serde_json.specs.declared.value.Value.{Value}
 use Rattle.deno_graph_json.specs.Read.Partial.{◌>>=◌, member_at, reads_array}
 use Rattle.deno_graph_info.specs.declared.analysis.specifier_with_range.SpecifierWithRange.{SpecifierWithRange}
 use Rattle.deno_graph_info.proofs.MembersLemmas.{TextEntry, has_key, get_member-without, put_again}
+use Rattle.deno_graph_info.proofs.NamedMembers.{dependencies_named}
 use Rattle.deno_graph_info.specs.Comment.{reads_stored_comment}
 use Rattle.deno_graph_info.specs.Conversion.{
   with_value_at,
@@ -37,10 +41,18 @@ use Rattle.deno_graph_info.specs.Conversion.{
   DependencyOverflows,
   AreConverted,
   IsConverted,
+  IsConvertFault,
   AnyOverflows,
 }
 use Rattle.deno_graph_info.specs.Types.{AreTypes}
 use Rattle.deno_graph_info.specs.declared.conversion.comment.Comment.{Comment}
+use Rattle.deno_graph_info.specs.declared.conversion.fault.ConvertFault.{ConvertFault}
+use Rattle.deno_graph_info.specs.declared.conversion.fault.ConvertFault.TheVariants.{
+  ColumnOverflow,
+  Float,
+  OutOfMemory,
+}
+use Rattle.deno_graph_info.specs.internal.ConvertFault.{IsColumnFault}
 
 -- ---- one by one
 
@@ -52,91 +64,67 @@ AreConverted-push (x ∷ ds) [] d e so_far h = absurd so_far
 AreConverted-push (x ∷ ds) (y ∷ es) d e so_far h = (so_far.0, AreConverted-push ds es d e so_far.1 h)
 
 -- after one more dependency
-pub converted_more : (passed new newer : List Value) (v w : Value)
-    → AreConverted (items_view passed) (items_view new) → IsConvertedDependency (view v) (view w)
-    → newer ≡ new ++ w ∷ [] → AreConverted (items_view (passed ++ v ∷ [])) (items_view newer)
-converted_more passed new newer v w so_far h pushed =
+pub converted_more : (all new newer : List Value) (i : ℕ) (v w : Value) → i < length all → v ≡ get_or all i v
+    → AreConverted (items_view (take i all)) (items_view new) → IsConvertedDependency (view v) (view w)
+    → newer ≡ new ++ w ∷ [] → AreConverted (items_view (take (i + 1) all)) (items_view newer)
+converted_more all new newer i v w in_all is so_far h pushed =
+    let passed : map view (take (i + 1) all) ≡ map view (take i all) ++ view v ∷ [] =
+    map_more view all i v in_all ∙ ap (λ x. map view (take i all) ++ view x ∷ []) (sym is) in
     let made : map view newer ≡ map view new ++ view w ∷ [] =
     ap (map view) pushed ∙ map-append view new (w ∷ []) in
-    rw (map-append view passed (v ∷ []), made)
-    (AreConverted-push (map view passed) (map view new) (view v) (view w) so_far h)
-
--- after one more value
-pub passed_more : {A : Type 0} (all passed rest left : List A) (x : A) → all ≡ passed ++ rest
-    → rest ≡ x ∷ left → all ≡ (passed ++ x ∷ []) ++ left
-passed_more all passed rest left x so_far next =
-    so_far ∙ ap (λ r. passed ++ r) next ∙ sym (append_assoc passed (x ∷ []) left)
+    subst (λ ds. AreConverted (items_of ds) (items_view newer)) (sym passed)
+    (subst (λ es. AreConverted (items_of (map view (take i all) ++ view v ∷ [])) (items_of es)) (sym made)
+    (AreConverted-push (map view (take i all)) (map view new) (view v) (view w) so_far h))
 
 -- a dependency that overflows is one of all
-pub overflow_among : (passed : List Value) (v : Value) (rest : List Value) → DependencyOverflows (view v)
-    → AnyOverflows (items_view (passed ++ v ∷ rest))
-overflow_among [] v rest h = inl h
-overflow_among (x ∷ passed) v rest h = inr (overflow_among passed v rest h)
+pub overflow_among : (all : List Value) (i : ℕ) (v : Value) → i < length all → v ≡ get_or all i v
+    → DependencyOverflows (view v) → AnyOverflows (items_view all)
+overflow_among [] i v in_all is h = absurd (omega (arith, in_all))
+overflow_among (x ∷ all) zero v in_all is h = inl (subst (λ w. DependencyOverflows (view w)) is h)
+overflow_among (x ∷ all) (suc i) v in_all is h = inr (overflow_among all i v (omega (arith, in_all)) is h)
 
 -- ---- the converted dependencies replace the old ones
 
-absent_key : (key : List ℕ) (es : List TextEntry) → lookup (has_key key) es ≡ None
-    → get_member key (members_view es) ≡ None
-absent_key key es none = sym (view-lookup key es) ∙ ap (option_map view) none
-
--- an object that has dependencies has a value at their key
-not_there_at : (found : Option Data) → found ≡ None → IsSome (found >>= as_array) → ⊥
-not_there_at None none present = true≢false (sym present)
-not_there_at (Some d) none present = absurd (cc)
-
-not_there : (es : List TextEntry) → IsSome (dependencies_in (object (members_view es)))
-    → get_member (codes "dependencies") (members_view es) ≡ None → ⊥
-unfolding dependencies_in member_at
-not_there es present none = not_there_at (get_member (codes "dependencies") (members_view es)) none present
+pub converted_at : (v after : Data) (old new : Items) → dependencies_in v ≡ Some old → AreConverted old new
+    → after ≡ with_value_at (codes "dependencies") (array new) v → IsConverted v after
+converted_at v after old new is h made = rw is (new, h, made)
 
 -- an object with dependencies has a value at their key
-pub dependencies_stay : {A : Type 0} (old : List TextEntry) (key : String Global)
-    → string_bytes key ≡ codes "dependencies" → IsSome (dependencies_in (object (members_view old)))
-    → lookup (has_key (string_bytes key)) old ≡ None → A
-dependencies_stay old key named present none =
-    absurd (not_there old present (absent_key (codes "dependencies") old
-    (subst (λ k. lookup (has_key k) old ≡ None) named none)))
+there_at : (found : Option Data) (old : Items) → Some old ≡ (found >>= as_array) → IsSome found
+there_at None old is = absurd (none-some old (sym is))
+there_at (Some d) old is = refl
 
--- an insertion at a key that is present doesn't fail
-pub dependencies_left : {A E : Type 0} (answer : Result A E) (old new : List TextEntry) (key : String Global)
-    (v : Value) → string_bytes key ≡ codes "dependencies"
-    → IsSome (dependencies_in (object (members_view old)))
+pub dependencies_there : (key : List ℕ) (v : Data) (old : Items) → key ≡ codes "dependencies"
+    → Some old ≡ dependencies_in v → IsSome (get key v)
+dependencies_there key v old named is =
+    subst (λ k. IsSome (get k v)) (sym named)
+    (there_at (get (codes "dependencies") v) old (is ∙ dependencies_named v))
+
+-- a fault of the dependencies is a fault of the whole
+fault_among : (v : Data) (old : Items) (fault : ConvertFault) → has_float v ≡ false
+    → dependencies_in v ≡ Some old → IsColumnFault (AnyOverflows old) fault → IsConvertFault v fault
+fault_among v old ColumnOverflow whole is h = (whole, rw is h)
+fault_among v old Float whole is h = absurd h
+fault_among v old OutOfMemory whole is h = whole
+
+pub exits_among : {A : Type 0} (v : Data) (old : Items) (fault : ConvertFault)
+    (answer : Result A ConvertFault) → has_float v ≡ false → dependencies_in v ≡ Some old
+    → IsErrAnd answer (λ other. other ≡ fault) → IsColumnFault (AnyOverflows old) fault
+    → IfErr answer (IsConvertFault v)
+exits_among v old fault answer whole is exit h =
+    let p = err_from_is_err_and answer exit in rw (p.1, p.2) (fault_among v old fault whole is h)
+
+-- a value that is put at a key that is present, which can't fail
+pub put_present : {A E : Type 0} (answer : Result A E) (old new : List TextEntry) (key : String Global)
+    (v : Value) → IsSome (get_member (string_bytes key) (members_view old))
     → OnOk answer (new ≡ insert_entry string_cmp old key v)
     → OnErr answer (lookup (has_key (string_bytes key)) old ≡ None)
-    → members_view new ≡ put (codes "dependencies") (view v) (members_view old)
-dependencies_left (Ok x) old new key v named present made absent =
-    ap members_view made ∙ members_view-insert_entry old key v
-    ∙ (λ i. put (named i) (view v) (members_view old))
-dependencies_left (Err e) old new key v named present made absent =
-    dependencies_stay old key named present absent
-
--- the dependencies are the array at their key
-pub dependencies_taken : (old : List TextEntry) (key : String Global) (v : Value)
-    → string_bytes key ≡ codes "dependencies" → Some v ≡ lookup (has_key (string_bytes key)) old
-    → dependencies_in (object (members_view old)) ≡ as_array (view v)
-unfolding dependencies_in member_at
-dependencies_taken old key v named is =
-    ap (λ o. o >>= as_array) (sym (view-lookup (codes "dependencies") old)
-    ∙ ap (option_map view) (subst (λ k. lookup (has_key k) old ≡ Some v) named (sym is)))
-
-converted_members_at : (ms after : Members) (o : Option Items) (made : Data)
-    → dependencies_in (object ms) ≡ o → IsSome o
-    → IfSome o (λ old. (new : Items) × AreConverted old new × (made ≡ array new))
-    → after ≡ put (codes "dependencies") made ms → IsConverted (object ms) (object after)
-converted_members_at ms after None made is present h put_there = absurd (true≢false (sym present))
-converted_members_at ms after (Some old) made is present h put_there =
-    rw is (h.0, h.1, ap object (put_there ∙ ap (λ d. put (codes "dependencies") d ms) h.2))
-
--- the converted dependencies are put at their key
-pub converted_members : (ms left after : Members) (found emptied made : Data)
-    → IsSome (dependencies_in (object ms)) → dependencies_in (object ms) ≡ as_array found
-    → left ≡ put (codes "dependencies") emptied ms
-    → IfSome (as_array found) (λ old. (new : Items) × AreConverted old new × (made ≡ array new))
-    → after ≡ put (codes "dependencies") made left → IsConverted (object ms) (object after)
-converted_members ms left after found emptied made present is was h put_there =
-    converted_members_at ms after (as_array found) made is (subst IsSome is present) h
-    (put_there ∙ ap (put (codes "dependencies") made) was
-    ∙ put_again (codes "dependencies") made emptied ms)
+    → members_view new ≡ put (string_bytes key) (view v) (members_view old)
+put_present (Ok x) old new key v present made absent = ap members_view made ∙ members_view-insert_entry old key v
+put_present (Err e) old new key v present made absent =
+    let none : get_member (string_bytes key) (members_view old) ≡ None =
+    sym (view-lookup (string_bytes key) old) ∙ ap (option_map view) absent in
+    absurd (true≢false (sym (subst IsSome none present)))
 
 -- ---- conversion of a converted value
 
