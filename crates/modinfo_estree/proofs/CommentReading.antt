@@ -42,7 +42,7 @@ use Rattle.deno_graph_source.specs.declared.tree.comments.DependencyComment.{Dep
 use Rattle.modinfo_estree.specs.Comments.{
   IsWhole,
   block_text,
-  comment_at,
+  comment_at_range,
   comment_of,
   comment_with,
   has_close,
@@ -97,8 +97,8 @@ spelled_read source Block range text line block =
     ap (λ inside. Some (comment_with Block range inside)) (inside_block text (block refl))
 
 pub comment_read : (text : List ℕ) (comment : DependencyComment) → IsSpelled text comment
-    → IsWhole text comment → comment_at text comment.range ≡ Some comment
-unfolding comment_at
+    → IsWhole text comment → comment_at_range text comment.range ≡ Some comment
+unfolding comment_at_range
 comment_read text comment spelled whole =
     let range = comment.range in
     let bytes = slice_of text range in

@@ -40,7 +40,8 @@ use Rattle.modinfo_document.specs.Comments.{AreThoseOf, entry_with}
 use Rattle.modinfo_document.specs.declared.comments.FiledEntry.{FiledEntry}
 use Rattle.modinfo_document.specs.internal.Comments.{AreAppended}
 use Rattle.modinfo_document.proofs.Filed.{both_on, both_sides, empty_on, more_on, none_on}
-use Rattle.modinfo_estree.specs.Comments.{comment_at, entries_on, entry_on, place_of, same_side, sides_of}
+use Rattle.modinfo_estree.specs.Comments.{comment_at_range, entries_on, entry_on, place_of}
+use Rattle.modinfo_estree.specs.Comments.{same_side, sides_of}
 use Rattle.modinfo_estree.specs.Tokens.{Layout}
 use Rattle.modinfo_estree.specs.declared.comments.Place.{Place}
 use Rattle.modinfo_estree.specs.internal.Comments.{AreFiled, IsFiled}
@@ -104,13 +105,13 @@ module _ (text : List ℕ) (layout : Layout) (ends : List Bool) (is_empty : Bool
 
   -- The comments at one more range.
   found_more : (ranges : List SourceRange) (i : ℕ) (d : SourceRange) (found : Option DependencyComment)
-      → i < length ranges → found ≡ comment_at text (get_or ranges i d)
-      → filter_map (comment_at text) (take (i + 1) ranges)
-      ≡ filter_map (comment_at text) (take i ranges) ++ cons_option found []
+      → i < length ranges → found ≡ comment_at_range text (get_or ranges i d)
+      → filter_map (comment_at_range text) (take (i + 1) ranges)
+      ≡ filter_map (comment_at_range text) (take i ranges) ++ cons_option found []
   found_more ranges i d found within is =
-      ap (filter_map (comment_at text)) (take_more ranges i d within)
-      ∙ filter_map-append (comment_at text) (take i ranges) (get_or ranges i d ∷ [])
-      ∙ ap (λ o. filter_map (comment_at text) (take i ranges) ++ cons_option o []) (sym is)
+      ap (filter_map (comment_at_range text)) (take_more ranges i d within)
+      ∙ filter_map-append (comment_at_range text) (take i ranges) (get_or ranges i d ∷ [])
+      ∙ ap (λ o. filter_map (comment_at_range text) (take i ranges) ++ cons_option o []) (sym is)
 
   abbrev entries : CommentSide → List DependencyComment → List FiledEntry
   entries side comments = entries_on side text layout ends is_empty comments
@@ -141,11 +142,11 @@ module _ (text : List ℕ) (layout : Layout) (ends : List Bool) (is_empty : Bool
       )
 
   pub filed_more : (ranges : List SourceRange) (i : ℕ) (d : SourceRange) (found : Option DependencyComment)
-      (start old new : FiledComments) → i < length ranges → found ≡ comment_at text (get_or ranges i d)
+      (start old new : FiledComments) → i < length ranges → found ≡ comment_at_range text (get_or ranges i d)
       → AreFiled text layout ends is_empty (take i ranges) start old → Files found old new
       → AreFiled text layout ends is_empty (take (i + 1) ranges) start new
   filed_more ranges i d found start old new within is so_far filed =
-      let before = filter_map (comment_at text) (take i ranges) in
+      let before = filter_map (comment_at_range text) (take i ranges) in
       let found_here = cons_option found [] in
       let more = sym (found_more ranges i d found within is) in
       let one = found_on found old new filed in (
@@ -168,6 +169,6 @@ module _ (text : List ℕ) (layout : Layout) (ends : List Bool) (is_empty : Bool
   unfolding sides_of
   all_filed ranges start new no_leading no_trailing filed =
       let mid : FiledComments = record { leading = new.leading; trailing = start.trailing } in
-      let comments = filter_map (comment_at text) ranges in
+      let comments = filter_map (comment_at_range text) ranges in
       both_sides start mid new (entries Leading comments) (entries Trailing comments) no_leading no_trailing
       (filed.0, refl) (filed.1, refl)

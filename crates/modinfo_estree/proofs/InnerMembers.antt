@@ -20,8 +20,9 @@ use Rattle.deno_graph_json.specs.Data.{data_of, named_data}
 use Rattle.deno_graph_json.specs.declared.flat.Element.{Element}
 use Rattle.deno_graph_json.proofs.ObjectMembers.{Entry, IsRest, rest_next}
 use Rattle.modinfo_estree.specs.internal.Candidates.{entry_of, has_inside, is_inner, is_named}
+use Rattle.modinfo_estree.specs.internal.Node.{children_at}
 use Rattle.modinfo_estree.specs.Child.{role_of}
-use Rattle.modinfo_estree.specs.Node.{and_then, children_at, children_in}
+use Rattle.modinfo_estree.specs.Node.{and_then, children_in}
 use Rattle.modinfo_estree.specs.Source.{EstreeSource}
 use Rattle.modinfo_estree.specs.declared.child.Child.{Child}
 use Rattle.modinfo_estree.specs.declared.role.Role.{Role}
@@ -193,7 +194,6 @@ and_then_nothing (Some children) = refl
 module _ (source : EstreeSource) where
   no_child_outside : (role : Role) (value : Data) → has_inside value ≡ false
       → children_at source role value ≡ Some []
-  unfolding children_at
   no_child_outside role null outer = refl
   no_child_outside role (boolean b) outer = refl
   no_child_outside role (number x) outer = refl

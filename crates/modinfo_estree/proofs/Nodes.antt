@@ -2,19 +2,7 @@
 use Rattle.std.proofs.Common.{◌≡◌, ℕ, List, [], ◌∷◌, ◌++◌, Option, Some, None, refl, sym, ap, ◌∙◌}
 use Rattle.std.proofs.Common.{append_assoc, append-nil, codes, Bool, bytes_eq}
 use Rattle.std.proofs.Common.{Result, IsErrAnd, IsSomeAnd}
-use Rattle.serde_json.specs.Data.{
-  Data,
-  null,
-  boolean,
-  number,
-  string,
-  array,
-  object,
-  Items,
-  no_items,
-  item,
-  Members,
-}
+use Rattle.serde_json.specs.Data.{Data, array, object, Items, no_items, item, Members, member}
 use Rattle.serde_json.specs.Find.{as_object, as_str}
 use Rattle.deno_graph_base.specs.declared.text.position.SourceRange.{SourceRange}
 use Rattle.deno_graph_json.specs.Data.{data_of, named_data, view_data}
@@ -34,19 +22,16 @@ use Rattle.modinfo_estree.specs.Kind.{reads_type}
 use Rattle.modinfo_estree.specs.Member.{reads_range, type_of}
 use Rattle.modinfo_estree.specs.Node.{
   and_then,
-  as_child,
-  children_at,
   children_among,
   children_in,
   is_jsx_attribute,
-  item_child,
   node_with,
   reads_node,
 }
 use Rattle.modinfo_estree.specs.Source.{EstreeSource, byte_of}
 use Rattle.modinfo_estree.specs.declared.child.Child.{Child}
 use Rattle.modinfo_estree.specs.declared.role.Role.{Role}
-use Rattle.modinfo_estree.specs.internal.Node.{AreAppended}
+use Rattle.modinfo_estree.specs.internal.Node.{AreAppended, children_at, item_child}
 
 module _ (source : EstreeSource) where
   -- a node is read from the members of its object
@@ -54,28 +39,20 @@ module _ (source : EstreeSource) where
       ≡ (as_object value >>= (λ members. node_with source role members
       (children_in source (is_jsx_attribute members) members)))
   unfolding reads_node
-  node_read role null = refl
-  node_read role (boolean b) = refl
-  node_read role (number x) = refl
-  node_read role (string s) = refl
-  node_read role (array items) = refl
   node_read role (object ms) = refl
+  node_read role _ = refl
 
-  -- an item with a type is read as a node
-  pub item_read : (role : Role) (value : Data)
-      → item_child source role value ≡ as_child role (type_of value) (reads_node source role value)
-  unfolding item_child reads_node
-  item_read role null = refl
-  item_read role (boolean b) = refl
-  item_read role (number x) = refl
-  item_read role (string s) = refl
-  item_read role (array items) = refl
-  item_read role (object ms) = refl
+  -- the nodes in a member come before those in the next ones
+  member_children : (is_jsx : Bool) (name : List ℕ) (value : Data) (members : Members)
+      → children_in source is_jsx (member name value members)
+      ≡ and_then (children_at source (role_of is_jsx name) value) (children_in source is_jsx members)
+  unfolding children_in
+  member_children is_jsx name (array items) ms = refl
+  member_children is_jsx name _ ms = refl
 
   -- the value of a member is read like an item, if it is an object
   pub object_read : (role : Role) (value : Data) (members : Members) → value ≡ object members
       → children_at source role value ≡ item_child source role value
-  unfolding children_at item_child
   object_read role value ms is = rw is refl
 
   -- any other value has no child
@@ -83,7 +60,6 @@ module _ (source : EstreeSource) where
       → ((items : Elements) → found ≡ view.Array items → ⊥)
       → ((ms : ElementMembers) → found ≡ view.Object ms → ⊥)
       → IsSomeAnd (children_at source role value) (λ children. old ≡ old ++ children)
-  unfolding children_at
   no_child role value old view.Null is no_array no_object = rw is (sym (append-nil old))
   no_child role value old (view.Bool b) is no_array no_object = rw is (sym (append-nil old))
   no_child role value old (view.Whole n) is no_array no_object = rw is (sym (append-nil old))
@@ -100,19 +76,19 @@ module _ (source : EstreeSource) where
       → new ≡ old ++ record { role = role; is_spread = is_spread; node = node } ∷ []
       → IsSomeAnd (item_child source role value) (λ children. new ≡ old ++ children)
   one_child role value type node is_spread old new typed read spread appended =
-      rw (item_read role value, ← typed, read, ← spread) appended
+      rw (← typed, read, ← spread) appended
 
   -- a value without a type is none
   pub no_type : (role : Role) (value : Data) (old new : List Child) → None ≡ type_of value → new ≡ old
       → IsSomeAnd (item_child source role value) (λ children. new ≡ old ++ children)
-  no_type role value old new none same = rw (item_read role value, ← none) (same ∙ sym (append-nil old))
+  no_type role value old new none same = rw (← none) (same ∙ sym (append-nil old))
 
   -- a value with a type that can't be read
   pub child_error : (role : Role) (value : Data) (type : List ℕ) (old new : List Child) (error : ReadError)
       (result : Result (Unit {0}) ReadError) → Some type ≡ type_of value
       → IsErrAnd result (λ other. other ≡ error) → IsReadError value (reads_node source role value) error
       → AreAppended value (item_child source role value) old new result
-  child_error role value type old new error result typed is h = rw (item_read role value, ← typed)
+  child_error role value type old new error result typed is h = rw (← typed)
       (exits_by (λ children done. new ≡ old ++ children) value (reads_node source role value) _ error result
       is h)
 
@@ -190,8 +166,8 @@ module _ (source : EstreeSource) where
   pub member_next : (is_jsx : Bool) (role : Role) (left rest : List Entry) (e : Entry) → left ≡ e ∷ rest
       → role ≡ role_of is_jsx e.0 → children_in source is_jsx (named_data left)
       ≡ and_then (children_at source role (data_of e.1)) (children_in source is_jsx (named_data rest))
-  unfolding children_in
-  member_next is_jsx role left rest e first is = rw (first, is) refl
+  member_next is_jsx role left rest e first is =
+      rw (first, is) (member_children source is_jsx e.0 (data_of e.1) (named_data rest))
 
   pub no_member_next : (is_jsx : Bool) (left : List Entry) → left ≡ []
       → children_in source is_jsx (named_data left) ≡ Some []
@@ -203,6 +179,7 @@ module _ (source : EstreeSource) where
       (children : List Child) → member_at as_str (codes "type") members ≡ Some type
       → reads_range (byte_of source) members ≡ Some range → children_in source is_jsx members ≡ Some children
       → node_with source role members (children_in source is_jsx members)
-      ≡ reads_type source role members range (sorted_children children) type
+      ≡ reads_type (record { source = source; role = role; members = members; range = range })
+      (sorted_children children) type
   unfolding node_with
   type_read role is_jsx ms type range children named first second = rw (named, first, second) refl

@@ -50,15 +50,15 @@ pub size_of_table : {X : Type 0} (f : ℕ → X) (end : ℕ) (xs : List X) → x
 size_of_table f end xs is = ap length is ∙ length-map-range_with_len (λ k. f (32 * k)) 0 (end / 32 + 1)
 
 -- The value in a table.
-pub value_at : {X : Type 0} (f : ℕ → X) (end : ℕ) (xs : List X) (k : ℕ) (d : X) → xs ≡ at_32nds f end
+pub value_by_index : {X : Type 0} (f : ℕ → X) (end : ℕ) (xs : List X) (k : ℕ) (d : X) → xs ≡ at_32nds f end
     → k ≤ end / 32 → get_or xs k d ≡ f (32 * k)
-value_at f end xs k d is within =
+value_by_index f end xs k d is within =
     ap (λ l. get_or l k d) is
     ∙ get_or-map-range_with_len (λ k. f (32 * k)) 0 (end / 32 + 1) k k d (omega arith) (omega arith)
 
 -- The value in a table by its number.
-pub value_of : {X : Type 0} (f : ℕ → X) (end : ℕ) (xs : List X) (n : ℕ) (d : X) → xs ≡ at_32nds f end
+pub value_by_number : {X : Type 0} (f : ℕ → X) (end : ℕ) (xs : List X) (n : ℕ) (d : X) → xs ≡ at_32nds f end
     → n ≤ end → n % 32 ≡ 0 → get_or xs (n / 32) d ≡ f n
-value_of f end xs n d is within multiple =
+value_by_number f end xs n d is within multiple =
     let here : 32 * (n / 32) ≡ n = omega arith in
-    value_at f end xs (n / 32) d is (omega arith) ∙ ap f here
+    value_by_index f end xs (n / 32) d is (omega arith) ∙ ap f here

@@ -54,7 +54,7 @@ use Rattle.modinfo_estree.specs.Offsets.{byte_offset, offset_in, unit_sizes, uni
 use Rattle.modinfo_estree.specs.declared.offsets.OffsetUnit.{OffsetUnit}
 use Rattle.modinfo_estree.specs.declared.offsets.OffsetUnit.TheVariants.{Utf16, Utf8}
 use Rattle.modinfo_estree.specs.internal.Offsets.{AreByteOffsets, HaveBytes, bytes_of_units, unit_size}
-use Rattle.modinfo_estree.proofs.Tables.{size_of_table, value_at}
+use Rattle.modinfo_estree.proofs.Tables.{size_of_table, value_by_index}
 
 sum-cons : (n : ℕ) (ns : List ℕ) → sum (n ∷ ns) ≡ n + sum ns
 sum-cons n ns = sum_by-cons (λ x. x) n ns
@@ -480,7 +480,7 @@ start_held Utf16 text bytes offset start unit table within is =
     let size = size_of_table (bytes_of_units sizes) (length sizes) bytes table in
     record {
       within = omega (arith, size);
-      bytes_are = is ∙ value_at (bytes_of_units sizes) (length sizes) bytes (offset / 32) 0 table
+      bytes_are = is ∙ value_by_index (bytes_of_units sizes) (length sizes) bytes (offset / 32) 0 table
           (omega (arith, size));
     }
 start_held Utf8 text bytes offset start unit table within is = cc

@@ -103,8 +103,8 @@ comment_of text range bytes =
 
 -- The comment of a text at a range. For a range that is none of the text it is an empty line comment, and
 -- the check of the source reports the range.
-unfoldable pub comment_at : List ℕ → SourceRange → Option DependencyComment
-comment_at text range =
+unfoldable pub comment_at_range : List ℕ → SourceRange → Option DependencyComment
+comment_at_range text range =
     if is_text_range text range then comment_of text range (slice_of text range) else
     Some (comment_with Line range [])
 
@@ -226,7 +226,7 @@ entries_on side text layout ends is_empty comments =
 -- The entries of both sides for the comments at these ranges, in the order of the ranges.
 unfoldable pub sides_of : List ℕ → Layout → List Bool → Bool → List SourceRange → Sides
 sides_of text layout ends is_empty ranges =
-    let comments = filter_map (comment_at text) ranges in
+    let comments = filter_map (comment_at_range text) ranges in
     record {
       leading = entries_on Leading text layout ends is_empty comments;
       trailing = entries_on Trailing text layout ends is_empty comments;

@@ -75,12 +75,12 @@ use Rattle.modinfo_estree.specs.Member.{
 use Rattle.modinfo_estree.specs.Literal.{if_spelled, reads_literal}
 use Rattle.modinfo_estree.specs.Offsets.{Counted}
 use Rattle.modinfo_estree.specs.Parentheses.{extent_in_call, is_byte}
+use Rattle.modinfo_estree.specs.Parts.{Parts}
 use Rattle.modinfo_estree.specs.Source.{EstreeSource, byte_of, gaps}
 use Rattle.modinfo_estree.specs.Tokens.{token_start}
 use Rattle.modinfo_estree.specs.declared.child.Child.{Child}
 use Rattle.modinfo_estree.specs.declared.role.Group.{Group}
 use Rattle.modinfo_estree.specs.declared.role.Group.TheVariants as group
-use Rattle.modinfo_estree.specs.declared.role.Role.{Role}
 
 -- A node of this kind.
 abbrev pub made : Kind → SourceRange → List Node → Node
@@ -208,37 +208,15 @@ abbrev pub first_start : ℕ → Option ℕ → ℕ
 first_start start None = start
 first_start start (Some other) = min start other
 
--- A node from its range and the nodes below it.
-module _ (range : SourceRange) where
-  -- The node with all nodes below it.
-  abbrev pub whole : List Child → Kind → Node
-  whole children kind = made kind range (map node_of children)
+-- The `with` clause of a declaration, if there is one, with the range of the declaration.
+abbrev pub clause : SourceRange → List Node → Bool → List Node
+clause range attributes true = made kind.Object range attributes ∷ []
+clause range attributes false = []
 
-  -- The node of a kind that is there, or an `Other`.
-  abbrev pub whole_or_other : List Child → Option Kind → Node
-  whole_or_other children None = whole children kind.Other
-  whole_or_other children (Some kind) = whole children kind
-
-  -- The `with` clause of a declaration, if there is one, with the range of the declaration.
-  abbrev pub clause : List Node → Bool → List Node
-  clause attributes true = made kind.Object range attributes ∷ []
-  clause attributes false = []
-
-  -- A module whose name is a string. A namespace is an `Other`.
-  abbrev pub module_kind : Option StrLit → Kind
-  module_kind None = kind.Other
-  module_kind (Some name) = kind.ModuleDecl (Some name)
-
-  unfoldable pub module_of : List Child → Node
-  module_of children = whole children (module_kind (first_literal (nodes_in group.Id children)))
-
-  -- A method of Babel: a function, and outside of it its decorators and its computed key, as ESTree has them.
-  abbrev pub method_of : Group → List Child → Node
-  method_of group children = made kind.Other range
-      (nodes_in group children ++ made kind.Function range (nodes_outside group children) ∷ [])
-
-  unfoldable pub object_literal : List Child → Node
-  object_literal children = made kind.Object range (nodes_in group.Properties children)
+-- A module whose name is a string. A namespace is an `Other`.
+abbrev pub module_kind : Option StrLit → Kind
+module_kind None = kind.Other
+module_kind (Some name) = kind.ModuleDecl (Some name)
 
 -- What the members of a node say alone.
 module _ (members : Members) where
@@ -296,74 +274,47 @@ module _ (members : Members) where
       else (if is_import && nat_lt 0 (length (nodes_in group.Arguments children))
       then Some (Import phase.Evaluation) else Some Expr)
 
--- A node from its members, its range and the nodes below it.
-module _ (members : Members) (range : SourceRange) (children : List Child) where
-  abbrev pub template_with : Option (List (List ℕ)) → Node
-  template_with None = whole range children kind.Other
-  template_with (Some texts) = made (kind.Template texts) range (nodes_in group.Expressions children)
-
-  unfoldable pub template : Node
-  template = template_with (quasis members)
-
-  unfoldable pub binary : Node
-  binary = made (kind.Binary (operator_of (has_text (codes "operator") (codes "+") members))) range
-      (map (in_extent range) (filter (has_group group.Operands) children))
-
-  unfoldable pub identifier : Node
-  identifier = whole_or_other range children (option_map kind.Ident (text_at (codes "name") members))
-
-  unfoldable pub key_value : Node
-  key_value = made (kind.KeyValue (key_of members (nodes_in group.Property children))) range
-      (map (in_extent range) (filter (has_group group.Property) children))
-
-  unfoldable pub property : Node
-  property = if is_key_value members then key_value else whole range children kind.Other
-
-  unfoldable pub method : Node
-  method = if is_true (codes "computed") members then method_of range group.DecoratorsAndKey children
-      else method_of range group.Decorators children
-
 -- The nodes of a callee, of which an import has none.
 abbrev pub nodes_of_callee : Callee → List Node → List Node
 nodes_of_callee Expr nodes = nodes
 nodes_of_callee _ nodes = []
 
--- Nodes for which the text has to be asked.
-module _ (source : EstreeSource) (range : SourceRange) where
+-- A node from its parts.
+module _ (parts : Parts) where
   -- Whether a declaration has a `with` clause: it has attributes; or a token follows its source that isn't
   -- `;`, since a clause without attributes is in no tree.
   abbrev pub has_clause : List Node → StrLit → Bool
   has_clause attributes src = nat_lt 0 (length attributes)
-      || (nat_lt (token_start (gaps source) src.range.end) range.end
-      && not (is_byte 59 (slice_get source.text (token_start (gaps source) src.range.end))))
+      || (nat_lt (token_start (gaps parts.source) src.range.end) parts.range.end
+      && not (is_byte 59 (slice_get parts.source.text (token_start (gaps parts.source) src.range.end))))
 
   -- The callee or an argument of a call with the parentheses around it, within these bounds.
   abbrev pub in_call : SourceRange → Child → Node
-  in_call bounds child = around (extent_in_call source bounds (range_of child.node)) child.node
+  in_call bounds child = around (extent_in_call parts.source bounds (range_of child.node)) child.node
 
   abbrev pub argument : SourceRange → Child → Arg
   argument bounds child = record {
     spread = child.is_spread;
-    range = extent_in_call source bounds (range_of child.node);
+    range = extent_in_call parts.source bounds (range_of child.node);
   }
 
   -- The offset after the byte at an offset, or the end of the text.
   abbrev pub after_byte : ℕ → ℕ
-  after_byte at = if nat_lt at (length source.text) then at + 1 else length source.text
+  after_byte at = if nat_lt at (length parts.source.text) then at + 1 else length parts.source.text
 
   -- Where parentheses around arguments are: after the first token that follows the callee, which opens the
   -- arguments or type arguments, and before the end of the call.
   abbrev pub argument_bounds : List Node → SourceRange
-  argument_bounds [] = range
+  argument_bounds [] = parts.range
   argument_bounds (callee ∷ _) = record {
-    start = after_byte (token_start (gaps source) (range_of callee).end);
-    end = range.end;
+    start = after_byte (token_start (gaps parts.source) (range_of callee).end);
+    end = parts.range.end;
   }
 
   -- A call: nodes of its callee, its arguments, and other nodes as type arguments.
   unfoldable pub call_of : Callee → SourceRange → List Node → List Child → Node
   call_of callee bounds callee_nodes below =
-      made (kind.Call callee (map (argument bounds) (filter (has_group group.Arguments) below))) range
+      made (kind.Call callee (map (argument bounds) (filter (has_group group.Arguments) below))) parts.range
       (callee_nodes ++ map (in_call bounds) (filter (has_group group.Arguments) below)
       ++ nodes_outside group.Arguments below)
 
@@ -371,88 +322,6 @@ module _ (source : EstreeSource) (range : SourceRange) where
   abbrev pub call_by : Callee → List Node → List Child → Node
   call_by callee nodes below =
       call_of callee (argument_bounds nodes) (nodes_of_callee callee nodes) below
-
--- Nodes for which the members, the nodes below and the text are asked.
-module _ (source : EstreeSource) (members : Members) (range : SourceRange) (children : List Child) where
-  -- The range of an export, which begins at the first decorator of what it declares, if that is before.
-  abbrev pub export_range : SourceRange
-  export_range = record {
-    start = first_start range.start (declaration_start (byte_of source) members);
-    end = range.end;
-  }
-
-  -- An export of a declaration or of names of this module.
-  unfoldable pub export_of : Node
-  export_of = made kind.ExportOther export_range (map node_of children)
-
-  abbrev pub attributes : List Node
-  attributes = nodes_in group.Attributes children
-
-  unfoldable pub reads_import : Option Node
-  reads_import = do
-    src ← member_at (reads_literal source.counted) (codes "source") members
-    phase ← reads_phase members
-    Some (made
-        (kind.ImportDecl (has_text (codes "importKind") (codes "type") members)
-        phase src (has_items (codes "specifiers") members)
-        (has_clause source range attributes src))
-        range (clause range attributes (has_clause source range attributes src)))
-
-  -- An export from a module. `export *` and `export { .. }` give the same information.
-  unfoldable pub reads_export_from : Option Node
-  reads_export_from = do
-    src ← member_at (reads_literal source.counted) (codes "source") members
-    Some (made
-        (kind.NamedExport (has_text (codes "exportKind") (codes "type") members) (Some src)
-        (has_clause source range attributes src))
-        range (clause range attributes (has_clause source range attributes src)))
-
-  -- The call of a callee, if there is one.
-  abbrev pub call_with : Option Callee → Node
-  call_with None = whole range children kind.Other
-  call_with (Some callee) = call_by source range callee
-      (map (in_call source range range) (filter (has_group group.Callee) children))
-      (filter (lacks_group group.Callee) children)
-
-  unfoldable pub call : Node
-  call = call_with (callee members children)
-
-  -- The children of an `ImportExpression`. Some trees have the options as `attributes` too.
-  abbrev pub import_children : List Node → List Child
-  import_children [] = children
-  import_children (_ ∷ _) = filter (lacks_group group.Attributes) children
-
-  unfoldable pub reads_import_call : Option Node
-  reads_import_call = do
-    phase ← reads_phase members
-    Some (call_of source range (Import phase) range []
-        (import_children (nodes_in group.Options children)))
-
-  unfoldable pub reads_import_type : Option Node
-  reads_import_type = do
-    arg ← reads_argument source.counted members
-    Some (made (kind.ImportType arg (nat_lt 0 (length (clause_of (nodes_in group.Options children)))))
-        range (clause_of (nodes_in group.Options children) ++ nodes_outside group.Options children))
-
-  -- The nodes of the types that lack nothing.
-  abbrev pub total_types : List (List ℕ × Node)
-  total_types =
-      (codes "ExportDefaultDeclaration", export_of)
-      ∷ (codes "TSModuleDeclaration", module_of range children)
-      ∷ (codes "CallExpression", call)
-      ∷ (codes "TemplateLiteral", template members range children)
-      ∷ (codes "BinaryExpression", binary members range children)
-      ∷ (codes "Identifier", identifier members range children)
-      ∷ (codes "ObjectExpression", object_literal range children)
-      ∷ (codes "Property", property members range children)
-      ∷ (codes "ObjectProperty", property members range children)
-      ∷ (codes "ImportAttribute", key_value members range children)
-      ∷ (codes "ObjectMethod", method members range children)
-      ∷ (codes "ClassMethod", method members range children)
-      ∷ (codes "ClassPrivateMethod", method members range children) ∷ []
-
-  unfoldable pub total_type : List ℕ → Node
-  total_type type = unwrap_or (named total_types type) (whole range children (kind_of_type members type))
 
 -- The module that an `import name = require("..")` names.
 abbrev pub external_in : EstreeSource → Data → Option StrLit
@@ -469,63 +338,184 @@ abbrev pub external_import : SourceRange → Bool → Bool → StrLit → Node
 external_import range type_only is_export external =
     made (kind.ImportEquals type_only is_export (Some external)) range []
 
--- `import name = ..`, by the members of the declaration; an `Other` if it names no module.
-module _ (source : EstreeSource) (range : SourceRange) (children : List Child) where
+-- A node from its parts and the nodes below it.
+module _ (parts : Parts) (children : List Child) where
+  -- The node with all nodes below it.
+  abbrev pub whole : Kind → Node
+  whole kind = made kind parts.range (map node_of children)
+
+  -- The node of a kind that is there, or an `Other`.
+  abbrev pub whole_or_other : Option Kind → Node
+  whole_or_other None = whole kind.Other
+  whole_or_other (Some kind) = whole kind
+
+  unfoldable pub module_of : Node
+  module_of = whole (module_kind (first_literal (nodes_in group.Id children)))
+
+  unfoldable pub object_literal : Node
+  object_literal = made kind.Object parts.range (nodes_in group.Properties children)
+
+  abbrev pub template_with : Option (List (List ℕ)) → Node
+  template_with None = whole kind.Other
+  template_with (Some texts) =
+      made (kind.Template texts) parts.range (nodes_in group.Expressions children)
+
+  unfoldable pub template : Node
+  template = template_with (quasis parts.members)
+
+  unfoldable pub binary : Node
+  binary = made (kind.Binary (operator_of (has_text (codes "operator") (codes "+") parts.members)))
+      parts.range (map (in_extent parts.range) (filter (has_group group.Operands) children))
+
+  unfoldable pub identifier : Node
+  identifier = whole_or_other (option_map kind.Ident (text_at (codes "name") parts.members))
+
+  unfoldable pub key_value : Node
+  key_value = made (kind.KeyValue (key_of parts.members (nodes_in group.Property children))) parts.range
+      (map (in_extent parts.range) (filter (has_group group.Property) children))
+
+  unfoldable pub property : Node
+  property = if is_key_value parts.members then key_value else whole kind.Other
+
+  -- A method of Babel: a function, and outside of it its decorators and its computed key, as ESTree has them.
+  abbrev pub method_of : Group → Node
+  method_of group = made kind.Other parts.range
+      (nodes_in group children ++ made kind.Function parts.range (nodes_outside group children) ∷ [])
+
+  unfoldable pub method : Node
+  method = if is_true (codes "computed") parts.members then method_of group.DecoratorsAndKey
+      else method_of group.Decorators
+
+  -- The range of an export, which begins at the first decorator of what it declares, if that is before.
+  abbrev pub export_range : SourceRange
+  export_range = record {
+    start = first_start parts.range.start (declaration_start (byte_of parts.source) parts.members);
+    end = parts.range.end;
+  }
+
+  -- An export of a declaration or of names of this module.
+  unfoldable pub export_of : Node
+  export_of = made kind.ExportOther export_range (map node_of children)
+
+  abbrev pub attributes : List Node
+  attributes = nodes_in group.Attributes children
+
+  unfoldable pub reads_import : Option Node
+  reads_import = do
+    src ← member_at (reads_literal parts.source.counted) (codes "source") parts.members
+    phase ← reads_phase parts.members
+    Some (made
+        (kind.ImportDecl (has_text (codes "importKind") (codes "type") parts.members)
+        phase src (has_items (codes "specifiers") parts.members) (has_clause parts attributes src))
+        parts.range (clause parts.range attributes (has_clause parts attributes src)))
+
+  -- An export from a module. `export *` and `export { .. }` give the same information.
+  unfoldable pub reads_export_from : Option Node
+  reads_export_from = do
+    src ← member_at (reads_literal parts.source.counted) (codes "source") parts.members
+    Some (made
+        (kind.NamedExport (has_text (codes "exportKind") (codes "type") parts.members) (Some src)
+        (has_clause parts attributes src))
+        parts.range (clause parts.range attributes (has_clause parts attributes src)))
+
+  -- The call of a callee, if there is one.
+  abbrev pub call_with : Option Callee → Node
+  call_with None = whole kind.Other
+  call_with (Some callee) = call_by parts callee
+      (map (in_call parts parts.range) (filter (has_group group.Callee) children))
+      (filter (lacks_group group.Callee) children)
+
+  unfoldable pub call : Node
+  call = call_with (callee parts.members children)
+
+  -- The children of an `ImportExpression`. Some trees have the options as `attributes` too.
+  abbrev pub import_children : List Node → List Child
+  import_children [] = children
+  import_children (_ ∷ _) = filter (lacks_group group.Attributes) children
+
+  unfoldable pub reads_import_call : Option Node
+  reads_import_call = do
+    phase ← reads_phase parts.members
+    Some (call_of parts (Import phase) parts.range []
+        (import_children (nodes_in group.Options children)))
+
+  unfoldable pub reads_import_type : Option Node
+  reads_import_type = do
+    arg ← reads_argument parts.source.counted parts.members
+    Some (made (kind.ImportType arg (nat_lt 0 (length (clause_of (nodes_in group.Options children)))))
+        parts.range (clause_of (nodes_in group.Options children) ++ nodes_outside group.Options children))
+
+  -- The nodes of the types that lack nothing.
+  abbrev pub total_types : List (List ℕ × Node)
+  total_types =
+      (codes "ExportDefaultDeclaration", export_of)
+      ∷ (codes "TSModuleDeclaration", module_of)
+      ∷ (codes "CallExpression", call)
+      ∷ (codes "TemplateLiteral", template)
+      ∷ (codes "BinaryExpression", binary)
+      ∷ (codes "Identifier", identifier)
+      ∷ (codes "ObjectExpression", object_literal)
+      ∷ (codes "Property", property)
+      ∷ (codes "ObjectProperty", property)
+      ∷ (codes "ImportAttribute", key_value)
+      ∷ (codes "ObjectMethod", method)
+      ∷ (codes "ClassMethod", method)
+      ∷ (codes "ClassPrivateMethod", method) ∷ []
+
+  unfoldable pub total_type : List ℕ → Node
+  total_type type = unwrap_or (named total_types type) (whole (kind_of_type parts.members type))
+
+  -- `import name = ..`, by the members of the declaration; an `Other` if it names no module.
   unfoldable pub reads_import_equals : Bool → Members → Option Node
   reads_import_equals is_export declared =
       if has_type (codes "moduleReference") (codes "TSExternalModuleReference") declared
       then (do
-        external ← member_at (external_in source) (codes "moduleReference") declared
-        Some (external_import range (is_type_import declared) is_export external))
-      else Some (whole range children kind.Other)
+        external ← member_at (external_in parts.source) (codes "moduleReference") declared
+        Some (external_import parts.range (is_type_import declared) is_export external))
+      else Some (whole kind.Other)
 
   abbrev pub reads_exported : Data → Option Node
   reads_exported declaration = do
     declared ← as_object declaration
     reads_import_equals true declared
 
-module _ (source : EstreeSource) (members : Members) (range : SourceRange) (children : List Child) where
   -- An export: from a module, of an `import name = ..`, or of a declaration or names of this module.
   unfoldable pub reads_named_export : Option Node
   reads_named_export =
-      if is_present (codes "source") members then reads_export_from source members range children
-      else (if has_type (codes "declaration") (codes "TSImportEqualsDeclaration") members
-      then member_at (reads_exported source range children) (codes "declaration") members
-      else Some (export_of source members range children))
+      if is_present (codes "source") parts.members then reads_export_from
+      else (if has_type (codes "declaration") (codes "TSImportEqualsDeclaration") parts.members
+      then member_at reads_exported (codes "declaration") parts.members
+      else Some export_of)
 
--- A literal, which is a string or an `Other`.
-module _ (source : EstreeSource) (role : Role) (range : SourceRange) (children : List Child) where
   -- The node of a string. If a rule may read the string, the text has to spell it.
   abbrev pub reads_spelled : List ℕ → Option Node
-  reads_spelled text = if is_read role then (do
-    spelled ← if_spelled source.counted.text range text
-    Some (whole range children (kind.Str spelled))) else Some (whole range children (kind.Str text))
+  reads_spelled text = if is_read parts.role then (do
+    spelled ← if_spelled parts.source.counted.text parts.range text
+    Some (whole (kind.Str spelled))) else Some (whole (kind.Str text))
 
+  -- A literal, which is a string or an `Other`.
   abbrev pub reads_string_with : Option (List ℕ) → Option Node
-  reads_string_with None = Some (whole range children kind.Other)
+  reads_string_with None = Some (whole kind.Other)
   reads_string_with (Some text) = reads_spelled text
 
-unfoldable pub reads_string_node : EstreeSource → Role → Members → SourceRange → List Child → Option Node
-reads_string_node source role members range children =
-    reads_string_with source role range children (string_value members)
+  unfoldable pub reads_string_node : Option Node
+  reads_string_node = reads_string_with (string_value parts.members)
 
--- The node of a type.
-module _ (source : EstreeSource) (role : Role) (members : Members) (range : SourceRange)
-    (children : List Child) where
   -- The nodes of the types that need a member.
   abbrev pub types : List (List ℕ × Option Node)
   types =
-      (codes "ImportDeclaration", reads_import source members range children)
-      ∷ (codes "ExportAllDeclaration", reads_export_from source members range children)
-      ∷ (codes "ExportNamedDeclaration", reads_named_export source members range children)
+      (codes "ImportDeclaration", reads_import)
+      ∷ (codes "ExportAllDeclaration", reads_export_from)
+      ∷ (codes "ExportNamedDeclaration", reads_named_export)
       ∷ (
         codes "TSImportEqualsDeclaration",
-        reads_import_equals source range children (is_true (codes "isExport") members) members,
+        reads_import_equals (is_true (codes "isExport") parts.members) parts.members,
       )
-      ∷ (codes "ImportExpression", reads_import_call source members range children)
-      ∷ (codes "Literal", reads_string_node source role members range children)
-      ∷ (codes "StringLiteral", reads_string_node source role members range children)
-      ∷ (codes "TSImportType", reads_import_type source members range children) ∷ []
+      ∷ (codes "ImportExpression", reads_import_call)
+      ∷ (codes "Literal", reads_string_node)
+      ∷ (codes "StringLiteral", reads_string_node)
+      ∷ (codes "TSImportType", reads_import_type) ∷ []
 
+  -- The node of a type.
   unfoldable pub reads_type : List ℕ → Option Node
-  reads_type type = unwrap_or (named types type) (Some (total_type source members range children type))
+  reads_type type = unwrap_or (named types type) (Some (total_type type))

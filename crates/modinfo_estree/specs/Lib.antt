@@ -9,6 +9,7 @@ pub mod Node
 pub mod Offsets
 pub mod Order
 pub mod Parentheses
+pub mod Parts
 pub mod Range
 pub mod Source
 pub mod Tokens

@@ -1,6 +1,6 @@
 -- String literals in the tree of a text, each held against the text.
 use Rattle.std.specs.Prelude.{ℕ, List, codes, Bool, not, ◌||◌, Option, Some, None, if◌then◌else◌}
-use Rattle.serde_json.specs.Data.{Data, Members}
+use Rattle.serde_json.specs.Data.{Data}
 use Rattle.serde_json.specs.Find.{as_object}
 use Rattle.deno_graph_base.specs.SourceRange.{slice_of}
 use Rattle.deno_graph_base.specs.declared.text.position.SourceRange.{SourceRange}
@@ -31,7 +31,3 @@ module _ (counted : Counted) where
     found ← member_at reads_string (codes "value") members
     spelled ← if_spelled counted.text range found
     Some (record { value = spelled; range = range })
-
-  -- The literal that is a member.
-  abbrev pub reads_literal_at : List ℕ → Members → Option StrLit
-  reads_literal_at name members = member_at reads_literal name members

@@ -1,26 +1,12 @@
 -- Reading nodes, with all nodes below.
 use Rattle.std.specs.Prelude.{ℕ, List, [], ◌∷◌, ◌++◌, Bool, codes, bytes_eq, Option, Some, None}
-use Rattle.serde_json.specs.Data.{
-  Data,
-  null,
-  boolean,
-  number,
-  string,
-  array,
-  object,
-  Items,
-  no_items,
-  item,
-  Members,
-  no_members,
-  member,
-}
+use Rattle.serde_json.specs.Data.{Data, array, object, Items, no_items, item, Members, no_members, member}
 use Rattle.serde_json.specs.Find.{as_str}
 use Rattle.deno_graph_json.specs.Read.Partial.{◌>>=◌, member_at}
 use Rattle.deno_graph_source.specs.declared.tree.node.Node.{Node}
 use Rattle.modinfo_estree.specs.Child.{role_of, sorted_children}
 use Rattle.modinfo_estree.specs.Kind.{reads_type}
-use Rattle.modinfo_estree.specs.Member.{has_text, reads_range, text_at}
+use Rattle.modinfo_estree.specs.Member.{has_text, reads_range, type_of}
 use Rattle.modinfo_estree.specs.Source.{EstreeSource, byte_of}
 use Rattle.modinfo_estree.specs.declared.child.Child.{Child}
 use Rattle.modinfo_estree.specs.declared.role.Role.{Role}
@@ -58,48 +44,27 @@ module _ (source : EstreeSource) where
     type ← member_at as_str (codes "type") members
     range ← reads_range (byte_of source) members
     children ← below
-    reads_type source role members range (sorted_children children) type
+    reads_type (record { source = source; role = role; members = members; range = range })
+        (sorted_children children) type
 
   unfoldable mutual
     -- A node of a role, with all nodes below it.
     pub reads_node : Role → Data → Option Node
-    reads_node role null = None
-    reads_node role (boolean _) = None
-    reads_node role (number _) = None
-    reads_node role (string _) = None
-    reads_node role (array _) = None
     reads_node role (object members) =
         node_with role members (children_in (is_jsx_attribute members) members)
+    reads_node role _ = None
 
-    -- The nodes in the members of a node, which may be an attribute of JSX.
+    -- The nodes in the members of a node, which may be an attribute of JSX: values, and items of arrays.
     pub children_in : Bool → Members → Option (List Child)
     children_in is_jsx no_members = Some []
+    children_in is_jsx (member name (array items) members) =
+        and_then (children_among (role_of is_jsx name) items) (children_in is_jsx members)
     children_in is_jsx (member name value members) =
-        and_then (children_at (role_of is_jsx name) value) (children_in is_jsx members)
-
-    -- The nodes in a member: its value, or the items of an array.
-    pub children_at : Role → Data → Option (List Child)
-    children_at role null = Some []
-    children_at role (boolean _) = Some []
-    children_at role (number _) = Some []
-    children_at role (string _) = Some []
-    children_at role (array items) = children_among role items
-    children_at role (object members) =
-        as_child role (text_at (codes "type") members)
-        (node_with role members (children_in (is_jsx_attribute members) members))
+        and_then (as_child (role_of is_jsx name) (type_of value) (reads_node (role_of is_jsx name) value))
+        (children_in is_jsx members)
 
     -- The items of an array that are nodes.
     pub children_among : Role → Items → Option (List Child)
     children_among role no_items = Some []
-    children_among role (item value items) = and_then (item_child role value) (children_among role items)
-
-    -- An item of an array, if it is a node.
-    pub item_child : Role → Data → Option (List Child)
-    item_child role null = Some []
-    item_child role (boolean _) = Some []
-    item_child role (number _) = Some []
-    item_child role (string _) = Some []
-    item_child role (array _) = Some []
-    item_child role (object members) =
-        as_child role (text_at (codes "type") members)
-        (node_with role members (children_in (is_jsx_attribute members) members))
+    children_among role (item value items) =
+        and_then (as_child role (type_of value) (reads_node role value)) (children_among role items)

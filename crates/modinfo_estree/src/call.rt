@@ -5,7 +5,7 @@ ghost use Rattle.deno_graph_json.specs.ObjectReader.{readable, value_of};
 ghost use Rattle.deno_graph_json.specs.Read.Result.{IsReadResult};
 ghost use Rattle.modinfo_estree.specs.Child.{nodes_in};
 ghost use Rattle.modinfo_estree.specs.Kind as spec;
-ghost use Rattle.modinfo_estree.specs.Source.{source_of};
+ghost use Rattle.modinfo_estree.specs.Parts.{parts_of};
 
 use crate::child::{Child, first_in, push_around, push_nodes, split};
 use crate::member::{has_name, has_type, is_true};
@@ -23,8 +23,7 @@ impl<'a, 't, 'v> Reading<'a, 't, 'v> {
     /// Reads a call. An optional call is an `Other`.
     #[tactic(auto, unfolding(crate::specs::Kind::call))]
     pub fn call(&self, children: Vec<Child>) -> Result<Node, AllocError>
-        ensures { IfOk result (λ node. node ≡ spec.call (source_of self.now.source.now)
-            (readable self.now.members) self.now.range children.items) }
+        ensures { IfOk result (λ node. node ≡ spec.call (parts_of self.now) children.items) }
     {
         match self.callee(&children) {
             Some(callee) => {
@@ -46,9 +45,8 @@ impl<'a, 't, 'v> Reading<'a, 't, 'v> {
     /// Reads an `ImportExpression`.
     #[tactic(auto, using(deno_graph_json::proofs::Reading::reading), unfolding(crate::specs::Kind::reads_import_call))]
     pub fn import_call(&self, children: Vec<Child>) -> Result<Node, ReadError>
-        ensures { IsReadResult (value_of self.now.members) (spec.reads_import_call
-            (source_of self.now.source.now) (readable self.now.members) self.now.range children.items)
-            result }
+        ensures { IsReadResult (value_of self.now.members)
+            (spec.reads_import_call (parts_of self.now) children.items) result }
     {
         let phase = read_phase(&self.members)?;
         let below = self.import_children(children)?;
@@ -62,8 +60,7 @@ impl<'a, 't, 'v> Reading<'a, 't, 'v> {
 
     /// Returns the children of an `ImportExpression`. Some trees have the options as `attributes` too.
     fn import_children(&self, children: Vec<Child>) -> Result<Vec<Child>, AllocError>
-        ensures { IfOk result (λ below. below.items ≡ spec.import_children
-            (source_of self.now.source.now) (readable self.now.members) self.now.range children.items
+        ensures { IfOk result (λ below. below.items ≡ spec.import_children (parts_of self.now) children.items
             (nodes_in Group.Options children.items)) }
     {
         if first_in(&children, Group::Options).is_none() {
@@ -99,8 +96,7 @@ impl<'a, 't, 'v> Reading<'a, 't, 'v> {
     #[tactic(auto, unfolding(deno_graph_source::specs::Node::range_of))]
     fn push_callee(&self, callees: Vec<Child>, nodes: &mut Items<Node>) -> Result<(), AllocError>
         ensures { OnOk result (nodes.new ≡ nodes.old
-            ++ map (spec.in_call (source_of self.now.source.now) self.now.range self.now.range)
-            callees.items) }
+            ++ map (spec.in_call (parts_of self.now) self.now.range) callees.items) }
     {
         for child in callees {
             let extent = extent_in(self.source, self.range, child.node.range);
@@ -113,7 +109,7 @@ impl<'a, 't, 'v> Reading<'a, 't, 'v> {
     /// opens the arguments or type arguments, and before the end of the call.
     #[tactic(auto, unfolding(deno_graph_source::specs::Node::range_of))]
     fn argument_bounds(&self, callee: &[Node]) -> SourceRange
-        ensures { result ≡ spec.argument_bounds (source_of self.now.source.now) self.now.range callee.now }
+        ensures { result ≡ spec.argument_bounds (parts_of self.now) callee.now }
     {
         match callee.first() {
             Some(callee) => {
@@ -134,8 +130,8 @@ impl<'a, 't, 'v> Reading<'a, 't, 'v> {
         mut nodes: Items<Node>,
         below: Vec<Child>,
     ) -> Result<Node, AllocError>
-        ensures { IfOk result (λ node. node ≡ spec.call_of (source_of self.now.source.now) self.now.range
-            callee bounds nodes below.items) }
+        ensures { IfOk result (λ node. node
+            ≡ spec.call_of (parts_of self.now) callee bounds nodes below.items) }
     {
         let (arguments, others) = split(self.alloc, below, Group::Arguments)?;
         let args = self.push_arguments(bounds, arguments, &mut nodes)?;
@@ -152,9 +148,9 @@ impl<'a, 't, 'v> Reading<'a, 't, 'v> {
         nodes: &mut Items<Node>,
     ) -> Result<Items<Arg>, AllocError>
         ensures args { IfOk result (λ args. args
-            ≡ map (spec.argument (source_of self.now.source.now) self.now.range bounds) arguments.items) }
+            ≡ map (spec.argument (parts_of self.now) bounds) arguments.items) }
         ensures nodes { OnOk result (nodes.new ≡ nodes.old
-            ++ map (spec.in_call (source_of self.now.source.now) self.now.range bounds) arguments.items) }
+            ++ map (spec.in_call (parts_of self.now) bounds) arguments.items) }
     {
         let mut args = Items::new(self.alloc);
         for child in arguments {

@@ -6,7 +6,7 @@ ghost use Rattle.std.specs.List.{ends_with, starts_with};
 ghost use Rattle.std.specs.Str.{chars};
 ghost use Rattle.deno_graph_base.specs.SourceRange.{slice_of};
 ghost use Rattle.modinfo_document.specs.Comments.{AreThoseOf};
-ghost use Rattle.modinfo_estree.specs.Comments.{after_space, block_text, block_trails, comment_at};
+ghost use Rattle.modinfo_estree.specs.Comments.{after_space, block_text, block_trails, comment_at_range};
 ghost use Rattle.modinfo_estree.specs.Comments.{comment_of, comment_with, ends_line, has_close};
 ghost use Rattle.modinfo_estree.specs.Comments.{is_before_semicolon, is_semicolon, is_whole_line};
 ghost use Rattle.modinfo_estree.specs.Comments.{line_trails, place_of, sides_of, trails, trails_token};
@@ -41,7 +41,7 @@ pub fn file_comments(
 {
     let mut comments = Comments::new(alloc);
     for range in ranges {
-        if let Some(comment) = comment_at(alloc, text, *range)? {
+        if let Some(comment) = comment_at_range(alloc, text, *range)? {
             let place = place_of(text, tokens, ends, is_empty, &comment);
             file(&mut comments, place, comment)?;
         }
@@ -185,13 +185,13 @@ fn begins_with_semicolon(text: &str) -> bool
 
 /// Returns the comment of a text at a range, or `None` if the text has a `#!` line or a comment as in HTML
 /// there. Returns an empty line comment if the text doesn't have the range.
-#[tactic(auto, unfolding(crate::specs::Comments::comment_at))]
-fn comment_at(
+#[tactic(auto, unfolding(crate::specs::Comments::comment_at_range))]
+fn comment_at_range(
     alloc: Global,
     text: &str,
     range: SourceRange,
 ) -> Result<Option<DependencyComment>, AllocError>
-    ensures { IfOk result (λ comment. comment ≡ comment_at text.now range) }
+    ensures { IfOk result (λ comment. comment ≡ comment_at_range text.now range) }
 {
     match slice_at(text, range) {
         Some(bytes) => comment_of(alloc, text, range, bytes),

@@ -7,14 +7,14 @@ ghost use Rattle.deno_graph_json.specs.Read.Result.{IsReadResult};
 ghost use Rattle.deno_graph_source.specs.Node.{kind_of, range_of};
 ghost use Rattle.modinfo_estree.specs.Child.{node_of, nodes_in};
 ghost use Rattle.modinfo_estree.specs.Kind as spec;
+ghost use Rattle.modinfo_estree.specs.Parts.{parts_of};
 ghost use Rattle.modinfo_estree.specs.Source.{source_of};
 
 use crate::child::{Child, first_in, nodes_of, split};
-use crate::literal::read_literal_at;
 use crate::member::{has_items, has_text, has_type, is_present};
 use crate::phase::read_phase;
 use crate::reading::Reading;
-use crate::required::in_member;
+use crate::required::{in_member, read_at};
 use crate::role::Group;
 use crate::source::Members;
 use deno_graph_json::{Element, ReadError};
@@ -33,10 +33,9 @@ impl<'a, 't, 'v> Reading<'a, 't, 'v> {
     #[tactic(auto, using(deno_graph_json::proofs::Reading::reading), unfolding(crate::specs::Kind::reads_import))]
     pub fn import(&self, children: Vec<Child>) -> Result<Node, ReadError>
         ensures { IsReadResult (value_of self.now.members)
-            (spec.reads_import (source_of self.now.source.now) (readable self.now.members) self.now.range
-            children.items) result }
+            (spec.reads_import (parts_of self.now) children.items) result }
     {
-        let src = read_literal_at(self.alloc, &self.source.offsets, &self.members, "source")?;
+        let src: StrLit = read_at(self.alloc, &self.source.offsets, &self.members, "source")?;
         let phase = read_phase(&self.members)?;
         let (attributes, _) = split(self.alloc, children, Group::Attributes)?;
         let has_with = self.has_clause(&src, &attributes);
@@ -55,10 +54,9 @@ impl<'a, 't, 'v> Reading<'a, 't, 'v> {
     #[tactic(auto, using(deno_graph_json::proofs::Reading::reading), unfolding(crate::specs::Kind::reads_export_from))]
     pub fn export_from(&self, children: Vec<Child>) -> Result<Node, ReadError>
         ensures { IsReadResult (value_of self.now.members)
-            (spec.reads_export_from (source_of self.now.source.now) (readable self.now.members) self.now.range
-            children.items) result }
+            (spec.reads_export_from (parts_of self.now) children.items) result }
     {
-        let src = read_literal_at(self.alloc, &self.source.offsets, &self.members, "source")?;
+        let src: StrLit = read_at(self.alloc, &self.source.offsets, &self.members, "source")?;
         let (attributes, _) = split(self.alloc, children, Group::Attributes)?;
         let has_with = self.has_clause(&src, &attributes);
         let children = self.clause(has_with, attributes)?;
@@ -75,8 +73,7 @@ impl<'a, 't, 'v> Reading<'a, 't, 'v> {
     #[tactic(auto, using(deno_graph_json::proofs::Reading::reading), unfolding(crate::specs::Kind::reads_named_export, deno_graph_json::specs::Read::Partial::member_at))]
     pub fn named_export(&self, children: Vec<Child>) -> Result<Node, ReadError>
         ensures { IsReadResult (value_of self.now.members)
-            (spec.reads_named_export (source_of self.now.source.now) (readable self.now.members)
-            self.now.range children.items) result }
+            (spec.reads_named_export (parts_of self.now) children.items) result }
     {
         if is_present(&self.members, "source") {
             return self.export_from(children);
@@ -94,8 +91,7 @@ impl<'a, 't, 'v> Reading<'a, 't, 'v> {
     #[tactic(auto, using(deno_graph_json::proofs::Reading::reading))]
     fn exported(&self, declaration: Element<'_>, children: Vec<Child>) -> Result<Node, ReadError>
         ensures { IsReadResult (data_of declaration.entry)
-            (spec.reads_exported (source_of self.now.source.now) self.now.range children.items
-            (data_of declaration.entry)) result }
+            (spec.reads_exported (parts_of self.now) children.items (data_of declaration.entry)) result }
     {
         let declared = Members::new(self.alloc, declaration)?;
         self.import_equals(true, &declared, children)
@@ -111,8 +107,8 @@ impl<'a, 't, 'v> Reading<'a, 't, 'v> {
         children: Vec<Child>,
     ) -> Result<Node, ReadError>
         ensures { IsReadResult (value_of declared.now)
-            (spec.reads_import_equals (source_of self.now.source.now) self.now.range children.items is_export
-            (readable declared.now)) result }
+            (spec.reads_import_equals (parts_of self.now) children.items is_export (readable declared.now))
+            result }
     {
         match declared.get("moduleReference") {
             Some(reference) if has_type(declared, "moduleReference", EXTERNAL_MODULE) => {
@@ -135,7 +131,7 @@ impl<'a, 't, 'v> Reading<'a, 't, 'v> {
             (spec.external_in (source_of self.now.source.now) (data_of reference.entry)) result }
     {
         let reference = Members::new(self.alloc, reference)?;
-        read_literal_at(self.alloc, &self.source.offsets, &reference, "expression")
+        read_at(self.alloc, &self.source.offsets, &reference, "expression")
     }
 
     /// Returns the node of an `import name = require("..")`.
@@ -153,8 +149,7 @@ impl<'a, 't, 'v> Reading<'a, 't, 'v> {
     /// Returns whether a declaration has a `with` clause: it has attributes; or a token follows its source
     /// that isn't `;`, since a clause without attributes is in no tree.
     fn has_clause(&self, src: &StrLit, attributes: &[Child]) -> bool
-        ensures { result ≡ spec.has_clause (source_of self.now.source.now) self.now.range
-            (map node_of attributes.now) src.now }
+        ensures { result ≡ spec.has_clause (parts_of self.now) (map node_of attributes.now) src.now }
     {
         if !attributes.is_empty() {
             return true;
@@ -178,7 +173,7 @@ impl<'a, 't, 'v> Reading<'a, 't, 'v> {
     /// Reads a module whose name is a string. A namespace is an `Other`.
     #[tactic(auto, unfolding(crate::specs::Kind::module_of))]
     pub fn module(&self, children: Vec<Child>) -> Result<Node, AllocError>
-        ensures { IfOk result (λ node. node ≡ spec.module_of self.now.range children.items) }
+        ensures { IfOk result (λ node. node ≡ spec.module_of (parts_of self.now) children.items) }
     {
         let kind = match first_literal(self.alloc, &children)? {
             Some(name) => Kind::ModuleDecl { name: Some(name) },

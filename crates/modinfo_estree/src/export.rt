@@ -5,6 +5,7 @@ ghost use Rattle.deno_graph_json.specs.Data.{data_of};
 ghost use Rattle.deno_graph_json.specs.ObjectReader.{readable};
 ghost use Rattle.deno_graph_json.specs.Read.Result.{IsReadResult};
 ghost use Rattle.modinfo_estree.specs.Kind as spec;
+ghost use Rattle.modinfo_estree.specs.Parts.{parts_of};
 ghost use Rattle.modinfo_estree.specs.Source.{byte_in, byte_of, source_of};
 
 use crate::child::{Child, nodes_of};
@@ -23,8 +24,7 @@ impl<'a, 't, 'v> Reading<'a, 't, 'v> {
     /// what it declares, if that is before `export`.
     #[tactic(auto, unfolding(crate::specs::Kind::export_of))]
     pub fn export(&self, children: Vec<Child>) -> Result<Node, AllocError>
-        ensures { IfOk result (λ node. node ≡ spec.export_of (source_of self.now.source.now)
-            (readable self.now.members) self.now.range children.items) }
+        ensures { IfOk result (λ node. node ≡ spec.export_of (parts_of self.now) children.items) }
     {
         let decorated = self.declaration_start()?;
         Ok(Node {

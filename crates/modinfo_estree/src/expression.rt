@@ -8,7 +8,7 @@ ghost use Rattle.deno_graph_json.specs.Read.Result.{IsReadResult};
 ghost use Rattle.deno_graph_json.specs.Read.Partial.{member_at, reads_array};
 ghost use Rattle.modinfo_document.specs.Literal.{reads_string};
 ghost use Rattle.modinfo_estree.specs.Kind as spec;
-ghost use Rattle.modinfo_estree.specs.Source.{source_of};
+ghost use Rattle.modinfo_estree.specs.Parts.{parts_of};
 
 use crate::child::{Child, nodes_in_parentheses, nodes_of, split};
 use crate::literal::if_spelled;
@@ -27,9 +27,8 @@ impl<'a, 't, 'v> Reading<'a, 't, 'v> {
     /// Reads a literal, an `Other` if it is no string. A BigInt of Babel has its digits as `value`.
     #[tactic(auto, using(deno_graph_json::proofs::Reading::reading), unfolding(crate::specs::Kind::reads_string_node))]
     pub fn literal(&self, children: Vec<Child>) -> Result<Node, ReadError>
-        ensures { IsReadResult (value_of self.now.members) (spec.reads_string_node
-            (source_of self.now.source.now) self.now.role (readable self.now.members) self.now.range
-            children.items) result }
+        ensures { IsReadResult (value_of self.now.members)
+            (spec.reads_string_node (parts_of self.now) children.items) result }
     {
         match self.string_value()? {
             Some(text) => self.string(text, children),
@@ -42,8 +41,8 @@ impl<'a, 't, 'v> Reading<'a, 't, 'v> {
     #[tactic(auto, using(deno_graph_json::proofs::Reading::reading))]
     fn string(&self, text: JsString, children: Vec<Child>) -> Result<Node, ReadError>
         requires { member_at reads_string (codes "value") (readable self.now.members) ≡ Some text }
-        ensures { IsReadResult (value_of self.now.members) (spec.reads_spelled
-            (source_of self.now.source.now) self.now.role self.now.range children.items text) result }
+        ensures { IsReadResult (value_of self.now.members)
+            (spec.reads_spelled (parts_of self.now) children.items text) result }
     {
         if !self.role.is_read() {
             return Ok(self.whole(Kind::Str(text), children)?);
@@ -66,8 +65,7 @@ impl<'a, 't, 'v> Reading<'a, 't, 'v> {
     /// Reads a template, an `Other` if an escape in it is no text.
     #[tactic(auto, unfolding(crate::specs::Kind::template))]
     pub fn template(&self, children: Vec<Child>) -> Result<Node, AllocError>
-        ensures { IfOk result (λ node. node ≡ spec.template (readable self.now.members) self.now.range
-            children.items) }
+        ensures { IfOk result (λ node. node ≡ spec.template (parts_of self.now) children.items) }
     {
         match self.quasis()? {
             Some(quasis) => {
@@ -82,8 +80,7 @@ impl<'a, 't, 'v> Reading<'a, 't, 'v> {
     /// Reads a binary expression.
     #[tactic(auto, unfolding(crate::specs::Kind::binary))]
     pub fn binary(&self, children: Vec<Child>) -> Result<Node, AllocError>
-        ensures { IfOk result (λ node. node ≡ spec.binary (readable self.now.members) self.now.range
-            children.items) }
+        ensures { IfOk result (λ node. node ≡ spec.binary (parts_of self.now) children.items) }
     {
         let operator = if has_text(&self.members, "operator", "+") {
             BinaryOp::Add
@@ -98,8 +95,7 @@ impl<'a, 't, 'v> Reading<'a, 't, 'v> {
     /// Reads an identifier.
     #[tactic(auto, unfolding(crate::specs::Kind::identifier))]
     pub fn identifier(&self, children: Vec<Child>) -> Result<Node, AllocError>
-        ensures { IfOk result (λ node. node ≡ spec.identifier (readable self.now.members) self.now.range
-            children.items) }
+        ensures { IfOk result (λ node. node ≡ spec.identifier (parts_of self.now) children.items) }
     {
         match text_at(&self.members, "name") {
             Some(name) => self.whole(Kind::Ident(Text::from_str(self.alloc, name)?), children),
@@ -110,7 +106,7 @@ impl<'a, 't, 'v> Reading<'a, 't, 'v> {
     /// Reads an object literal.
     #[tactic(auto, unfolding(crate::specs::Kind::object_literal))]
     pub fn object(&self, children: Vec<Child>) -> Result<Node, AllocError>
-        ensures { IfOk result (λ node. node ≡ spec.object_literal self.now.range children.items) }
+        ensures { IfOk result (λ node. node ≡ spec.object_literal (parts_of self.now) children.items) }
     {
         let (properties, _) = split(self.alloc, children, Group::Properties)?;
         let nodes = nodes_of(self.alloc, properties)?;

@@ -6,14 +6,14 @@ ghost use Rattle.deno_graph_json.specs.ObjectReader.{readable, value_of};
 ghost use Rattle.deno_graph_json.specs.Read.Result.{IsReadResult};
 ghost use Rattle.modinfo_estree.specs.Child.{nodes_in, nodes_outside};
 ghost use Rattle.modinfo_estree.specs.Kind as spec;
+ghost use Rattle.modinfo_estree.specs.Parts.{parts_of};
 ghost use Rattle.modinfo_estree.specs.Source.{source_of};
 
 use crate::child::{Child, nodes_of, push_nodes, split};
 use crate::clause::clause_of;
-use crate::literal::{read_literal, read_literal_at};
 use crate::member::is_present;
 use crate::reading::Reading;
-use crate::required::{in_member, required};
+use crate::required::{ReadWith, in_member, read_at, required};
 use crate::role::Group;
 use crate::source::Members;
 use deno_graph_json::{Element, ReadError};
@@ -26,8 +26,7 @@ impl<'a, 't, 'v> Reading<'a, 't, 'v> {
     #[tactic(auto, using(deno_graph_json::proofs::Reading::reading), unfolding(crate::specs::Kind::reads_import_type))]
     pub fn import_type(&self, children: Vec<Child>) -> Result<Node, ReadError>
         ensures { IsReadResult (value_of self.now.members)
-            (spec.reads_import_type (source_of self.now.source.now) (readable self.now.members) self.now.range
-            children.items) result }
+            (spec.reads_import_type (parts_of self.now) children.items) result }
     {
         let arg = self.import_type_literal()?;
         let (has_with, nodes) = import_type_nodes(self.alloc, children)?;
@@ -43,7 +42,7 @@ impl<'a, 't, 'v> Reading<'a, 't, 'v> {
             result }
     {
         if is_present(&self.members, "source") {
-            return read_literal_at(self.alloc, &self.source.offsets, &self.members, "source");
+            return read_at(self.alloc, &self.source.offsets, &self.members, "source");
         }
         let argument = required(self.alloc, &self.members, "argument")?;
         let read = self.literal_in(argument);
@@ -59,8 +58,8 @@ impl<'a, 't, 'v> Reading<'a, 't, 'v> {
     {
         let members = Members::new(self.alloc, argument)?;
         match members.get("literal") {
-            Some(_) => read_literal_at(self.alloc, &self.source.offsets, &members, "literal"),
-            None => read_literal(self.alloc, &self.source.offsets, argument),
+            Some(_) => read_at(self.alloc, &self.source.offsets, &members, "literal"),
+            None => ReadWith::read_with(self.alloc, &self.source.offsets, argument),
         }
     }
 }

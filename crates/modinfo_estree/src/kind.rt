@@ -4,7 +4,7 @@ ghost use Rattle.std.specs.Prelude.{◌≡◌, IfOk};
 ghost use Rattle.deno_graph_json.specs.ObjectReader.{readable, value_of};
 ghost use Rattle.deno_graph_json.specs.Read.Result.{IsReadResult};
 ghost use Rattle.modinfo_estree.specs.Kind as spec;
-ghost use Rattle.modinfo_estree.specs.Source.{source_of};
+ghost use Rattle.modinfo_estree.specs.Parts.{parts_of};
 
 use crate::child::Child;
 use crate::member::{has_name, has_text, is_true};
@@ -18,8 +18,7 @@ impl<'a, 't, 'v> Reading<'a, 't, 'v> {
     #[tactic(auto, unfolding(crate::specs::Kind::reads_type, modinfo_document::specs::Kind::named))]
     pub fn node_of_type(&self, name: &str, children: Vec<Child>) -> Result<Node, ReadError>
         ensures { IsReadResult (value_of self.now.members)
-            (spec.reads_type (source_of self.now.source.now) self.now.role (readable self.now.members)
-            self.now.range children.items name.now) result }
+            (spec.reads_type (parts_of self.now) children.items name.now) result }
     {
         match name {
             "ImportDeclaration" => self.import(children),
@@ -38,8 +37,8 @@ impl<'a, 't, 'v> Reading<'a, 't, 'v> {
     /// Reads the node of a type whose nodes lack nothing.
     #[tactic(auto, unfolding(crate::specs::Kind::total_type, modinfo_document::specs::Kind::named))]
     fn other_type(&self, name: &str, children: Vec<Child>) -> Result<Node, AllocError>
-        ensures { IfOk result (λ node. node ≡ spec.total_type (source_of self.now.source.now)
-            (readable self.now.members) self.now.range children.items name.now) }
+        ensures { IfOk result (λ node. node
+            ≡ spec.total_type (parts_of self.now) children.items name.now) }
     {
         match name {
             "ExportDefaultDeclaration" => self.export(children),

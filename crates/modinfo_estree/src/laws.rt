@@ -5,7 +5,7 @@ ghost use Rattle.std.specs.Str.{IsUtf8};
 ghost use Rattle.deno_graph_base.specs.declared.text.position.SourceRange.{SourceRange};
 ghost use Rattle.deno_graph_source.specs.Source.{IsSpelled};
 ghost use Rattle.deno_graph_source.specs.declared.tree.comments.DependencyComment.{DependencyComment};
-ghost use Rattle.modinfo_estree.specs.Comments.{IsWhole, comment_at};
+ghost use Rattle.modinfo_estree.specs.Comments.{IsWhole, comment_at_range};
 ghost use Rattle.modinfo_estree.specs.Offsets.{byte_offset, unit_sizes};
 ghost use Rattle.modinfo_estree.specs.Tokens.{breaks, gaps};
 
@@ -33,5 +33,5 @@ pub fn each_byte_is_marked()
 /// goes as far as the comment does.
 pub fn each_comment_is_read()
     ensures { (text : List ℕ) → (comment : DependencyComment) → IsSpelled text comment
-        → IsWhole text comment → comment_at text comment.range ≡ Some comment }
+        → IsWhole text comment → comment_at_range text comment.range ≡ Some comment }
 {}

@@ -1,7 +1,6 @@
 //! String literals, each held against the text.
 
 ghost use Rattle.std.specs.Prelude.{◌≡◌, codes, IfOk, Some};
-ghost use Rattle.deno_graph_json.specs.Data.{data_of};
 ghost use Rattle.deno_graph_json.specs.ObjectReader.{readable, value_of};
 ghost use Rattle.deno_graph_json.specs.Read.Partial.{member_at};
 ghost use Rattle.deno_graph_json.specs.Read.Result.{IsReadResult};
@@ -12,7 +11,7 @@ ghost use Rattle.modinfo_estree.specs.Literal.{if_spelled};
 
 use crate::member::read_range;
 use crate::offsets::Offsets;
-use crate::required::{in_member, required};
+use crate::required::ReadWith;
 use crate::slice::slice_at;
 use crate::source::Members;
 use deno_graph_json::{Element, Expected, ReadError};
@@ -27,35 +26,21 @@ const EXPECTED: Expected = Expected::OneOf(
 );
 
 /// Reads a string literal, whose member `value` is its value.
-#[tactic(auto, using(deno_graph_json::proofs::Reading::reading), unfolding(crate::specs::Literal::reads_literal))]
-pub fn read_literal(
-    alloc: Global,
-    offsets: &Offsets<'_>,
-    value: Element<'_>,
-) -> Result<StrLit, ReadError>
-    ensures { IsReadResult (data_of value.entry)
-        (spec.reads_literal offsets.now (data_of value.entry)) result }
-{
-    let members = Members::new(alloc, value)?;
-    let range = read_range(offsets, &members)?;
-    let found = members.read("value")?;
-    let value = if_spelled(alloc, offsets, range, &members, found)?;
-    Ok(StrLit { value, range })
-}
+impl<'t> ReadWith<Offsets<'t>> for StrLit {
+    ghost reads = { spec.reads_literal };
 
-/// Reads the string literal that is a member.
-#[tactic(auto, using(deno_graph_json::proofs::Reading::reading), unfolding(deno_graph_json::specs::Read::Partial::member_at))]
-pub fn read_literal_at(
-    alloc: Global,
-    offsets: &Offsets<'_>,
-    members: &Members<'_>,
-    name: &'static str,
-) -> Result<StrLit, ReadError>
-    ensures { IsReadResult (value_of members.now)
-        (spec.reads_literal_at offsets.now name.now (readable members.now)) result }
-{
-    let value = required(alloc, members, name)?;
-    in_member(alloc, members, name, read_literal(alloc, offsets, value))
+    #[tactic(auto, using(deno_graph_json::proofs::Reading::reading), unfolding(crate::specs::Literal::reads_literal))]
+    fn read_with(
+        alloc: Global,
+        offsets: &Offsets<'t>,
+        value: Element<'_>,
+    ) -> Result<StrLit, ReadError> {
+        let members = Members::new(alloc, value)?;
+        let range = read_range(offsets, &members)?;
+        let found = members.read("value")?;
+        let value = if_spelled(alloc, offsets, range, &members, found)?;
+        Ok(StrLit { value, range })
+    }
 }
 
 /// Returns the value of a string literal that was read from its members, if the text may spell the value at

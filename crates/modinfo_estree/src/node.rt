@@ -2,20 +2,20 @@
 
 ghost use Rattle.serde_json.specs.Data.{array, object};
 ghost use Rattle.deno_graph_json.specs.Data.{data_of, elements_data, members_data};
-ghost use Rattle.deno_graph_json.specs.Read.Partial.{reads_array};
 ghost use Rattle.deno_graph_json.specs.Read.Result.{IsReadResult};
-ghost use Rattle.modinfo_estree.specs.Node.{children_among, children_at, children_in, item_child, reads_node};
+ghost use Rattle.modinfo_estree.specs.Node.{children_among, children_in, reads_node};
 ghost use Rattle.modinfo_estree.specs.Source.{source_of};
 ghost use Rattle.modinfo_estree.specs.internal.Candidates.{AreCandidates};
-ghost use Rattle.modinfo_estree.specs.internal.Node.{AreAppended};
+ghost use Rattle.modinfo_estree.specs.internal.Node.{AreAppended, children_at, item_child};
 
 use crate::candidates::{Candidate, candidates, candidates_of};
 use crate::child::{Child, sort_by_start};
 use crate::member::{read_found_range, type_of};
 use crate::reading::Reading;
+use crate::required::ReadWith;
 use crate::role::Role;
 use crate::source::{Members, Source};
-use deno_graph_json::read::{read_array, read_object};
+use deno_graph_json::read::read_object;
 use deno_graph_json::{Element, Elements, ReadError, View};
 use deno_graph_source::tree::Node;
 use deno_graph_source::values::Items;
@@ -23,7 +23,7 @@ use std::alloc::Global;
 
 /// Reads a node, with all nodes below.
 #[cycle(read)]
-pub fn read_node(
+fn read_node(
     alloc: Global,
     source: &Source<'_>,
     role: Role,
@@ -169,23 +169,17 @@ fn push_node(
     Ok(())
 }
 
-/// Reads an array of statements, each with all nodes below.
-pub fn read_nodes(
-    alloc: Global,
-    source: &Source<'_>,
-    value: Element<'_>,
-) -> Result<Items<Node>, ReadError>
-    ensures { IsReadResult (data_of value.entry)
-        (reads_array (reads_node (source_of source.now) Role.Other) (data_of value.entry)) result }
-{
-    let values = read_array(alloc, value)?;
-    let mut nodes = Items::with_capacity(alloc, values.len())?;
-    for item in values {
-        let number = nodes.len();
-        match read_node(alloc, source, Role::Other, item) {
-            Ok(node) => nodes.push(node)?,
-            Err(error) => return Err(error.in_item(number)),
-        }
+/// Reads a statement, with all nodes below.
+impl<'t> ReadWith<Source<'t>> for Node {
+    ghost use Rattle.modinfo_estree.specs.declared.role.Role.TheVariants.{Other};
+
+    ghost reads = { λ source. reads_node (source_of source) Other };
+
+    fn read_with(
+        alloc: Global,
+        source: &Source<'t>,
+        value: Element<'_>,
+    ) -> Result<Node, ReadError> {
+        read_node(alloc, source, Role::Other, value)
     }
-    Ok(nodes)
 }

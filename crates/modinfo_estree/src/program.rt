@@ -12,10 +12,9 @@ ghost use Rattle.modinfo_estree.specs.Document.{outermost_types, program_types};
 ghost use Rattle.modinfo_estree.specs.Document.{reads_body, reads_file, reads_program};
 ghost use Rattle.modinfo_estree.specs.Node.{reads_node};
 ghost use Rattle.modinfo_estree.specs.Source.{source_of};
+ghost use Rattle.modinfo_estree.specs.declared.role.Role.TheVariants.{Other};
 
-use crate::node::read_nodes;
-use crate::required::{in_member, required};
-use crate::role::Role;
+use crate::required::{in_member, read_at, required};
 use crate::source::{Estree, Members, Source};
 use deno_graph_json::read::read_str;
 use deno_graph_json::{Element, Expected, FromJson, ReadError};
@@ -160,7 +159,8 @@ fn read_body(
         (reads_body (source_of source.now) (readable members.now)) result }
 {
     let mut nodes = read_directives(alloc, source, members)?.into_vec();
-    let mut body = read_nodes_at(alloc, source, members, "body")?.into_vec();
+    let body: Items<Node> = read_at(alloc, source, members, "body")?;
+    let mut body = body.into_vec();
     nodes.append(&mut body)?;
     Ok(Items::from_vec(nodes))
 }
@@ -173,26 +173,11 @@ fn read_directives(
     members: &Members<'_>,
 ) -> Result<Items<Node>, ReadError>
     ensures { IsReadResult (value_of members.now)
-        (member_or (reads_array (reads_node (source_of source.now) Role.Other)) (codes "directives") []
+        (member_or (reads_array (reads_node (source_of source.now) Other)) (codes "directives") []
         (readable members.now)) result }
 {
     match members.get("directives") {
-        Some(_) => read_nodes_at(alloc, source, members, "directives"),
+        Some(_) => read_at(alloc, source, members, "directives"),
         None => Ok(Items::new(alloc)),
     }
-}
-
-/// Reads the nodes of a member that is an array.
-fn read_nodes_at(
-    alloc: Global,
-    source: &Source<'_>,
-    members: &Members<'_>,
-    name: &'static str,
-) -> Result<Items<Node>, ReadError>
-    ensures { IsReadResult (value_of members.now)
-        (member_at (reads_array (reads_node (source_of source.now) Role.Other)) name.now
-        (readable members.now)) result }
-{
-    let value = required(alloc, members, name)?;
-    in_member(alloc, members, name, read_nodes(alloc, source, value))
 }

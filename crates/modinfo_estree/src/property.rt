@@ -4,6 +4,7 @@ ghost use Rattle.std.specs.Prelude.{◌≡◌, IfOk, map};
 ghost use Rattle.deno_graph_json.specs.ObjectReader.{readable};
 ghost use Rattle.modinfo_estree.specs.Child.{node_of};
 ghost use Rattle.modinfo_estree.specs.Kind as spec;
+ghost use Rattle.modinfo_estree.specs.Parts.{parts_of};
 
 use crate::child::{Child, nodes_in_parentheses, nodes_of, split};
 use crate::member::{is_true, text_at};
@@ -17,8 +18,7 @@ impl<'a, 't, 'v> Reading<'a, 't, 'v> {
     /// Reads a property, an `Other` if it is no `key: value`.
     #[tactic(auto, unfolding(crate::specs::Kind::property))]
     pub fn property(&self, children: Vec<Child>) -> Result<Node, AllocError>
-        ensures { IfOk result (λ node. node ≡ spec.property (readable self.now.members) self.now.range
-            children.items) }
+        ensures { IfOk result (λ node. node ≡ spec.property (parts_of self.now) children.items) }
     {
         if self.is_key_value() {
             self.key_value(children)
@@ -41,8 +41,7 @@ impl<'a, 't, 'v> Reading<'a, 't, 'v> {
     /// Reads a `key: value`.
     #[tactic(auto, unfolding(crate::specs::Kind::key_value))]
     pub fn key_value(&self, children: Vec<Child>) -> Result<Node, AllocError>
-        ensures { IfOk result (λ node. node ≡ spec.key_value (readable self.now.members) self.now.range
-            children.items) }
+        ensures { IfOk result (λ node. node ≡ spec.key_value (parts_of self.now) children.items) }
     {
         let (parts, _) = split(self.alloc, children, Group::Property)?;
         let key = self.key_of(&parts)?;
@@ -68,8 +67,7 @@ impl<'a, 't, 'v> Reading<'a, 't, 'v> {
     /// ESTree has them.
     #[tactic(auto, unfolding(crate::specs::Kind::method))]
     pub fn method(&self, children: Vec<Child>) -> Result<Node, AllocError>
-        ensures { IfOk result (λ node. node ≡ spec.method (readable self.now.members) self.now.range
-            children.items) }
+        ensures { IfOk result (λ node. node ≡ spec.method (parts_of self.now) children.items) }
     {
         let group = if is_true(&self.members, "computed") {
             Group::DecoratorsAndKey

@@ -6,7 +6,7 @@ use Rattle.deno_graph_source.specs.Comments.{FiledComments}
 use Rattle.deno_graph_source.specs.declared.tree.comments.CommentSide.TheVariants.{Leading, Trailing}
 use Rattle.deno_graph_source.specs.declared.tree.comments.DependencyComment.{DependencyComment}
 use Rattle.modinfo_document.specs.internal.Comments.{AreAppended}
-use Rattle.modinfo_estree.specs.Comments.{comment_at, entries_on, entry_on}
+use Rattle.modinfo_estree.specs.Comments.{comment_at_range, entries_on, entry_on}
 use Rattle.modinfo_estree.specs.Tokens.{Layout}
 use Rattle.modinfo_estree.specs.declared.comments.Place.{Place}
 
@@ -20,6 +20,6 @@ abbrev pub AreFiled : List ℕ → Layout → List Bool → Bool → List Source
     → Type 0
 AreFiled text layout ends is_empty ranges old new =
     AreAppended old.leading new.leading
-    (entries_on Leading text layout ends is_empty (filter_map (comment_at text) ranges))
+    (entries_on Leading text layout ends is_empty (filter_map (comment_at_range text) ranges))
     × AreAppended old.trailing new.trailing
-    (entries_on Trailing text layout ends is_empty (filter_map (comment_at text) ranges))
+    (entries_on Trailing text layout ends is_empty (filter_map (comment_at_range text) ranges))

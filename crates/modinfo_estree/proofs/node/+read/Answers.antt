@@ -12,16 +12,9 @@ use Rattle.deno_graph_json.proofs.ObjectMembers.{Entry, depth_of_member, rest_he
 use Rattle.deno_graph_json.proofs.Reading.{error_around, exits, object_on, reading, result_on}
 use Rattle.modinfo_estree.specs.Child.{sorted_children}
 use Rattle.modinfo_estree.specs.Member.{is_text, reads_range, text_at}
-use Rattle.modinfo_estree.specs.Node.{
-  children_among,
-  children_at,
-  children_in,
-  is_jsx_attribute,
-  item_child,
-  node_with,
-}
+use Rattle.modinfo_estree.specs.Node.{children_among, children_in, is_jsx_attribute, node_with}
 use Rattle.modinfo_estree.specs.Source.{byte_of, source_of}
-use Rattle.modinfo_estree.specs.internal.Node.{AreAppended}
+use Rattle.modinfo_estree.specs.internal.Node.{AreAppended, children_at, item_child}
 use Rattle.modinfo_estree.proofs.Nodes.{
   all_done,
   all_new,
@@ -55,7 +48,6 @@ push_children-returns-in-Object t c =
     (sym (object_read source c.args.role value (members_data c.in-Object.field-0) is)) c.push_node.ensures
 
 pub push_children-returns-in-Array : goal.push_children-returns-in-Array
-unfolding children_at
 push_children-returns-in-Array t c =
     let source = source_of c.args.source.now in
     let is = c.view.ensures.json ∙ ap view_data c.in-Array.is in

@@ -4,7 +4,7 @@ use Rattle.deno_graph_json.specs.Data.{data_of}
 use Rattle.deno_graph_json.specs.ObjectReader.{readable}
 use Rattle.modinfo_estree.specs.Kind.{reads_exported, reads_named_export}
 use Rattle.modinfo_estree.specs.Member.{has_type, is_present}
-use Rattle.modinfo_estree.specs.Source.{source_of}
+use Rattle.modinfo_estree.specs.Parts.{parts_of}
 use Rattle.modinfo_estree.proofs.reading.Reading.named_export.Goals as goal
 
 pub returns-in-Some : goal.returns-in-Some
@@ -14,7 +14,7 @@ returns-in-Some c =
     let members = readable reading.members in
     let declaration = data_of c.in-Some.declaration in
     let name = codes "declaration" in
-    let reads = reads_exported (source_of reading.source.now) reading.range c.args.children.items in
+    let reads = reads_exported (parts_of reading) c.args.children.items in
     let here : get_member name members ≡ Some declaration =
     sym c.get.ensures ∙ ap (option_map data_of) c.in-Some.is in
     let no_source : is_present (codes "source") members ≡ false =

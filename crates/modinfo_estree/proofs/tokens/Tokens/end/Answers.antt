@@ -2,7 +2,7 @@ use Rattle.std.proofs.Common.{◌≡◌, ◌≤◌, ◌<◌, ◌+◌, ◌-◌, �
 use Rattle.std.proofs.lemmas.List.{get_or_read}
 use Rattle.modinfo_estree.specs.Tokens.{token_end}
 use Rattle.modinfo_estree.specs.internal.Marks.{gaps_of}
-use Rattle.modinfo_estree.proofs.Tables.{size_of_table, value_of}
+use Rattle.modinfo_estree.proofs.Tables.{size_of_table, value_by_number}
 use Rattle.modinfo_estree.proofs.TokenTables.{
   end_at_gap,
   end_at_start,
@@ -68,7 +68,7 @@ returns-then-at-eq0 c =
     let inside : i ≤ length all = omega (arith, within, size_of_gaps marks, ap length same) in
     let room : i / 32 < length ends = omega (arith, inside, size_of_table f (length all) ends table) in
     get_or_read ends (i / 32) c.index.result.now room c.index.ensures 0
-    ∙ value_of f (length all) ends i 0 table inside c.if-at-eq0.true
+    ∙ value_by_number f (length all) ends i 0 table inside c.if-at-eq0.true
     ∙ ap (λ ms. token_end (gaps_of ms) i) (sym same)
     ∙ sym (end_at_gap gaps i within (sym c.is_gap_at.ensures ∙ c.if-not-is_gap_at.false))
     ∙ ap (token_end gaps) next ∙ c.loop-at.invariant

@@ -2,7 +2,7 @@ use Rattle.std.proofs.Common.{◌≡◌, ◌≤◌, ◌<◌, ◌+◌, ◌-◌, �
 use Rattle.std.proofs.lemmas.List.{get_or_read}
 use Rattle.modinfo_estree.specs.Tokens.{is_on_line}
 use Rattle.modinfo_estree.specs.internal.Marks.{breaks_of, gaps_of}
-use Rattle.modinfo_estree.proofs.Tables.{size_of_table, value_of}
+use Rattle.modinfo_estree.proofs.Tables.{size_of_table, value_by_number}
 use Rattle.modinfo_estree.proofs.TokenTables.{
   line_at_start,
   line_at_token,
@@ -91,7 +91,7 @@ returns-then-at-eq0 c =
     let inside : i ≤ length all = omega (arith, within, size_of_gaps marks, ap length same) in
     let room : i / 32 < length on_line = omega (arith, inside, size_of_table f (length all) on_line table) in
     get_or_read on_line (i / 32) c.index.result.now room c.index.ensures false
-    ∙ value_of f (length all) on_line i false table inside c.if-at-eq0.true
+    ∙ value_by_number f (length all) on_line i false table inside c.if-at-eq0.true
     ∙ ap (λ ms. is_on_line (breaks_of ms) (gaps_of ms) i) (sym same)
     ∙ sym (line_same breaks gaps i (size_of_breaks marks ∙ sym (size_of_gaps marks)) within
     (sym c.is_gap_at.ensures ∙ c.if-not-is_gap_at.false) (sym c.is_break_at.ensures ∙ c.if-is_break_at.false))

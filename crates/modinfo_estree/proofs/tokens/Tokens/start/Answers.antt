@@ -3,7 +3,7 @@ use Rattle.std.proofs.lemmas.Bool.{cases_lt}
 use Rattle.std.proofs.lemmas.List.{get_or_read}
 use Rattle.modinfo_estree.specs.Tokens.{token_start}
 use Rattle.modinfo_estree.specs.internal.Marks.{gaps_of}
-use Rattle.modinfo_estree.proofs.Tables.{size_of_table, value_of}
+use Rattle.modinfo_estree.proofs.Tables.{size_of_table, value_by_number}
 use Rattle.modinfo_estree.proofs.TokenTables.{size_of_gaps, start_at_end, start_at_gap, start_at_token}
 use Rattle.modinfo_estree.proofs.tokens.Tokens.start.Goals as goal
 
@@ -38,7 +38,7 @@ returns-then-at-eq0 c =
     let within : i ≤ length marks = omega (arith, c.loop-at-test.true, ap length same) in
     let room : i / 32 < length starts = omega (arith, size_of_table f (length marks) starts table) in
     get_or_read starts (i / 32) c.index.result.now room c.index.ensures 0
-    ∙ value_of f (length marks) starts i 0 table within c.if-at-eq0.true
+    ∙ value_by_number f (length marks) starts i 0 table within c.if-at-eq0.true
     ∙ ap (λ ms. token_start (gaps_of ms) i) (sym same) ∙ c.loop-at.invariant
     ∙ ap (λ ms. token_start (gaps_of ms) c.args.offset) same
     ∙ ap (λ layout. token_start layout.is_gap c.args.offset) c.self.view_is
