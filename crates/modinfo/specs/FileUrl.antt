@@ -25,7 +25,8 @@ encoded_byte byte = if is_kept byte then byte ∷ [] else percent_encode_byte by
 -- The text of the URL of a path. A relative path begins in the folder.
 abbrev pub file_text : List ℕ → List ℕ → List ℕ
 file_text folder path = codes "file://"
-    ++ (if is_absolute path then [] else flat_map encoded_byte folder ++ codes "/") ++ flat_map encoded_byte path
+    ++ (if is_absolute path then [] else flat_map encoded_byte folder ++ codes "/")
+    ++ flat_map encoded_byte path
 
 -- Why a text isn't parsed: it is no URL, or an allocation failed.
 abbrev pub IsNoUrl : List ℕ → Fault → Type 0
