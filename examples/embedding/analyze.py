@@ -10,19 +10,16 @@ import ctypes
 import sys
 
 ANSWERED, FAULT, TOO_SMALL = 0, 1, 2
-FUNCTIONS = ("analyze", "analyze_estree", "convert", "reach", "check", "check_estree", "check_convert", "check_reach")
-
-
 TEXT = (ctypes.c_char_p, ctypes.c_size_t)
 ANSWER = (ctypes.c_char_p, ctypes.c_size_t, ctypes.POINTER(ctypes.c_size_t))
 
 
 class Modinfo:
-    """The functions of include/modinfo.h that read a document."""
+    """Functions of include/modinfo.h that read a document."""
 
-    def __init__(self, path):
+    def __init__(self, path, functions=("analyze",)):
         self.library = ctypes.CDLL(path)
-        for name in FUNCTIONS:
+        for name in functions:
             self.declare(f"modinfo_{name}", *TEXT, *ANSWER)
         self.declare("modinfo_run", ctypes.c_uint8, *TEXT, *ANSWER)
 

@@ -8,32 +8,25 @@ written, and the length that is needed has to be returned. After the room are by
 """
 
 import ctypes
+import json
 import sys
 from pathlib import Path
 
 from analyze import ANSWERED, FAULT, TOO_SMALL, Modinfo
 
-# Each command by its words, and by those that follow `check`.
-COMMANDS = {
-    ("analyze",): "analyze",
-    ("analyze", "--estree"): "analyze_estree",
-    ("analyze", "--source"): "analyze_source",
-    ("convert",): "convert",
-    ("reach",): "reach",
-}
-CHECKED = {**COMMANDS, (): "analyze", ("--estree",): "analyze_estree", ("--source",): "analyze_source"}
-# Each command's function that writes reports.
-CHECKS = {
-    "analyze": "check",
-    "analyze_estree": "check_estree",
-    "analyze_source": "check_source",
-    "convert": "check_convert",
-    "reach": "check_reach",
-}
-# The numbers of the commands whose functions take a text in place of a document. modinfo_run takes their documents.
-NUMBERS = {"analyze_source": 8, "check_source": 9}
-GUARD = b"\xa5" * 64
 EXAMPLES = Path(__file__).resolve().parent.parent
+TABLE = json.loads((EXAMPLES.parent / "docs/commands.json").read_text())["commands"]
+# Each command by its words, and by those that follow `check`, where analyze needn't be named.
+COMMANDS = {tuple(row["words"]): row["answer"]["function"] for row in TABLE}
+CHECKED = {**COMMANDS, **{words[1:]: name for words, name in COMMANDS.items() if words[0] == "analyze"}}
+# Each command's function that writes reports.
+CHECKS = {row["answer"]["function"]: row["check"]["function"] for row in TABLE}
+# The numbers of the commands whose functions take a text in place of a document. modinfo_run takes their documents.
+NUMBERS = {
+    row[kind]["function"]: row[kind]["number"] for row in TABLE if row.get("reads_text") for kind in ("answer", "check")
+}
+FUNCTIONS = {*CHECKS, *CHECKS.values()} - {*NUMBERS}
+GUARD = b"\xa5" * 64
 # Of each command, the endings of the names of its examples and of their expected outputs.
 ENDINGS = {
     "analyze": (".json", ".out.json"),
@@ -149,7 +142,7 @@ def main():
     if len(sys.argv) != 3:
         print("usage: python3 replay.py LIBRARY FOLDER", file=sys.stderr)
         return 2
-    modinfo, folder = Modinfo(sys.argv[1]), Path(sys.argv[2])
+    modinfo, folder = Modinfo(sys.argv[1], FUNCTIONS), Path(sys.argv[2])
     count = wrong = 0
     for name, function, document, status, wanted in calls(folder):
         count += 1

@@ -1,32 +1,25 @@
 """Compiles programs that include include/modinfo.h and modinfo.hpp by each standard that these support, without a
 warning. Needs a C and a C++ compiler, and no library."""
 
+import json
 import subprocess
 from pathlib import Path
 
 import pytest
 from installed import ROOT
 
+COMMANDS = json.loads((ROOT / "docs/commands.json").read_text())["commands"]
 # Calls each function and uses each constant, so that a macro that isn't an expression is an error too.
 CALLS = "".join(
-    f"    if (modinfo_{name}(document, length, answer, room, written) == MODINFO_{status}) return MODINFO_FAULT;\n"
-    for name, status in [
-        ("analyze", "TOO_SMALL"),
-        ("analyze_estree", "ANSWERED"),
-        ("convert", "ANSWERED"),
-        ("reach", "ANSWERED"),
-        ("check", "ANSWERED"),
-        ("check_estree", "ANSWERED"),
-        ("check_convert", "ANSWERED"),
-        ("check_reach", "ANSWERED"),
+    f"    if (modinfo_{row[kind]['function']}(document, length, {of_text if 'reads_text' in row else ''}answer, room,\n"
+    f"            written) == MODINFO_{status}) return MODINFO_FAULT;\n"
+    for row in COMMANDS
+    for kind, status, of_text in [
+        ("answer", "TOO_SMALL", "document, length, MODINFO_OF_SPECIFIER, "),
+        ("check", "ANSWERED", "document, length, MODINFO_OTHER, "),
     ]
 )
-# Those of texts, and those that take the number of a command.
-CALLS += "".join(
-    f"    if (modinfo_{name}_source(document, length, document, length, MODINFO_{media_type}, answer, room, written))\n"
-    "        return MODINFO_FAULT;\n"
-    for name, media_type in [("analyze", "OF_SPECIFIER"), ("check", "OTHER")]
-)
+# Those that take the number of a command.
 CALLS += "".join(
     f"    if (modinfo_{name}(MODINFO_{command}, document, length, answer, room, written)) return MODINFO_NO_COMMAND;\n"
     for name, command in [("run", "ANALYZE_SOURCE"), ("run_lines", "CHECK_SOURCE")]

@@ -1,5 +1,5 @@
-"""What is written from docs/commands.json: --help, the manual pages, the header for C, and the tables of commands for
-Python and Rust. completions.py writes the completions of shells."""
+"""What is written from docs/commands.json: --help, the manual pages, the headers for C and C++, the symbols of Debian's
+library, and the tables of commands for Python and Rust. completions.py writes the completions of shells."""
 
 import json
 import re
@@ -7,6 +7,7 @@ from collections.abc import Iterator
 from textwrap import wrap
 from typing import Any
 
+from linking import EXPORTED
 from sources import ROOT, BuildError
 
 from formats.blocks import Block
@@ -16,12 +17,15 @@ from formats.schema import Format
 PATH = "docs/commands.json"
 HELP = "crates/modinfo/src/help.rt"
 PAGE = "packaging/module-info.1"
+SYMBOLS = "packaging/debian/libmodinfo0.symbols"
 WIDTH = 100
 COLUMN = 12
 
 Entry = dict[str, Any]
 COMMANDS: Entry = json.loads((ROOT / PATH).read_text())
 
+# The functions of the crate that return a text where those with the command's name return a type.
+OF_TEXTS = {"analyze": "analyze_json", "analyze_source": "module_info_json"}
 # The commands whose function for C reads a document. One that reads a source text takes its parts instead.
 OF_DOCUMENTS = [row for row in COMMANDS["commands"] if not row.get("reads_text")]
 
@@ -109,6 +113,18 @@ def in_header() -> Iterator[str]:
         yield from ("", *lines, first, f"{second} MODINFO_NONNULL;")
 
 
+def in_cpp() -> Iterator[str]:
+    for row in OF_DOCUMENTS:
+        name, check = (row[kind]["function"] for kind in ("answer", "check"))
+        yield from ("", f"/* {row['answer']['returns']} */", f"inline std::string {name}(std::string_view document)")
+        yield from ("{", f"    return detail::answer(modinfo_{name}, modinfo_{check}, document);", "}")
+    for row in OF_DOCUMENTS:
+        name, check = (row[kind]["function"] for kind in ("answer", "check"))
+        yield from ("", f"/* The report on a document of {name}. */")
+        body = f"{{ return detail::report(modinfo_{check}, document); }}"
+        yield f"inline std::string {check}(std::string_view document) {body}"
+
+
 def in_manual() -> Iterator[str]:
     parameters = r"\b(document_length|document|answer|room|length)\b"
     for function in functions(OF_DOCUMENTS):
@@ -130,6 +146,7 @@ def blocks(_document: Format, _info: Format, _report: Format) -> Iterator[Block]
     ]
     yield "include/modinfo.h", "commands", ",\n".join(numbers).split("\n")
     yield "include/modinfo.h", "functions", list(in_header())
+    yield "include/modinfo.hpp", "functions", list(in_cpp())
     yield "packaging/modinfo.3", "functions", list(in_manual())
     names = [function["function"] for function in functions(OF_DOCUMENTS)]
     yield "packaging/modinfo.3", "names", wrap(", ".join(f"modinfo_{name}" for name in names) + ",", 79)
@@ -145,6 +162,7 @@ def blocks(_document: Format, _info: Format, _report: Format) -> Iterator[Block]
         for row in COMMANDS["commands"]
     ]
     yield "bindings/rust/src/command.rs", "commands", list(in_rust(by_number(COMMANDS["commands"])))
+    yield "bindings/rust/tests/suite/repository.rs", "functions", list(in_rust_tests())
     yield "bindings/rust/src/ffi.rs", "functions", [f"    modinfo_{name}" for name in names]
     yield "bindings/rust/src/ffi.rs", "constants", [
         f"pub const {name.upper()}: DocumentFunction = modinfo_{name};" for name in names
@@ -153,10 +171,21 @@ def blocks(_document: Format, _info: Format, _report: Format) -> Iterator[Block]
 
 def in_rust(functions: list[Entry]) -> Iterator[str]:
     """The variants of commands, each with the function of the crate that returns the text of its answer."""
-    of_types = {"analyze": "analyze_json", "analyze_source": "module_info_json"}
     for name, number in ((function["function"], function["number"]) for function in functions):
-        yield f"    /// [`{of_types.get(name, name)}`](crate::{of_types.get(name, name)})"
+        yield f"    /// [`{OF_TEXTS.get(name, name)}`](crate::{OF_TEXTS.get(name, name)})"
         yield f"    {camel_case(name)} = {number},"
+
+
+def in_rust_tests() -> Iterator[str]:
+    """The function of the crate for the words of each command on documents."""
+    for row in OF_DOCUMENTS:
+        words, name = " ".join(row["words"]), row["answer"]["function"]
+        yield f'        "{words}" => |document| modinfo::{OF_TEXTS.get(name, name)}(document).map_err(Fault::from),'
+    for row in OF_DOCUMENTS:
+        words = " ".join(["check", *row["words"]])
+        # analyze needn't be named.
+        patterns = map(json.dumps, dict.fromkeys((words.replace(" analyze", ""), words)))
+        yield f"        {' | '.join(patterns)} => modinfo::{row['check']['function']},"
 
 
 def camel_case(name: str) -> str:
@@ -171,5 +200,12 @@ def with_help(text: str) -> str:
     return re.sub(pattern, lambda found: found[1] + help_text() + found[2], text, flags=re.DOTALL)
 
 
+def symbols(text: str) -> str:
+    """The text of the file with the library's symbols. A function that it doesn't have yet is new in this version."""
+    version = (ROOT / "VERSION").read_text().strip()
+    head, since = text.split("\n modinfo_")[0], dict(re.findall(r" (\w+)@Base (\S+)", text))
+    return "\n".join([head, *(f" {name}@Base {since.get(name, version)}" for name in sorted(EXPORTED))]) + "\n"
+
+
 def files() -> dict[str, str]:
-    return {HELP: with_help((ROOT / HELP).read_text())}
+    return {path: written((ROOT / path).read_text()) for path, written in ((HELP, with_help), (SYMBOLS, symbols))}

@@ -10,9 +10,9 @@ NAMES = "crates/modinfo_document/src/names.rt"
 
 @pytest.fixture
 def formats(repository: Repository) -> Repository:
-    sources = ["bindings/node/src", "bindings/node/tests/equipment", "bindings/python/src", "bindings/rust/src"]
+    sources = ["bindings/node/src", "bindings/node/tests/equipment", "bindings/python/src", "bindings/rust"]
     crates = ["crates/deno_graph_source/src", "crates/modinfo/src", "crates/modinfo_document/src"]
-    copy_tracked(repository, "docs", "include", "packaging", "tools", *sources, *crates)
+    copy_tracked(repository, "docs", "include", "packaging", "tools", "VERSION", *sources, *crates)
     return repository
 
 

@@ -12,13 +12,12 @@ CASES = ROOT / "crates/test_replay/data"
 
 sys.path.append(str(EXAMPLES / "embedding"))
 
-from replay import CHECKED, COMMANDS, blocks, check_cases, examples, program_cases  # noqa: E402
+from replay import COMMANDS, blocks, check_cases, examples, program_cases  # noqa: E402
 
-# In C these have no function that reads a document.
-COMMANDS["analyze", "--source"] = "analyze_source"
-CHECKED["--source",] = CHECKED["analyze", "--source"] = "analyze_source"
+# The words of each command.
+WORDS = {name: words for words, name in COMMANDS.items()}
 
-__all__ = ["CASES", "EXAMPLES", "ROOT", "answer", "blocks", "check_cases", "examples", "program_cases"]
+__all__ = ["CASES", "EXAMPLES", "ROOT", "WORDS", "answer", "blocks", "check_cases", "examples", "program_cases"]
 
 
 def answer(command: modinfo.Command, document: bytes) -> Any:

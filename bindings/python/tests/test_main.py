@@ -6,12 +6,9 @@ import sys
 from pathlib import Path
 
 import pytest
-from repository import CASES, EXAMPLES, ROOT, check_cases, examples, program_cases
+from repository import CASES, EXAMPLES, ROOT, WORDS, check_cases, examples, program_cases
 
 import modinfo
-
-# Each command's words, where they aren't its name.
-WORDS = {"analyze_estree": ["analyze", "--estree"], "analyze_source": ["analyze", "--source"]}
 
 
 def run(*words: str, input: bytes = b"") -> tuple[int, bytes, str]:
@@ -30,7 +27,7 @@ def test_an_example(command: str, document: Path, expected: Path) -> None:
     "case", [case for case in program_cases(CASES) if case[3] == 1][::20], ids=lambda case: case[0]
 )
 def test_a_refused_case(case: tuple[str, str, bytes, int, bytes]) -> None:
-    status, output, errors = run(*WORDS.get(case[1], [case[1]]), input=case[2])
+    status, output, errors = run(*WORDS[case[1]], input=case[2])
     assert (status, output) == (1, b"")
     assert errors.startswith(f"modinfo: {case[4].decode()} ") and errors.count("\n") == 1
 
@@ -38,7 +35,7 @@ def test_a_refused_case(case: tuple[str, str, bytes, int, bytes]) -> None:
 @pytest.mark.parametrize("case", list(check_cases(CASES))[::20], ids=lambda case: case[0])
 def test_a_check(case: tuple[str, str, bytes, bytes]) -> None:
     _, command, document, report = case
-    assert run("check", *WORDS.get(command, [command]), input=document) == (
+    assert run("check", *WORDS[command], input=document) == (
         0 if b'"valid"' in report else 1,
         report,
         "",

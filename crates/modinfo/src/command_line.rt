@@ -48,11 +48,12 @@ impl CommandLine {
         }
     }
 
-    /// Where the names of files are, if the command line is one of `files`.
-    pub fn names(self) -> Option<Names>
-        ensures { (names : Names) → (result ≡ Some names) ↔ (self ≡ CommandLine.Files names) }
+    /// Where the names of files are, if these arguments ask for `files`.
+    pub fn files_from_words(words: &[&str]) -> Option<Names>
+        ensures { (names : Names) → (result ≡ Some names)
+            ↔ IsTrue (asks_for (CommandLine.Files names) (map (λ word. word.now) words.now)) }
     {
-        match self {
+        match CommandLine::from_words(words)? {
             CommandLine::Files(names) => Some(names),
             _ => None,
         }

@@ -57,10 +57,7 @@ where
         → IsWrongRun USAGE.now (W.contents output.old) (W.contents output.new)
         (E.contents errors.old) (E.contents errors.new) result }
 {
-    let Some(line) = CommandLine::from_words(words) else {
-        return print_usage(errors);
-    };
-    let Some(names) = line.names() else {
+    let Some(names) = CommandLine::files_from_words(words) else {
         return print_usage(errors);
     };
     match run_files(rt, names, words.get(1..).unwrap_or(&[]), input, output) {
