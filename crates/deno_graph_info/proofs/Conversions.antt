@@ -1,8 +1,8 @@
 -- Conversion of the dependencies one by one, and conversion of a converted value.
-use Rattle.std.proofs.Common.{◌≡◌, ◌+◌, ◌<◌, ℕ, zero, suc, codes, false, List, [], ◌∷◌, ◌++◌, length, get_or, take}
-use Rattle.std.proofs.Common.{map, Option, Some, None, option_map, IsSome, Result, Ok, Err, OnOk, OnErr, IfErr}
-use Rattle.std.proofs.Common.{IsErrAnd, String, Global, string_bytes, string_cmp, true≢false, inl, inr, refl}
-use Rattle.std.proofs.Common.{sym, ap, subst, ◌∙◌, arith}
+use Rattle.std.proofs.Common.{◌≡◌, ◌+◌, ◌<◌, ℕ, zero, suc, codes, false, List, [], ◌∷◌, ◌++◌, length, get_or}
+use Rattle.std.proofs.Common.{take, map, Option, Some, None, option_map, IsSome, Result, Ok, Err, OnOk, OnErr}
+use Rattle.std.proofs.Common.{IfErr, IsErrAnd, String, Global, string_bytes, string_cmp, true≢false, inl, inr}
+use Rattle.std.proofs.Common.{refl, sym, ap, subst, ◌∙◌, arith}
 use Rattle.std.proofs.lemmas.List.{map-append, map_more}
 use Rattle.std.proofs.lemmas.Option.{none-some}
 use Rattle.std.proofs.lemmas.Result.{err_from_is_err_and}
@@ -120,7 +120,8 @@ pub put_present : {A E : Type 0} (answer : Result A E) (old new : List TextEntry
     → OnOk answer (new ≡ insert_entry string_cmp old key v)
     → OnErr answer (lookup (has_key (string_bytes key)) old ≡ None)
     → members_view new ≡ put (string_bytes key) (view v) (members_view old)
-put_present (Ok x) old new key v present made absent = ap members_view made ∙ members_view-insert_entry old key v
+put_present (Ok x) old new key v present made absent =
+    ap members_view made ∙ members_view-insert_entry old key v
 put_present (Err e) old new key v present made absent =
     let none : get_member (string_bytes key) (members_view old) ≡ None =
     sym (view-lookup (string_bytes key) old) ∙ ap (option_map view) absent in
