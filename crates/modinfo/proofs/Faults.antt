@@ -39,7 +39,6 @@ use Rattle.modinfo.specs.declared.command.Command.TheVariants.{Answer, Check}
 use Rattle.modinfo.specs.declared.fault.Fault.{Fault}
 use Rattle.modinfo.specs.declared.fault.Fault.TheVariants.{
   Input,
-  Json,
   Source,
   Convert,
   Info,
