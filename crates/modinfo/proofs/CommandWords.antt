@@ -1,7 +1,6 @@
 -- Words ask for one command line at most.
 use Rattle.std.proofs.Common.{
   ◌≡◌,
-  ◌&&◌,
   ◌||◌,
   ◌≤◌,
   ℕ,
@@ -24,6 +23,7 @@ use Rattle.std.proofs.Common.{
   subst,
 }
 use Rattle.std.specs.Str.{bytes_eq}
+use Rattle.std.proofs.lemmas.Bool.{and_parts, false_from_ne_true, not-true, or_parts, true≢false}
 use Rattle.std.proofs.lemmas.Slice.Eq.{bytes_eq-Decides}
 use Rattle.modinfo.specs.CommandLine.{are_names, asks_for, asks_for_help, asks_for_version, names_have_words}
 use Rattle.modinfo.specs.Commands.{allowed_words, has_strictness, has_words, name_of, needed_words}
@@ -38,36 +38,19 @@ use Rattle.modinfo.specs.declared.command_line.Names.TheVariants.{Arguments, Zer
 use Rattle.modinfo.specs.declared.format.Format.{Format}
 use Rattle.modinfo.specs.declared.format.Format.TheVariants.{Module, Estree, Source, Stored, Modules}
 
--- Both tests pass.
-both : (a b : Bool) → (a && b) ≡ true → (a ≡ true) × (b ≡ true)
-both true b is = (refl, is)
-both false b is = absurd (cc (is))
-
--- The test fails.
-unset : (b : Bool) → not b ≡ true → b ≡ false
-unset false is = refl
-unset true is = absurd (cc (is))
-
--- The first test fails.
-first_fails : (a b : Bool) → (a || b) ≡ false → a ≡ false
-first_fails false b is = refl
-first_fails true b is = absurd (cc (is))
-
--- A word that is allowed is another than one that isn't.
-differs : (allowed : List (List ℕ)) (one other : List ℕ) → is_among one allowed ≡ true
-    → is_among other allowed ≡ false → (same : Bool) → bytes_eq one other ≡ same → same ≡ false
-differs allowed one other is_one is_other false is = refl
-differs allowed one other is_one is_other true is =
-    let equal = (bytes_eq-Decides one other).0 is in
-    absurd (cc (sym is_one ∙ ap (λ word. is_among word allowed) equal ∙ is_other))
+-- A word that passes a test is another than one that doesn't.
+differs : (test : List ℕ → Bool) (one other : List ℕ) → test one ≡ true → test other ≡ false
+    → bytes_eq one other ≡ false
+differs test one other is_one is_other = false_from_ne_true (bytes_eq one other)
+    (λ same. true≢false (sym is_one ∙ ap test ((bytes_eq-Decides one other).0 same) ∙ is_other))
 
 -- A word that isn't allowed is not among allowed words.
 none_of : (allowed words : List (List ℕ)) (word : List ℕ) → are_among words allowed ≡ true
     → is_among word allowed ≡ false → is_among word words ≡ false
 none_of allowed [] word all is_none = refl
 none_of allowed (first ∷ words) word all is_none =
-    let parts = both _ _ all in
-    rw (differs allowed first word parts.0 is_none (bytes_eq first word) refl)
+    let parts = and_parts _ _ all in
+    rw (differs (λ each. is_among each allowed) first word parts.0 is_none)
     (none_of allowed words word parts.1 is_none)
 
 -- What is known of the words after the name of a command.
@@ -79,10 +62,10 @@ record Words (command : Command) (words : List (List ℕ)) : Type 0 where
 words_of : (command : Command) (name : List ℕ) (words : List (List ℕ)) → has_words command name words ≡ true
     → (name ≡ name_of command) × Words command words
 words_of command name words is =
-    let named = both _ _ is in
-    let needed = both _ _ named.1 in
-    let allowed = both _ _ needed.1 in
-    let distinct = both _ _ allowed.1 in (
+    let named = and_parts _ _ is in
+    let needed = and_parts _ _ named.1 in
+    let allowed = and_parts _ _ needed.1 in
+    let distinct = and_parts _ _ allowed.1 in (
       (bytes_eq-Decides name (name_of command)).0 named.0,
       record { needed = needed.0; allowed = allowed.0; strict = distinct.1 },
     )
@@ -90,7 +73,7 @@ words_of command name words is =
 -- The only word that is needed is among the words.
 needs : (word : List ℕ) (words : List (List ℕ)) → are_among (word ∷ []) words ≡ true
     → is_among word words ≡ true
-needs word words is = (both _ _ is).0
+needs word words is = (and_parts _ _ is).0
 
 -- A word that the command doesn't allow is not among its words.
 lacks : {command : Command} {words : List (List ℕ)} → Words command words
@@ -101,7 +84,7 @@ lacks {command} {words} w word is = none_of (allowed_words command) words word w
 strictness : (format : Format) (is_strict : Bool) (words : List (List ℕ))
     → has_strictness (Check format is_strict) words ≡ true → is_among (codes "--strict") words ≡ is_strict
 strictness format true words is = is
-strictness format false words is = unset (is_among (codes "--strict") words) is
+strictness format false words is = not-true (is_among (codes "--strict") words) is
 
 -- The command is the one that is asked for.
 asked_command_is : (command : Command) (words : List (List ℕ)) → Words command words
@@ -169,15 +152,8 @@ IsApart command = (asks_for_help (name_of command ∷ []) ≡ false)
 
 is_apart : (command : Command) → IsApart command
 is_apart (Answer Module) = (refl, (refl, (refl, refl)))
-is_apart (Answer Estree) = (refl, (refl, (refl, refl)))
-is_apart (Answer Source) = (refl, (refl, (refl, refl)))
-is_apart (Answer Stored) = (refl, (refl, (refl, refl)))
-is_apart (Answer Modules) = (refl, (refl, (refl, refl)))
 is_apart (Check Module is_strict) = (refl, (refl, (refl, refl)))
-is_apart (Check Estree is_strict) = (refl, (refl, (refl, refl)))
-is_apart (Check Source is_strict) = (refl, (refl, (refl, refl)))
-is_apart (Check Stored is_strict) = (refl, (refl, (refl, refl)))
-is_apart (Check Modules is_strict) = (refl, (refl, (refl, refl)))
+is_apart command = (refl, (refl, (refl, refl)))
 
 -- Three words or more don't ask for help.
 pub long_asks_nothing : {X : Type 0} (f : X → List ℕ) (xs : List X) → 3 ≤ length xs
@@ -189,7 +165,7 @@ long_asks_nothing f (x ∷ y ∷ z ∷ xs) long = refl
 
 -- The only word is another.
 only : (wanted word : List ℕ) → is_among wanted (word ∷ []) ≡ false → bytes_eq word wanted ≡ false
-only wanted word is = first_fails (bytes_eq word wanted) false is
+only wanted word is = (or_parts (bytes_eq word wanted) false is).0
 
 -- The words of a command ask neither for help nor for the version.
 neither : (command : Command) (words : List (List ℕ)) → Words command words
@@ -237,14 +213,6 @@ version_only [] is = refl
 version_only (word ∷ []) is = version_word word is
 version_only (first ∷ second ∷ words) is = absurd (cc (is))
 
--- A name isn't a flag.
-name_apart : (word flag : List ℕ) → are_names (word ∷ []) ≡ true → are_names (flag ∷ []) ≡ false
-    → (same : Bool) → bytes_eq word flag ≡ same → same ≡ false
-name_apart word flag is_name is_flag false is = refl
-name_apart word flag is_name is_flag true is =
-    let equal = (bytes_eq-Decides word flag).0 is in
-    absurd (cc (sym is_name ∙ ap (λ each. are_names (each ∷ [])) equal ∙ is_flag))
-
 asked_names_is : (names : Names) (words : List (List ℕ)) → names_have_words names words ≡ true
     → asked_names words ≡ names
 asked_names_is FromLines [] is = refl
@@ -254,7 +222,7 @@ asked_names_is Zeros (word ∷ []) is = rw is refl
 asked_names_is Zeros (first ∷ second ∷ words) is = absurd (cc (is))
 asked_names_is Arguments [] is = absurd (cc (is))
 asked_names_is Arguments (word ∷ []) is =
-    rw (name_apart word (codes "--null") is refl (bytes_eq word (codes "--null")) refl) refl
+    rw (differs (λ each. are_names (each ∷ [])) word (codes "--null") is refl) refl
 asked_names_is Arguments (first ∷ second ∷ words) is = refl
 
 -- Words after `files` ask neither for help nor for the version.
@@ -268,7 +236,7 @@ files_apart Zeros (word ∷ []) is = subst (λ each. asks_for_help (codes "files
 files_apart Zeros (first ∷ second ∷ words) is = absurd (cc (is))
 files_apart Arguments [] is = absurd (cc (is))
 files_apart Arguments (word ∷ []) is =
-    rw (name_apart word (codes "--help") is refl (bytes_eq word (codes "--help")) refl) refl
+    rw (differs (λ each. are_names (each ∷ [])) word (codes "--help") is refl) refl
 files_apart Arguments (first ∷ second ∷ words) is = refl
 
 no_version : (words : List (List ℕ)) → asks_for_version (codes "files" ∷ words) ≡ false
@@ -289,14 +257,14 @@ asked_line_is Version [] is = absurd (cc (is))
 asked_line_is Version (name ∷ words) is = rw (version_only (name ∷ words) is, is) refl
 asked_line_is (Document command) [] is = absurd (cc (is))
 asked_line_is (Document command) (name ∷ words) is =
-    let parts = both (not (is_among (codes "--lines") words)) (has_words command name words) is in
-    asked_lines_is command name words parts.1 ∙ rw (unset (is_among (codes "--lines") words) parts.0) refl
+    let parts = and_parts (not (is_among (codes "--lines") words)) (has_words command name words) is in
+    asked_lines_is command name words parts.1 ∙ rw (not-true (is_among (codes "--lines") words) parts.0) refl
 asked_line_is (Lines command) [] is = absurd (cc (is))
 asked_line_is (Lines command) (name ∷ words) is =
-    let parts = both (is_among (codes "--lines") words) (has_words command name words) is in
+    let parts = and_parts (is_among (codes "--lines") words) (has_words command name words) is in
     asked_lines_is command name words parts.1 ∙ rw parts.0 refl
 asked_line_is (Files names) [] is = absurd (cc (is))
 asked_line_is (Files names) (name ∷ words) is =
-    let parts = both (bytes_eq name (codes "files")) (names_have_words names words) is in
+    let parts = and_parts (bytes_eq name (codes "files")) (names_have_words names words) is in
     subst (λ each. asked_line (each ∷ words) ≡ Files names)
     (sym ((bytes_eq-Decides name (codes "files")).0 parts.0)) (files_line_is names words parts.1)

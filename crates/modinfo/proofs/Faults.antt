@@ -1,9 +1,8 @@
 -- The faults of a document, by the step that failed.
-use Rattle.std.proofs.Common.{◌≡◌, ◌≢◌, ◌∙◌, inl, inr, ℕ, List, Option, Some, None, refl, subst, sym}
+use Rattle.std.proofs.Common.{◌≡◌, ◌≢◌, inl, inr, ℕ, List, Some, None, refl, subst, sym}
 use Rattle.std.proofs.Common.{IsUtf8, Result, Ok, Err, MatchResult, String, Global, string_bytes}
-use Rattle.serde_json.specs.Data.{Data, Members}
+use Rattle.serde_json.specs.Data.{Data}
 use Rattle.serde_json.specs.Read.{read as read_text}
-use Rattle.deno_graph_base.specs.TextMap.{entries_of}
 use Rattle.deno_graph_json.specs.declared.error.ReadError.{ReadError}
 use Rattle.deno_graph_json.specs.declared.error.ReadError.TheVariants as read
 use Rattle.deno_graph_json.specs.declared.flat.error.TapeError.{TapeError}
@@ -12,7 +11,6 @@ use Rattle.modinfo_document.specs.declared.error.DocumentError.{DocumentError}
 use Rattle.modinfo_document.specs.declared.error.DocumentError.TheVariants as error
 use Rattle.deno_graph_info.specs.Conversion.{IsConvertFault}
 use Rattle.deno_graph_info.specs.declared.analysis.fault.InfoFault.{InfoFault}
-use Rattle.deno_graph_info.specs.declared.analysis.fault.InfoFault.TheVariants as info
 use Rattle.deno_graph_info.specs.declared.conversion.fault.ConvertFault.{ConvertFault}
 use Rattle.deno_graph_info.specs.declared.conversion.fault.ConvertFault.TheVariants as convert
 use Rattle.modinfo.specs.Answer.{
@@ -34,17 +32,13 @@ use Rattle.modinfo.specs.Fault.{
   fault_of_tape,
 }
 use Rattle.modinfo.specs.Reach.{IsQuestionFault}
-use Rattle.modinfo.specs.internal.Reach.{IsErrorIn, IsFaultIn}
+use Rattle.modinfo.specs.internal.Reach.{IsErrorIn}
 use Rattle.modinfo.specs.declared.reach.QuestionError.{QuestionError}
 use Rattle.modinfo.specs.declared.command.Command.{Command}
 use Rattle.modinfo.specs.declared.command.Command.TheVariants.{Answer, Check}
 use Rattle.modinfo.specs.declared.fault.Fault.{Fault}
 use Rattle.modinfo.specs.declared.fault.Fault.TheVariants.{
   Input,
-  Json,
-  Tree,
-  Specifier,
-  Syntax,
   Source,
   Convert,
   Info,
@@ -53,7 +47,7 @@ use Rattle.modinfo.specs.declared.fault.Fault.TheVariants.{
   OutOfMemory,
 }
 use Rattle.modinfo.specs.declared.format.Format.{Format}
-use Rattle.modinfo.specs.declared.format.Format.TheVariants.{Module, Estree, Source, Stored, Modules}
+use Rattle.modinfo.specs.declared.format.Format.TheVariants.{Module, Estree, Source}
 
 -- A text of which no flat list can be made isn't converted.
 pub no_converted_tape : (text : List ℕ) (inner : TapeError)
@@ -66,13 +60,10 @@ no_converted_tape text tape.OutOfMemory none = tt
 pub no_converted_value : (before : Data) (inner : ConvertFault)
     → (inner ≢ convert.OutOfMemory → IsConvertFault before inner)
     → IsNoConvertedValue before (fault_of_conversion inner)
-no_converted_value before convert.ColumnOverflow refused =
-    let apart : convert.ColumnOverflow ≢ convert.OutOfMemory = λ same. cc (same) in
-    (apart, refused apart)
-no_converted_value before convert.Float refused =
-    let apart : convert.Float ≢ convert.OutOfMemory = λ same. cc (same) in
-    (apart, refused apart)
 no_converted_value before convert.OutOfMemory refused = tt
+no_converted_value before inner refused =
+    let apart : inner ≢ convert.OutOfMemory = λ same. cc (same) in
+    (apart, refused apart)
 
 -- The conversion of a value is that of its text.
 pub converts_text : (text : List ℕ) (before : Data) (answer : Result (String Global) Fault)
@@ -82,35 +73,19 @@ pub converts_text : (text : List ℕ) (before : Data) (answer : Result (String G
 converts_text text before (Ok s) read h = (h.1, (before, read, h.0, h.2), h.3, h.4)
 converts_text text before (Err (Convert inner)) read h = (h.0, before, read, h.1)
 converts_text text before (Err OutOfMemory) read h = tt
-converts_text text before (Err Input) read h = absurd h
-converts_text text before (Err Json) read h = absurd h
-converts_text text before (Err Tree) read h = absurd h
-converts_text text before (Err Specifier) read h = absurd h
-converts_text text before (Err Syntax) read h = absurd h
-converts_text text before (Err (Source inner)) read h = absurd h
-converts_text text before (Err (Info inner)) read h = absurd h
-converts_text text before (Err Output) read h = absurd h
-converts_text text before (Err Closed) read h = absurd h
+converts_text text before (Err fault) read h = absurd h
 
 -- A text that isn't JSON isn't a document of `reach`.
 pub no_reach : (text : List ℕ) (fault : Fault) → IsNoJson text fault → IsNoReach text fault
-no_reach text Input none = none
-no_reach text Json none = none
-no_reach text Tree none = none
-no_reach text Specifier none = none
-no_reach text Syntax none = none
-no_reach text (Source inner) none = none
-no_reach text (Convert inner) none = none
 no_reach text (Info inner) none = absurd none
-no_reach text Output none = none
-no_reach text Closed none = none
-no_reach text OutOfMemory none = none
+no_reach text fault none = none
 
 -- The fault of a value is that of its text.
 no_question : (text : List ℕ) (value : Data) (fault : InfoFault) (found : ReadError)
-    → read_text text ≡ Some value → IsFaultIn (IsQuestionFault value) value fault found
+    → read_text text ≡ Some value
+    → IsErrorIn (IsQuestionFault value) value (record { fault = fault; error = found })
     → IsNoReach text (fault_of_error fault found)
-no_question text value fault (read.Mismatch mismatch) is has = (has.0, value, is, has.1)
+no_question text value fault (read.Mismatch mismatch) is has = ((has tt).0, value, is, (has tt).1)
 no_question text value fault read.OutOfMemory is has = tt
 
 pub asks_nothing : (text : List ℕ) (value : Data) (found : QuestionError) → read_text text ≡ Some value
@@ -127,33 +102,20 @@ no_tape text tape.OutOfMemory none = tt
 pub run_fault : (command : Command) (document : List ℕ) (fault : Fault)
     → IsNoResult command document fault → IsRunFault command document fault
 run_fault command document Input has = tt
-run_fault command document Json has = has
-run_fault command document Tree has = has
-run_fault command document Specifier has = has
-run_fault command document Syntax has = has
-run_fault command document (Source inner) has = has
-run_fault command document (Convert inner) has = has
-run_fault command document (Info inner) has = has
 run_fault command document Output has = tt
 run_fault command document Closed has = tt
-run_fault command document OutOfMemory has = has
+run_fault command document fault has = has
 
 -- A failed allocation is a fault of a document, for each format.
 no_memory : (format : Format) (document : List ℕ) → IsDocumentFault format document OutOfMemory
-no_memory Module document = tt
-no_memory Estree document = tt
 no_memory Source document = inl tt
-no_memory Stored document = tt
-no_memory Modules document = tt
+no_memory format document = tt
 
 -- Bytes that aren't UTF-8 are a fault of a document, for each format.
 pub no_text : (format : Format) (document : List ℕ) → ¬ IsUtf8 document
     → IsDocumentFault format document Input
-no_text Module document other = other
-no_text Estree document other = other
 no_text Source document other = inl other
-no_text Stored document other = other
-no_text Modules document other = other
+no_text format document other = other
 
 -- A failed allocation is a fault of the run, for each command.
 pub run_without_memory : (command : Command) (document : List ℕ) → IsRunFault command document OutOfMemory
@@ -165,29 +127,13 @@ pub failed_read : (command : Command) (document : List ℕ) (fault : Fault) → 
     → IsRunFault command document fault
 failed_read command document Input failed = tt
 failed_read command document OutOfMemory failed = run_without_memory command document
-failed_read command document Json failed = absurd failed
-failed_read command document Tree failed = absurd failed
-failed_read command document Specifier failed = absurd failed
-failed_read command document Syntax failed = absurd failed
-failed_read command document (Source inner) failed = absurd failed
-failed_read command document (Convert inner) failed = absurd failed
-failed_read command document (Info inner) failed = absurd failed
-failed_read command document Output failed = absurd failed
-failed_read command document Closed failed = absurd failed
+failed_read command document fault failed = absurd failed
 
 -- A property of both faults of a failed write is one of each such fault.
 by_write : (P : Fault → Type 0) → P Output → P Closed → (fault : Fault) → IsWriteFault fault → P fault
 by_write P output closed Output wrote = output
 by_write P output closed Closed wrote = closed
-by_write P output closed Input wrote = absurd wrote
-by_write P output closed Json wrote = absurd wrote
-by_write P output closed Tree wrote = absurd wrote
-by_write P output closed Specifier wrote = absurd wrote
-by_write P output closed Syntax wrote = absurd wrote
-by_write P output closed (Source inner) wrote = absurd wrote
-by_write P output closed (Convert inner) wrote = absurd wrote
-by_write P output closed (Info inner) wrote = absurd wrote
-by_write P output closed OutOfMemory wrote = absurd wrote
+by_write P output closed fault wrote = absurd wrote
 
 -- A failed write is a fault of the run.
 pub write_fault : (command : Command) (document : List ℕ) (fault : Fault) → IsWriteFault fault
@@ -205,11 +151,8 @@ read_apart fault failed wrote =
 
 -- An error of a document isn't a failed write.
 document_apart : (inner : DocumentError) → ¬ IsWriteFault (fault_of_document inner)
-document_apart (error.Json place) wrote = wrote
-document_apart (error.Tree mismatch) wrote = wrote
-document_apart error.Specifier wrote = wrote
-document_apart (error.Source inner) wrote = wrote
 document_apart error.OutOfMemory wrote = wrote
+document_apart inner wrote = wrote
 
 -- No result is missing because a write failed.
 
@@ -220,8 +163,7 @@ output_apart (Answer Estree) document (inner, is, has) =
     document_apart inner (subst IsWriteFault (sym is) tt)
 output_apart (Answer Source) document (inl none) = none
 output_apart (Answer Source) document (inr (text, is, none)) = none
-output_apart (Answer Stored) document none = none
-output_apart (Answer Modules) document none = none
+output_apart (Answer format) document none = none
 output_apart (Check format is_strict) document same = cc (same)
 
 closed_apart : (command : Command) (document : List ℕ) → ¬ IsNoResult command document Closed
@@ -231,8 +173,7 @@ closed_apart (Answer Estree) document (inner, is, has) =
     document_apart inner (subst IsWriteFault (sym is) tt)
 closed_apart (Answer Source) document (inl none) = none
 closed_apart (Answer Source) document (inr (text, is, none)) = none
-closed_apart (Answer Stored) document none = none
-closed_apart (Answer Modules) document none = none
+closed_apart (Answer format) document none = none
 closed_apart (Check format is_strict) document same = cc (same)
 
 pub result_apart : (command : Command) (document : List ℕ) (fault : Fault) → IsNoResult command document fault

@@ -37,7 +37,6 @@ use Rattle.std.proofs.Common.{
   true≢false,
   eq-eqb,
   lt-ltb,
-  zero-add,
   Result,
   Ok,
   Err,
@@ -52,31 +51,29 @@ use Rattle.std.specs.Io.Iter.{u64_saturate}
 use Rattle.std.specs.Io.KnownBytes.{Appends, Consumes, IsAtEnd}
 use Rattle.std.specs.Prelude.{Option, All, ◌≢◌}
 use Rattle.std.specs.Result.{IsErrAnd}
-use Rattle.std.specs.String.{string_bytes}
 use Rattle.std.proofs.BufReadLemmas.{drop_through-append, take_through_nonempty, through_part}
-use Rattle.std.proofs.KnownBytes.{Appends-nil, Appends-trans}
-use Rattle.std.proofs.lemmas.List.{take-append-le}
+use Rattle.std.proofs.KnownBytes.{Appends-nil}
+use Rattle.std.proofs.Math.Bool.{and-true, and_assoc}
+use Rattle.std.proofs.lemmas.Bool.{and_parts}
 use Rattle.std.proofs.lemmas.List.Elements.{All-more, All-nil}
 use Rattle.std.proofs.lemmas.Result.{err_from_is_err_and}
 use Rattle.modinfo.proofs.Faults.{run_without_memory}
+use Rattle.modinfo.proofs.Written.{front_after, front_of_both, whole_front}
 use Rattle.modinfo.specs.Lines.{
-  IsPrinted,
   PrintsLine,
   PrintsLines,
   before_first,
   lines_of,
   fault_line,
-  framed,
   passes_without,
   LeavesFirstLines,
 }
 use Rattle.modinfo.specs.internal.Lines.{TakesLines}
-use Rattle.modinfo.specs.Lines.PrintsLine.{with_fault, with_result}
+use Rattle.modinfo.specs.Lines.PrintsLine.{with_fault}
 use Rattle.modinfo.specs.Lines.PrintsLines.{more, none}
-use Rattle.modinfo.specs.Run.{AppendsFront, IsFailure, IsNoResult}
+use Rattle.modinfo.specs.Run.{AppendsFront, IsFailure}
 use Rattle.modinfo.specs.declared.fault.Fault.{Fault}
 use Rattle.modinfo.specs.declared.fault.Fault.TheVariants.{OutOfMemory}
-use Rattle.modinfo.specs.declared.command.Printed.{Printed}
 use Rattle.modinfo.specs.declared.command.Command.{Command}
 
 -- The last byte of a longer list.
@@ -197,12 +194,8 @@ nonempty_before None b first p some = tt
 nonempty_before (Some x) None first p some = absurd p
 nonempty_before (Some x) (Some y) first p some = omega (arith, some, ap length p, length-append first y)
 
-both_true : (a b : Bool) → a && b ≡ true → (a ≡ true) × (b ≡ true)
-both_true true b e = (refl, e)
-both_true false b e = absurd (true≢false (sym e))
-
 nonempty_ended : (xs : List ℕ) → ends_with_byte 10 xs ≡ true → 0 < length xs
-nonempty_ended xs e = ltb-true _ _ (both_true _ _ e).0
+nonempty_ended xs e = ltb-true _ _ (and_parts _ _ e).0
 
 -- The bytes that were read end with their first line feed.
 pub DropsThrough-ended : (a b : Option (List ℕ)) (first : List ℕ) → Consumes a b first → StopsAt first 10
@@ -210,7 +203,7 @@ pub DropsThrough-ended : (a b : Option (List ℕ)) (first : List ℕ) → Consum
 DropsThrough-ended None b first p stops e = tt
 DropsThrough-ended (Some x) None first p stops e = absurd p
 DropsThrough-ended (Some x) (Some y) first p stops e =
-    let last : IsEmptyOrEndsWith first 10 = λ some. eqb-true _ _ (both_true _ _ e).1 in
+    let last : IsEmptyOrEndsWith first 10 = λ some. eqb-true _ _ (and_parts _ _ e).1 in
     let part = through_part 10 first y stops last (λ zero. absurd (omega (
       arith,
       zero,
@@ -264,20 +257,12 @@ nonempty_skipped (Some y) first count skipped is counted (inl some) = omega arit
 nonempty_skipped (Some y) first count skipped is counted (inr some) =
     omega (arith, take_through_nonempty 10 y (omega arith))
 
-and_assoc : (a b c : Bool) → (a && b) && c ≡ a && (b && c)
-and_assoc true b c = refl
-and_assoc false b c = refl
-
-and_true : (a : Bool) → a && true ≡ a
-and_true true = refl
-and_true false = refl
-
 -- The printed lines for a line after others.
 pub PrintsLines-more : (command : Command) (lines : List (List ℕ)) (line : List ℕ) (passes next : Bool)
     (printed text : List ℕ) → PrintsLines command lines passes printed → PrintsLine command line next text
     → PrintsLines command (lines ++ line ∷ []) (passes && next) (printed ++ text)
 PrintsLines-more command _ line _ next _ text none one =
-    subst (λ b. PrintsLines command (line ∷ []) b text) (and_true next)
+    subst (λ b. PrintsLines command (line ∷ []) b text) (and-true next)
     (subst (λ t. PrintsLines command (line ∷ []) (next && true) t) (append-nil text) (more one none))
 PrintsLines-more command _ line _ next _ text (more one_line others) one =
     rw (and_assoc, append_assoc) (more one_line (PrintsLines-more command _ line _ next _ text others one))
@@ -300,35 +285,12 @@ PrintsLines-next command lines line passes next sent waiting written left printe
 -- The bytes that were written are a beginning of the printed lines.
 pub AppendsFront-sent : (a b : Option (List ℕ)) (sent waiting : List ℕ) → Appends a b sent
     → AppendsFront a b (sent ++ waiting)
-AppendsFront-sent a b sent waiting p = (
-  length sent,
-  subst (Appends a b) (sym (take-append-le (length sent) sent waiting (omega arith)
-      ∙ take_all (length sent) sent (omega arith))) p,
-)
-
-take_past : (xs ys : List ℕ) (n : ℕ) → take (length xs + n) (xs ++ ys) ≡ xs ++ take n ys
-take_past [] ys n = ap (λ k. take k ys) (zero-add n)
-take_past (x ∷ xs) ys n =
-    let e : length (x ∷ xs) + n ≡ suc (length xs + n) = omega arith in
-    ap (λ k. take k (x ∷ (xs ++ ys))) e ∙ ap (λ l. x ∷ l) (take_past xs ys n)
+AppendsFront-sent a b sent waiting p = front_of_both a b sent waiting (whole_front a b sent p)
 
 -- With a beginning of the waiting bytes they are still a beginning.
 pub AppendsFront-more : (a b c : Option (List ℕ)) (sent waiting : List ℕ) → Appends a b sent
     → AppendsFront b c waiting → AppendsFront a c (sent ++ waiting)
-AppendsFront-more a b c sent waiting p q = (
-  length sent + q.0,
-  subst (Appends a c) (sym (take_past sent waiting q.0)) (Appends-trans a b c sent (take q.0 waiting) p q.1),
-)
-
--- The line with a result.
-pub PrintsLine-framed : (command : Command) (line : List ℕ) (result : Printed) → IsPrinted command line result
-    → PrintsLine command line result.is_passed (framed command (string_bytes result.line))
-PrintsLine-framed command line result is = with_result (string_bytes result.line) is
-
--- The line with the fault.
-pub PrintsLine-faulted : (command : Command) (line : List ℕ) (fault : Fault) → IsNoResult command line fault
-    → PrintsLine command line (passes_without command) (fault_line fault)
-PrintsLine-faulted command line fault has = with_fault fault has
+AppendsFront-more a b c sent waiting p q = front_after a b c sent waiting p q
 
 -- The line of a document for which an allocation failed.
 pub PrintsLine-out_of_memory : (command : Command) (line : List ℕ)

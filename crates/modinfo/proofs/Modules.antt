@@ -22,7 +22,7 @@ use Rattle.deno_graph_info.specs.declared.analysis.fault.InfoFault.{InfoFault}
 use Rattle.deno_graph_info.specs.declared.analysis.fault.InfoFault.TheVariants as info
 use Rattle.deno_graph_info.specs.declared.analysis.module_info.ModuleInfo.{ModuleInfo}
 use Rattle.modinfo.specs.Reach.{IsFirstFault, IsQuestionFault, Question, reads_question, reads_stored}
-use Rattle.modinfo.specs.internal.Reach.{IsErrorIn, IsFaultIn, IsModulesFault}
+use Rattle.modinfo.specs.internal.Reach.{IsErrorIn, IsModulesFault, shape_error}
 use Rattle.modinfo.specs.declared.reach.QuestionError.{QuestionError}
 
 pub stored_info : (d : Data) (m : ModuleInfo) → has_float d ≡ false → reads_info d ≡ Some m
@@ -55,45 +55,40 @@ module _ (inner : InfoFault) (all : Members) (left rest : List Entry) (e : Entry
 -- ---- The errors of one value
 
 pub float_error : (d : Data) (found : ReadError) → IsReadError d (unless_float (has_float d)) found
-    → Expects Integer found → IsFaultIn (IsInfoFault d) d info.Float found
-float_error d (Mismatch found) h expects = (
+    → Expects Integer found → IsErrorIn (IsInfoFault d) d (record { fault = info.Float; error = found })
+float_error d (Mismatch found) h expects is = (
   (λ same. cc (same)),
   float_found (has_float d) h.0,
   h.1,
   λ same. expects,
 )
-float_error d OutOfMemory h expects = tt
+float_error d OutOfMemory h expects is = absurd is
+
+-- An error where a value has another form.
+shape_in : (IsFault : InfoFault → Type 0) (d : Data) (found : ReadError) → IsFault info.Shape → IsIn d found
+    → IsErrorIn IsFault d (shape_error found)
+shape_in IsFault d found fault place is = ((λ same. cc (same)), fault, place, λ same. absurd (cc (same)))
 
 pub shape_error_of : (d : Data) (found : ReadError) → has_float d ≡ false → IsReadError d (reads_info d) found
-    → IsFaultIn (IsInfoFault d) d info.Shape found
-shape_error_of d (Mismatch found) whole h = (
-  (λ same. cc (same)),
-  (whole, h.0),
-  h.1,
-  λ same. absurd (cc (same)),
-)
-shape_error_of d OutOfMemory whole h = tt
+    → IsErrorIn (IsInfoFault d) d (shape_error found)
+shape_error_of d (Mismatch found) whole h is = shape_in (IsInfoFault d) d (Mismatch found) (whole, h.0) h.1 is
+shape_error_of d OutOfMemory whole h is = absurd is
 
 -- The error of a member is one of the object.
 pub error_around : (IsFault IsOuter : InfoFault → Type 0) (outer inner : Data) (fault : InfoFault)
     (old new : ReadError) → (IsMismatch new → IsMismatch old) → (IsIn inner old → IsIn outer new)
     → ((wanted : Expected) → Expects wanted old → Expects wanted new) → (IsFault fault → IsOuter fault)
-    → IsFaultIn IsFault inner fault old → IsFaultIn IsOuter outer fault new
-error_around IsFault IsOuter outer inner fault (Mismatch old) (Mismatch new) same place expects is h =
-    (h.0, is h.1, place h.2, λ float. expects Integer (h.3 float))
-error_around IsFault IsOuter outer inner fault OutOfMemory (Mismatch new) same place expects is h =
-    absurd (same tt)
-error_around IsFault IsOuter outer inner fault (Mismatch old) OutOfMemory same place expects is h = tt
-error_around IsFault IsOuter outer inner fault OutOfMemory OutOfMemory same place expects is h = tt
+    → IsErrorIn IsFault inner (record { fault = fault; error = old })
+    → IsErrorIn IsOuter outer (record { fault = fault; error = new })
+error_around IsFault IsOuter outer inner fault old new same place expects is h found =
+    let error = h (same found) in
+    (error.0, is error.1, place error.2, λ float. expects Integer (error.3 float))
 
 -- ---- The modules
 
 pub no_modules : (d : Data) (found : ReadError) → as_object d ≡ None → IsIn d found
-    → IsFaultIn (IsModulesFault d) d info.Shape found
-no_modules d (Mismatch found) none place =
-    let fault : IsModulesFault d info.Shape = rw none refl in
-    ((λ same. cc (same)), fault, place, λ same. absurd (cc (same)))
-no_modules d OutOfMemory none place = tt
+    → IsErrorIn (IsModulesFault d) d (shape_error found)
+no_modules d found none place = shape_in (IsModulesFault d) d found (rw none refl) place
 
 abbrev AreRead : Option (List (List ℕ × ModuleInfo)) → (InfoFault → Type 0) → Data
     → Result (List (List ℕ × ModuleInfo)) QuestionError → Type 0
@@ -125,11 +120,8 @@ lacks_object (object ms) none = absurd (none-some ms (sym none))
 
 -- An error where the value is no question.
 pub no_question : (d : Data) (found : ReadError) → reads_question d ≡ None → IsIn d found
-    → IsFaultIn (IsQuestionFault d) d info.Shape found
-no_question d (Mismatch found) none place =
-    let fault : IsQuestionFault d info.Shape = rw none refl in
-    ((λ same. cc (same)), fault, place, λ same. absurd (cc (same)))
-no_question d OutOfMemory none place = tt
+    → IsErrorIn (IsQuestionFault d) d (shape_error found)
+no_question d found none place = shape_in (IsQuestionFault d) d found (rw none refl) place
 
 module _ (ms : Members) where
   lacks_root : member_at as_str (codes "root") ms ≡ None → reads_question (object ms) ≡ None
@@ -138,9 +130,9 @@ module _ (ms : Members) where
 
   -- The root can't be read.
   pub root_error : (found : ReadError) → IsReadError (object ms) (member_at as_str (codes "root") ms) found
-      → IsFaultIn (IsQuestionFault (object ms)) (object ms) info.Shape found
-  root_error (Mismatch found) h = no_question (object ms) (Mismatch found) (lacks_root h.0) h.1
-  root_error OutOfMemory h = tt
+      → IsErrorIn (IsQuestionFault (object ms)) (object ms) (shape_error found)
+  root_error (Mismatch found) h is = no_question (object ms) (Mismatch found) (lacks_root h.0) h.1 is
+  root_error OutOfMemory h is = absurd is
 
   module _ (root : List ℕ) (rooted : member_at as_str (codes "root") ms ≡ Some root) where
     pub lacks_modules : get_member (codes "modules") ms ≡ None → reads_question (object ms) ≡ None

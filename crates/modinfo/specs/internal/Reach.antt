@@ -4,9 +4,8 @@ use Rattle.serde_json.specs.Data.{Data}
 use Rattle.serde_json.specs.Find.{as_object}
 use Rattle.serde_json.specs.Read.{read as read_text}
 use Rattle.deno_graph_base.specs.TextMap.{entries_of}
-use Rattle.deno_graph_json.specs.Read.Error.{IsIn}
+use Rattle.deno_graph_json.specs.Read.Error.{Expects, IsIn, IsMismatch}
 use Rattle.deno_graph_json.specs.declared.error.ReadError.{ReadError}
-use Rattle.deno_graph_json.specs.declared.error.ReadError.TheVariants.{Mismatch, OutOfMemory}
 use Rattle.deno_graph_json.specs.declared.expected.Expected.TheVariants.{Integer}
 use Rattle.deno_graph_info.specs.declared.analysis.fault.InfoFault.{InfoFault}
 use Rattle.deno_graph_info.specs.declared.analysis.fault.InfoFault.TheVariants as info
@@ -29,10 +28,6 @@ IsModulesFault d fault = MatchOption (as_object d) (fault ≡ info.Shape) (λ ms
 
 -- There is this fault, and the error leads to a value that isn't as expected: a float, if that is the fault.
 -- Or an allocation failed.
-abbrev pub IsFaultIn : (InfoFault → Type 0) → Data → InfoFault → ReadError → Type 0
-IsFaultIn IsFault value fault (Mismatch found) = (fault ≢ info.OutOfMemory) × IsFault fault
-    × IsIn value (Mismatch found) × (fault ≡ info.Float → found.expected ≡ Integer)
-IsFaultIn IsFault value fault OutOfMemory = Unit {0}
-
 abbrev pub IsErrorIn : (InfoFault → Type 0) → Data → QuestionError → Type 0
-IsErrorIn IsFault value error = IsFaultIn IsFault value error.fault error.error
+IsErrorIn IsFault value error = IsMismatch error.error → (error.fault ≢ info.OutOfMemory)
+    × IsFault error.fault × IsIn value error.error × (error.fault ≡ info.Float → Expects Integer error.error)

@@ -1,5 +1,4 @@
 use Rattle.std.proofs.lemmas.Result.{err_from_is_err_and}
-use Rattle.deno_graph_json.proofs.Reading.{is_object}
 use Rattle.deno_graph_json.specs.Data.{data_of, members_data}
 use Rattle.modinfo.proofs.Modules.{no_modules, modules_answer}
 use Rattle.modinfo.proofs.reach.read_modules.Goals as goal

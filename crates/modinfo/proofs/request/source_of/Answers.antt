@@ -10,11 +10,8 @@ use Rattle.modinfo.proofs.request.source_of.Goals as goal
 
 no_module : (reads : Data → Option Contents) (text : List ℕ) (inner : DocumentError)
     → HasErrorIn reads text inner → IsNoModule reads text (fault_of_document inner)
-no_module reads text (error.Json place) has = (error.Json place, refl, has)
-no_module reads text (error.Tree mismatch) has = (error.Tree mismatch, refl, has)
-no_module reads text error.Specifier has = (error.Specifier, refl, has)
-no_module reads text (error.Source fault) has = (error.Source fault, refl, has)
 no_module reads text error.OutOfMemory has = tt
+no_module reads text inner has = (inner, refl, has)
 
 -- The document has no source.
 pub returns-in_err-into_source : goal.returns-in_err-into_source
