@@ -204,18 +204,13 @@ def prover(
         return [*words, "--statements", "-o", f"{built}/{crate.name}.rlib"]
     words += ["--target", target] if target else []
     words += ["--toolchain", f"{kit.folder}/toolchain", "--backend", "llvm"]
-    made = object_of if crate.is_program else archive_of
-    return [*words, "-o", str(made(crate.name, target, built))]
+    return [*words, "-o", str(output_of(crate, target, built))]
 
 
-def archive_of(name: str, target: str | None, built: Path = BUILT) -> Path:
-    """The archive of a static library, for the processor of this machine or for another target."""
-    return built / (f"lib{name}.{target}.a" if target else f"lib{name}.a")
-
-
-def object_of(name: str, target: str | None, built: Path = BUILT) -> Path:
-    """The object file of a program."""
-    return built / (f"{name}.{target}.o" if target else f"{name}.o")
+def output_of(crate: Crate, target: str | None, built: Path = BUILT) -> Path:
+    """The object file of a program, or the archive of a static library, for this machine's processor or a target."""
+    before, after = ("", ".o") if crate.is_program else ("lib", ".a")
+    return built / f"{before}{crate.name}{f'.{target}' if target else ''}{after}"
 
 
 class Build:
@@ -355,7 +350,7 @@ def by_work_left(closure: Closure) -> list[Crate]:
             raise BuildError(f"crates.txt names {crate.name}, and there is no folder crates/{crate.name}")
         below = closure.below(crate)
         work = left.get(crate.name, 0) + WEIGHT_OF_CODE * crate.size("src")
-        left[crate.name] = work + sum(lower.size("src", "specs", "proofs") for lower in below)
+        left[crate.name] = work + sum(lower.size() for lower in below)
         for lower in below:
             left[lower.name] = max(left.get(lower.name, 0), left[crate.name])
     return sorted(closure.crates, key=lambda crate: (-left[crate.name], crate.name))

@@ -54,18 +54,19 @@ class Crate:
         """Its folders of sources, or those of these names, relative to the repository."""
         return [f"crates/{self.name}/{name}" for name in names if (self.folder / name).is_dir()]
 
-    def size(self, *parts: str) -> int:
-        """The bytes of the files in some of its folders."""
-        paths = [path for part in parts for path in walk(f"crates/{self.name}/{part}")]
-        return sum(os.lstat(ROOT / path).st_size for path in paths if is_file(path))
+    def files(self, *names: str) -> list[str]:
+        """Its sources, or those in the folders of these names, relative to the repository."""
+        paths = [path for part in self.parts(names or PARTS) for path in walk(part)]
+        return [path for path in paths if os.path.isfile(ROOT / path) and not os.path.islink(ROOT / path)]
+
+    def size(self, *names: str) -> int:
+        """The bytes of its sources, or of those in the folders of these names."""
+        return sum(os.lstat(ROOT / path).st_size for path in self.files(*names))
 
     def checksum(self, *names: str) -> str:
         """A checksum of the names and the bytes of its sources, or of those in the folders of these names."""
-        files = sorted(
-            (path for part in self.parts(names or PARTS) for path in walk(part) if is_file(path)), key=os.fsencode
-        )
         whole = hashlib.sha256()
-        for path in files:
+        for path in sorted(self.files(*names), key=os.fsencode):
             digest = hashlib.sha256((ROOT / path).read_bytes()).hexdigest()
             whole.update(digest.encode() + b"  " + os.fsencode(path) + b"\n")
         return f"{whole.hexdigest()}  -"
@@ -86,10 +87,6 @@ def tracked(*patterns: str) -> list[str]:
     return [name for name in names if (ROOT / name).is_file()]
 
 
-def is_file(path: str) -> bool:
-    return os.path.isfile(ROOT / path) and not os.path.islink(ROOT / path)
-
-
 def read_crates() -> dict[str, Crate]:
     crates = {}
     for text in (ROOT / CRATES_FILE).read_text().splitlines():
@@ -108,6 +105,7 @@ class Closure:
         self._known = read_crates()
         self._below: dict[str, list[Crate]] = {}
         self._add(target)
+        self.crate = self._known[target]
         self.crates = [self._known[name] for name in self._below]
 
     def _add(self, name: str) -> None:
@@ -138,10 +136,8 @@ class Closure:
 
     def listing(self) -> bytes:
         """The folders and files of the sources, relative to the repository, each followed by a zero byte."""
-        paths = [
-            *(f"crates/{crate.name}" for crate in self.crates),
-            *(path for part in self.parts() for path in walk(part)),
-        ]
+        paths = [f"crates/{crate.name}" for crate in self.crates]
+        paths += [path for part in self.parts() for path in walk(part)]
         return b"".join(path + b"\0" for path in sorted(map(os.fsencode, paths)))
 
     def checksum(self) -> str:

@@ -3,7 +3,7 @@ library, and the tables of commands for Python and Rust. completions.py writes t
 
 import json
 import re
-from collections.abc import Iterator
+from collections.abc import Iterable, Iterator
 from textwrap import wrap
 from typing import Any
 
@@ -28,15 +28,13 @@ COMMANDS: Entry = json.loads((ROOT / PATH).read_text())
 OF_TEXTS = {"analyze": "analyze_json", "analyze_source": "module_info_json"}
 # The commands whose function for C reads a document. One that reads a source text takes its parts instead.
 OF_DOCUMENTS = [row for row in COMMANDS["commands"] if not row.get("reads_text")]
-
-
-def functions(rows: list[Entry]) -> list[Entry]:
-    """The functions for C that run one command: those that answer, and then those that check."""
-    return [row[kind] for kind in ("answer", "check") for row in rows]
-
-
-def by_number(rows: list[Entry]) -> list[Entry]:
-    return sorted(functions(rows), key=lambda function: int(function["number"]))
+# The functions for C that read a document: those that answer, and then those that check.
+FUNCTIONS = [row[kind] for kind in ("answer", "check") for row in OF_DOCUMENTS]
+NAMES = [function["function"] for function in FUNCTIONS]
+# The names of the functions of all commands, by their numbers.
+BY_NUMBER: dict[int, str] = dict(
+    sorted((row[kind]["number"], row[kind]["function"]) for row in COMMANDS["commands"] for kind in ("answer", "check"))
+)
 
 
 def lines_of(name: str, text: str, column: int) -> list[str]:
@@ -53,13 +51,12 @@ def wrapped(text: str) -> list[str]:
 
 
 def help_text() -> str:
-    usage = [f"{'usage:' if number == 0 else '      '} {line}" for number, line in enumerate(COMMANDS["usage"])]
     entries = [lines_of(each["name"], each["text"], COLUMN) for each in (*COMMANDS["names"], *COMMANDS["flags"])]
     faults = [lines_of(names, text, 19) for names, text in COMMANDS["faults"].items()]
     parts: list[list[str]] = [
         [COMMANDS["title"]],
         wrap(COMMANDS["first"], WIDTH),
-        usage,
+        ["usage: " + "\n       ".join(COMMANDS["usage"])],
         wrap(COMMANDS["introduction"], WIDTH),
         sum(entries, []),
         wrapped(COMMANDS["status"]),
@@ -75,20 +72,16 @@ def in_troff(text: str) -> str:
     return re.sub(r"(?m)^([.'])", r"\\&\1", escaped)
 
 
-def synopsis() -> Iterator[str]:
+def synopsis() -> str:
     """The usage, in which words of the command line are bold, and others and the brackets are not."""
-    for number, line in enumerate(COMMANDS["usage"]):
-        if number:
-            yield ".br"
-        words = re.sub(r"(-V|[a-z-]+)", r"\\fB\1\\fP", line.replace("modinfo ", "module-info ", 1))
-        yield words.replace("-", r"\-")
+    lines = [line.replace("modinfo ", "module-info ", 1) for line in COMMANDS["usage"]]
+    return "\n.br\n".join(re.sub(r"(-V|[a-z-]+)", r"\\fB\1\\fP", line) for line in lines).replace("-", r"\-")
 
 
-def first_of_page() -> Iterator[str]:
+def first_of_page() -> list[str]:
     """Each sentence is on a line of its own, and the name of the command is bold."""
     name, rest = COMMANDS["first"].split(" ", 1)
-    first, *others = re.split(r"(?<=[.]) ", in_troff(rest))
-    yield from (f".B {name}", first, *others)
+    return [f".B {name}", *re.split(r"(?<=[.]) ", in_troff(rest))]
 
 
 def entries_of_page(entries: list[Entry]) -> Iterator[str]:
@@ -107,7 +100,7 @@ def prototype(function: Entry) -> list[str]:
 
 
 def in_header() -> Iterator[str]:
-    for function in functions(OF_DOCUMENTS):
+    for function in FUNCTIONS:
         lines = wrap(f"/* {function['text']} */", 110, subsequent_indent=" * ")
         first, second = prototype(function)
         yield from ("", *lines, first, f"{second} MODINFO_NONNULL;")
@@ -127,53 +120,47 @@ def in_cpp() -> Iterator[str]:
 
 def in_manual() -> Iterator[str]:
     parameters = r"\b(document_length|document|answer|room|length)\b"
-    for function in functions(OF_DOCUMENTS):
+    for function in FUNCTIONS:
         for line in prototype(function):
             parts = [part for part in re.split(parameters, line + (";" if line.endswith(")") else "")) if part]
             yield ".BI " + " ".join(f'"{part}"' for part in parts)
 
 
-def in_prose(names: list[str]) -> list[str]:
+def in_prose(names: Iterable[str]) -> list[str]:
     """Names in bold, with commas between all but the last two."""
-    *first, last = names
-    return [*(f".BR {name} ," for name in first[:-1]), f".B {first[-1]}", "and", f".BR {last} ."]
+    *first, next_to_last, last = names
+    return [*(f".BR {name} ," for name in first), f".B {next_to_last}", "and", f".BR {last} ."]
 
 
 def blocks(_document: Format, _info: Format, _report: Format) -> Iterator[Block]:
-    numbers = [
-        f"    MODINFO_{function['function'].upper()} = {function['number']}"
-        for function in by_number(COMMANDS["commands"])
-    ]
-    yield "include/modinfo.h", "commands", ",\n".join(numbers).split("\n")
+    constants = {f"MODINFO_{name.upper()}": number for number, name in BY_NUMBER.items()}
+    yield "include/modinfo.h", "commands", [",\n".join(f"    {name} = {constants[name]}" for name in constants)]
     yield "include/modinfo.h", "functions", list(in_header())
     yield "include/modinfo.hpp", "functions", list(in_cpp())
     yield "packaging/modinfo.3", "functions", list(in_manual())
-    names = [function["function"] for function in functions(OF_DOCUMENTS)]
-    yield "packaging/modinfo.3", "names", wrap(", ".join(f"modinfo_{name}" for name in names) + ",", 79)
-    yield "packaging/modinfo.3", "commands", in_prose(
-        [f"MODINFO_{each['function'].upper()}" for each in by_number(COMMANDS["commands"])]
-    )
-    yield PAGE, "synopsis", list(synopsis())
-    yield PAGE, "first", list(first_of_page())
+    yield "packaging/modinfo.3", "names", wrap(", ".join(f"modinfo_{name}" for name in NAMES) + ",", 79)
+    yield "packaging/modinfo.3", "commands", in_prose(constants)
+    yield PAGE, "synopsis", [synopsis()]
+    yield PAGE, "first", first_of_page()
     yield PAGE, "commands", list(entries_of_page(COMMANDS["names"]))
     yield PAGE, "flags", list(entries_of_page(COMMANDS["flags"]))
     yield "bindings/python/src/modinfo/_library.py", "commands", [
         f'    "{row["answer"]["function"]}": _command({row["answer"]["number"]}, {row["check"]["number"]}),'
         for row in COMMANDS["commands"]
     ]
-    yield "bindings/rust/src/command.rs", "commands", list(in_rust(by_number(COMMANDS["commands"])))
+    yield "bindings/rust/src/command.rs", "commands", list(in_rust())
     yield "bindings/rust/tests/suite/repository.rs", "functions", list(in_rust_tests())
-    yield "bindings/rust/src/ffi.rs", "functions", [f"    modinfo_{name}" for name in names]
+    yield "bindings/rust/src/ffi.rs", "functions", [f"    modinfo_{name}" for name in NAMES]
     yield "bindings/rust/src/ffi.rs", "constants", [
-        f"pub const {name.upper()}: DocumentFunction = modinfo_{name};" for name in names
+        f"pub const {name.upper()}: DocumentFunction = modinfo_{name};" for name in NAMES
     ]
 
 
-def in_rust(functions: list[Entry]) -> Iterator[str]:
+def in_rust() -> Iterator[str]:
     """The variants of commands, each with the function of the crate that returns the text of its answer."""
-    for name, number in ((function["function"], function["number"]) for function in functions):
-        yield f"    /// [`{OF_TEXTS.get(name, name)}`](crate::{OF_TEXTS.get(name, name)})"
-        yield f"    {camel_case(name)} = {number},"
+    for number, name in BY_NUMBER.items():
+        function = OF_TEXTS.get(name, name)
+        yield f"    /// [`{function}`](crate::{function})\n    {name.title().replace('_', '')} = {number},"
 
 
 def in_rust_tests() -> Iterator[str]:
@@ -188,16 +175,12 @@ def in_rust_tests() -> Iterator[str]:
         yield f"        {' | '.join(patterns)} => modinfo::{row['check']['function']},"
 
 
-def camel_case(name: str) -> str:
-    return "".join(word.capitalize() for word in name.split("_"))
-
-
 def with_help(text: str) -> str:
     """The text of the file with --help, with the help as it is."""
-    pattern = r'(pub const HELP: &str = r#").*?("#;)'
-    if not re.search(pattern, text, re.DOTALL):
+    found = re.search(r'pub const HELP: &str = r#"(.*?)"#;', text, re.DOTALL)
+    if not found:
         raise BuildError(f"{HELP} has no help")
-    return re.sub(pattern, lambda found: found[1] + help_text() + found[2], text, flags=re.DOTALL)
+    return text[: found.start(1)] + help_text() + text[found.end(1) :]
 
 
 def symbols(text: str) -> str:

@@ -5,18 +5,20 @@ from formats.language import GENERATED
 
 FOLDER = "packaging/completions"
 GLOBAL_FLAGS = {"--help": "prints the help", "--version": "prints the version"}
+WORDS_AFTER: dict[str, list[str]] = {each["name"]: [*each["words"], "--help"] for each in COMMANDS["names"]}
+FIRST_WORDS = [*WORDS_AFTER, *GLOBAL_FLAGS]
+BRIEF = {each["name"]: each["brief"] for each in (*COMMANDS["names"], *COMMANDS["flags"])} | GLOBAL_FLAGS
 
 
 def in_bash() -> str:
-    arms = [f"            {each['name']}) words=\"{' '.join(each['words'])} --help\" ;;" for each in COMMANDS["names"]]
-    names = " ".join(each["name"] for each in COMMANDS["names"])
+    arms = [f'            {name}) words="{" ".join(WORDS_AFTER[name])}" ;;' for name in WORDS_AFTER]
     return f"""# shellcheck shell=bash
 # Completion of module-info in bash.
 # {GENERATED} from {PATH}.
 _module_info() {{
     local words=""
     if [[ $COMP_CWORD -eq 1 ]]; then
-        words="{names} {' '.join(GLOBAL_FLAGS)}"
+        words="{' '.join(FIRST_WORDS)}"
     else
         case ${{COMP_WORDS[1]}} in
 {chr(10).join(arms)}
@@ -28,28 +30,17 @@ complete -o bashdefault -o default -F _module_info module-info
 """
 
 
-def descriptions() -> dict[str, str]:
-    """The brief description of each word."""
-    entries = [*COMMANDS["names"], *COMMANDS["flags"]]
-    return {each["name"]: each["brief"] for each in entries} | GLOBAL_FLAGS
-
-
 def in_zsh() -> str:
-    brief = descriptions()
+    def described(words: list[str]) -> str:
+        return " ".join(f"'{word}:{BRIEF[word]}'" for word in words)
 
-    def listed(words: list[str]) -> str:
-        return " ".join(f"'{word}:{brief[word]}'" for word in words)
-
-    arms = [
-        f"        {each['name']}) candidates=({listed([*each['words'], '--help'])}) ;;" for each in COMMANDS["names"]
-    ]
-    names = listed([*(each["name"] for each in COMMANDS["names"]), *GLOBAL_FLAGS])
+    arms = [f"        {name}) candidates=({described(WORDS_AFTER[name])}) ;;" for name in WORDS_AFTER]
     return f"""#compdef module-info
 # Completion of module-info in zsh.
 # {GENERATED} from {PATH}.
 local -a candidates
 if (( CURRENT == 2 )); then
-    candidates=({names})
+    candidates=({described(FIRST_WORDS)})
 else
     case ${{words[2]}} in
 {chr(10).join(arms)}
@@ -61,16 +52,14 @@ _describe 'word' candidates
 
 
 def in_fish() -> str:
-    first = "__fish_use_subcommand"
-    rest = {name: f"contains -- {name} (commandline -opc)[2]" for name in (each["name"] for each in COMMANDS["names"])}
-    offered = [(first, word) for word in (*rest, *GLOBAL_FLAGS)]
-    offered += [(f"'{rest[each['name']]}'", word) for each in COMMANDS["names"] for word in (*each["words"], "--help")]
-    brief = descriptions()
+    offered = [("__fish_use_subcommand", word) for word in FIRST_WORDS]
+    for name, words in WORDS_AFTER.items():
+        offered += [(f"'contains -- {name} (commandline -opc)[2]'", word) for word in words]
     lines = [
         "# Completion of module-info in fish.",
         f"# {GENERATED} from {PATH}.",
         "complete -c module-info -n 'not contains -- files (commandline -opc)[2]' -f",
-        *(f"complete -c module-info -n {when} -a '{word}' -d '{brief[word]}'" for when, word in offered),
+        *(f"complete -c module-info -n {when} -a '{word}' -d '{BRIEF[word]}'" for when, word in offered),
     ]
     return "\n".join(lines) + "\n"
 

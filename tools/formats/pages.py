@@ -23,7 +23,7 @@ def cell(of: Format, schema: Schema) -> str:
     values = [] if "properties" in schema else types.alternatives(schema)
     for (name, part), (_, line) in zip(schema.get("properties", {}).items(), types.members(schema)):
         if part and name not in shared:
-            default = {**of.resolved(part), **part}.get("default")
+            default = of.whole(part).get("default")
             values.append(line[:-1] + (f" = {json.dumps(default)}" if default else ""))
     return ", ".join(f"`{value}`" for value in values)
 

@@ -95,12 +95,9 @@ class PythonValues(Python):
         required = schema.get("required", [])
         fields = []
         for member, part in sorted(members, key=lambda each: ("const" not in each[1], each[0] not in required)):
-            fields += ["", *filled(self.about(part), "    # ", WIDTH)]
+            fields += ["", *filled(self.format.whole(part)["description"], "    # ", WIDTH)]
             fields += [f"    {self.field(member, part, is_required=member in required)}"]
         return self.dataclass(f"{name}(Value)", "", schema, fields[1:])
-
-    def about(self, member: Schema) -> str:
-        return str({**self.format.resolved(member), **member}["description"])
 
     def field(self, member: str, part: Schema, *, is_required: bool) -> str:
         name = re.sub(r"([A-Z])", r"_\1", member).lower()
@@ -110,7 +107,7 @@ class PythonValues(Python):
         if is_required:
             # A dict has no hash.
             return f"{name}: {value}" + " = field(hash=False)" * value.startswith("Mapping")
-        default = {**self.format.resolved(part), **part}.get("default")
+        default = self.format.whole(part).get("default")
         if default is None:
             return f"{name}: {value} | None = None"
         return f"{name}: {value} = {tuple(default) if isinstance(default, list) else default!r}".replace("'", '"')

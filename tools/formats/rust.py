@@ -51,14 +51,12 @@ class Rust(Language):
         """The text with the imports that it needs."""
         head, text = super().module().split("\n", 1)
         declared = self.DECLARED.get(self.format.path, {})
-        helpers = [name for name in ("is_default", "pair") if re.search(rf"\b{name}\b", text)]
+        helpers = ", ".join(name for name in ("is_default", "pair") if re.search(rf"\b{name}\b", text))
+        helpers = f"{{{helpers}}}" if ", " in helpers else helpers
         imports = [f"use crate::{declared[name]}::{name};" for name in declared]
-        imports += [f"use crate::information::{self.names(helpers)};", "use serde::{Deserialize, Serialize};"]
+        imports += [f"use crate::information::{helpers};", "use serde::{Deserialize, Serialize};"]
         imports += ["use std::collections::HashMap;"] * ("HashMap<" in text)
         return "\n".join([head, "", *sorted(imports), text])
-
-    def names(self, names: list[str]) -> str:
-        return names[0] if len(names) == 1 else f"{{{', '.join(names)}}}"
 
     def name(self, schema: Schema) -> str:
         """A kind of node is a variant, and no type."""
@@ -141,7 +139,7 @@ class Rust(Language):
 
     def has_default(self, member: Schema) -> bool:
         """Whether a missing member has a value: its default, or no elements."""
-        whole = {**self.format.resolved(member), **member}
+        whole = self.format.whole(member)
         return bool({"default", "x-none"} & whole.keys() or whole.get("items"))
 
     def variant_lines(self, schema: Schema) -> list[str]:

@@ -58,9 +58,13 @@ class Format:
             if "title" in schema:
                 yield schema
 
+    def whole(self, member: Schema) -> Schema:
+        """A member, with what its type has and the member itself doesn't."""
+        return {**self.resolved(member), **member}
+
     def about(self, member: Schema) -> str:
         """What a member is, with its default."""
-        whole = {**self.resolved(member), **member}
+        whole = self.whole(member)
         text: str = whole["description"]
         return f"{text} Default: `{json.dumps(whole['default'])}`." if "default" in whole else text
 

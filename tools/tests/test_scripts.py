@@ -13,17 +13,12 @@ VERSION = (ROOT / "VERSION").read_text().strip()
 def has_help(name: str) -> bool:
     """Whether it is a script that a person starts. The words of tools/try_modinfo are those of modinfo; node --test
     tests the commands of the package for node, and analyze.py needs Dask."""
-    others = (
-        r"/tests/|^packaging/(aarch64|debian)/|^bindings/node/src/|^tools/try_modinfo$|^examples/cluster/analyze.py$"
-    )
+    others = r"/tests/|^packaging/(aarch64|debian)/|^bindings/node/src/|^tools/try_modinfo$|/cluster/analyze.py$"
     return not re.search(others, name) and (ROOT / name).read_bytes()[:3] == b"#!/"
 
 
-SCRIPTS = [
-    name
-    for name in tracked(".ci", "bench", "bindings", "crates/test_replay/fail_*", "examples", "packaging", "tools")
-    if has_help(name)
-]
+FOLDERS = [".ci", "bench", "bindings", "crates/test_replay/fail_*", "examples", "packaging", "tools"]
+SCRIPTS = [name for name in tracked(*FOLDERS) if has_help(name)]
 
 
 @pytest.mark.parametrize("option", ["-h", "--help"])
