@@ -39,12 +39,3 @@ dependencies_among d ms is = ap (λ o. o >>= member_at as_array (codes "dependen
 pub no_dependencies : (d : Data) → as_object d ≡ None → dependencies_in d ≡ None
 unfolding dependencies_in
 no_dependencies d is = ap (λ o. o >>= member_at as_array (codes "dependencies")) is
-
--- a value with members is an object
-pub is_object : (d : Data) (ms : Members) → as_object d ≡ Some ms → d ≡ object ms
-is_object null ms is = absurd (cc)
-is_object (boolean b) ms is = absurd (cc)
-is_object (number n) ms is = absurd (cc)
-is_object (string s) ms is = absurd (cc)
-is_object (array ds) ms is = absurd (cc)
-is_object (object ms) ns is = cc

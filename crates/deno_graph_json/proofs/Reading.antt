@@ -20,7 +20,7 @@ use Rattle.serde_json.specs.Data.{
 }
 use Rattle.serde_json.specs.Find.{as_array, as_object, as_str, get_member}
 use Rattle.deno_graph_json.specs.Read.Result.{IsReadError, IsReadResult}
-use Rattle.deno_graph_json.specs.Read.Error.{IsIn, IsMismatch, mismatch, step_into, value_at}
+use Rattle.deno_graph_json.specs.Read.Error.{IsIn, IsMismatch, mismatch, step_into, data_at}
 use Rattle.deno_graph_json.specs.Read.Expected.{IsNot}
 use Rattle.deno_graph_json.specs.Read.Partial.{◌>>=◌, member_at, reads_items}
 use Rattle.deno_graph_json.specs.declared.error.Step.{Step}
@@ -41,18 +41,18 @@ pub whole_error : {A : Type 0} (value : Data) (wanted : Option A) (error : ReadE
 whole_error value wanted error answer is h = let p = err_from_is_err_and answer is in rw (p.1, p.2) h
 
 -- a path with one more step around it
-value_at_more : (path : List Step) (step : Step) (outer inner : Data) → step_into step outer ≡ Some inner
-    → value_at (path ++ step ∷ []) outer ≡ value_at path inner
-value_at_more [] step outer inner is = is
-value_at_more (first ∷ path) step outer inner is =
-    ap (λ o. o >>= step_into first) (value_at_more path step outer inner is)
+data_at_more : (path : List Step) (step : Step) (outer inner : Data) → step_into step outer ≡ Some inner
+    → data_at (path ++ step ∷ []) outer ≡ data_at path inner
+data_at_more [] step outer inner is = is
+data_at_more (first ∷ path) step outer inner is =
+    ap (λ o. o >>= step_into first) (data_at_more path step outer inner is)
 
 -- an error in a value is an error in the value around it
 pub place_around : (path : List Step) (step : Step) (expected : Expected) (outer inner : Data)
     → step_into step outer ≡ Some inner → IsIn inner (mismatch path expected)
     → IsIn outer (mismatch (path ++ step ∷ []) expected)
 place_around path step expected outer inner is h =
-    subst (λ o. IsSomeAnd o (IsNot expected)) (sym (value_at_more path step outer inner is)) h
+    subst (λ o. IsSomeAnd o (IsNot expected)) (sym (data_at_more path step outer inner is)) h
 
 -- a value that can't be read, with an error in it
 pub read_error : {A : Type 0} (value : Data) (wanted : Option A) (error : ReadError) → wanted ≡ None

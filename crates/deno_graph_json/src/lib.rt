@@ -25,4 +25,4 @@ pub use object::ToObject;
 pub use object_reader::ObjectReader;
 pub use pointer::{ReferenceToken, push_token};
 pub use read::FromJson;
-pub use write::{ToJson, append, into_text, new_writer, text_of, to_value};
+pub use write::{ToJson, append, into_text, new_writer, to_text, to_value};

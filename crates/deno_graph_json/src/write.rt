@@ -46,7 +46,7 @@ pub fn to_value<T: ToJson>(alloc: Global, value: &T) -> Result<Value, AllocError
 
 /// Returns the JSON of `value` as compact text, with the keys of each object ascending. The only
 /// error is that an allocation fails.
-pub fn text_of<T: ToJson>(alloc: Global, value: &T) -> Result<String, AllocError>
+pub fn to_text<T: ToJson>(alloc: Global, value: &T) -> Result<String, AllocError>
     ensures { IfOk result (λ text. string_bytes text ≡ compact_text (T.json value.now)) }
 {
     let mut out = new_writer(alloc)?;

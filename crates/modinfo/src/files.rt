@@ -13,7 +13,7 @@ use crate::lines::buffered;
 use crate::output::{print, print_fault};
 use crate::program::print_usage;
 use deno_graph_info::analysis::ModuleInfo;
-use deno_graph_json::text_of;
+use deno_graph_json::to_text;
 use deno_graph_module_info::module_info;
 use deno_graph_source::text::Position;
 use deno_graph_source::tree::{MediaType, ParseError};
@@ -337,7 +337,7 @@ fn line_of(
     let specifier = json_string(alloc, specifier)?;
     match found {
         Ok(info) => {
-            let info = text_of(alloc, info)?;
+            let info = to_text(alloc, info)?;
             format!(in alloc; "{{\"specifier\":{specifier},\"info\":{info}}}\n")
         }
         Err(fault) => {
@@ -363,5 +363,5 @@ fn position_member(alloc: Global, position: Option<Position>) -> Result<String, 
 
 /// A text as a JSON string.
 fn json_string(alloc: Global, text: &str) -> Result<String, AllocError> {
-    text_of(alloc, &Text::from_str(alloc, text)?)
+    to_text(alloc, &Text::from_str(alloc, text)?)
 }

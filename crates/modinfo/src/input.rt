@@ -11,7 +11,7 @@ use std::io::{ErrorKind, Read};
 const CHUNK: usize = 65536;
 
 /// The text of bytes. `Input` if they aren't UTF-8.
-pub fn text_of(bytes: &[u8]) -> Result<&str, Fault>
+pub fn as_text(bytes: &[u8]) -> Result<&str, Fault>
     ensures { MatchResult result (λ text. (text.now ≡ bytes.now) × IsUtf8 bytes.now)
         (λ fault. (fault ≡ Fault.Input) × ¬ (IsUtf8 bytes.now)) }
 {

@@ -21,7 +21,7 @@ use deno_graph_info::analysis::{InfoFault, ModuleInfo};
 use deno_graph_info::reach::reach;
 use deno_graph_json::read::read_object;
 use deno_graph_json::{
-    Element, Expected, FromJson, Members, ObjectReader, ReadError, Tape, find_float, text_of,
+    Element, Expected, FromJson, Members, ObjectReader, ReadError, Tape, find_float, to_text,
 };
 use deno_graph_source::values::{Items, Text, TextMap};
 use json::Scratch;
@@ -188,5 +188,5 @@ fn keys_text(alloc: Global, keys: Vec<String>) -> Result<String, AllocError>
     for key in keys {
         texts.push(Text::from_string(key))?;
     }
-    text_of(alloc, &texts)
+    to_text(alloc, &texts)
 }

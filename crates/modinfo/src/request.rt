@@ -13,7 +13,7 @@ ghost use Rattle.modinfo.specs.internal.Request.{IsReadFrom, format_of};
 use crate::convert::convert_text;
 use crate::fault::Fault;
 use crate::format::Format;
-use crate::input::text_of;
+use crate::input::as_text;
 use crate::reach::{Question, parse_question};
 use crate::source::{SourceText, parse_source_text};
 use deno_graph_info::analysis::ModuleInfo;
@@ -46,7 +46,7 @@ impl Request {
             (λ request. (format_of request ≡ format) × IsUtf8 document.now × IsReadFrom document.now request)
             (IsDocumentFault format document.now) }
     {
-        let text = text_of(document)?;
+        let text = as_text(document)?;
         match format {
             Format::Module => Ok(Request::Module(parse_document(alloc, text)?)),
             Format::Estree => Ok(Request::Estree(parse_estree(alloc, text)?)),

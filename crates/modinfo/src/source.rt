@@ -10,7 +10,7 @@ ghost use Rattle.modinfo.specs.Source.{AreNoParts, HasParts, IsInfoOfText, IsNoI
 ghost use Rattle.modinfo.specs.Source.{media_type_at, reads_text};
 
 use crate::fault::Fault;
-use crate::input::text_of;
+use crate::input::as_text;
 use deno_graph_json::{Element, ObjectReader, ReadError, Tape};
 use deno_graph_module_info::module_info;
 use deno_graph_source::tree::{MediaType, ParseError, ParsedSource};
@@ -71,8 +71,8 @@ impl SourceText {
         ensures { MatchResult result (HasParts text.now specifier.now media_type)
             (AreNoParts text.now specifier.now media_type) }
     {
-        let text = text_of(text)?;
-        let specifier = text_of(specifier)?;
+        let text = as_text(text)?;
+        let specifier = as_text(specifier)?;
         let Some(media_type) = media_type_at(media_type) else {
             return Err(Fault::Tree);
         };

@@ -6,7 +6,7 @@ use Rattle.std.proofs.lemmas.Option.{none-some, option_and_then_some, same_Some}
 use Rattle.serde_json.specs.Data.{Data, array, Items, no_items, item, Members}
 use Rattle.serde_json.specs.Events.{items_len}
 use Rattle.serde_json.specs.Find.{as_array, as_object, as_str, at, get, get_item, get_member}
-use Rattle.deno_graph_json.specs.Read.Error.{value_at}
+use Rattle.deno_graph_json.specs.Read.Error.{data_at}
 use Rattle.deno_graph_json.specs.declared.error.Step.TheVariants.{Item, Member}
 use Rattle.deno_graph_json.specs.Read.Partial.{
   ◌>>=◌,
@@ -265,7 +265,7 @@ entry_array position value values is =
 pub comment_leads : (all values : Items) (passed left : ℕ) (entry value : Data)
     → get_item passed all ≡ Some entry → get (codes "comments") entry ≡ Some (array values)
     → get_item left values ≡ Some value
-    → value_at (Item left ∷ Member (codes "comments") ∷ Item passed ∷ []) (array all) ≡ Some value
+    → data_at (Item left ∷ Member (codes "comments") ∷ Item passed ∷ []) (array all) ≡ Some value
 comment_leads all values passed left entry value here comments there =
     ap (λ o. o >>= get (codes "comments") >>= at left) here ∙ ap (λ o. o >>= at left) comments ∙ there
 
@@ -281,8 +281,8 @@ side_array side value values is =
 -- The path through the entries of a side.
 pub side_leads : (side : CommentSide) (root : Data) (values : Items) (entry number : ℕ) (value : Data)
     → get (side_name side) root ≡ Some (array values)
-    → value_at (Item number ∷ Member (codes "comments") ∷ Item entry ∷ []) (array values) ≡ Some value
-    → value_at (comment_path side entry number) root ≡ Some value
+    → data_at (Item number ∷ Member (codes "comments") ∷ Item entry ∷ []) (array values) ≡ Some value
+    → data_at (comment_path side entry number) root ≡ Some value
 side_leads side root values entry number value there leads =
     ap (λ o. o >>= at entry >>= get (codes "comments") >>= at number) there ∙ leads
 

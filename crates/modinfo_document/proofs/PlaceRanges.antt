@@ -21,7 +21,7 @@ use Rattle.std.proofs.lemmas.Option.{same_Some}
 use Rattle.serde_json.specs.Data.{Data, null, boolean, number, string, array, object, Members}
 use Rattle.serde_json.specs.Find.{as_array, as_object, at, get, get_item}
 use Rattle.deno_graph_base.specs.declared.text.position.SourceRange.{SourceRange}
-use Rattle.deno_graph_json.specs.Read.Error.{value_at}
+use Rattle.deno_graph_json.specs.Read.Error.{data_at}
 use Rattle.deno_graph_json.specs.Read.Partial.{◌>>=◌, member_at}
 use Rattle.deno_graph_json.specs.declared.error.Step.{Step}
 use Rattle.deno_graph_json.specs.declared.error.Step.TheVariants.{Item, Member}
@@ -59,8 +59,8 @@ use Rattle.modinfo_document.proofs.Places.{program_leads}
 
 -- The path of a member of the value at a path.
 pub member_leads : (root : Data) (path : List Step) (value : Data) (name : List ℕ) (d : Data)
-    → value_at path root ≡ Some value → get name value ≡ Some d
-    → value_at (Member name ∷ path) root ≡ Some d
+    → data_at path root ≡ Some value → get name value ≡ Some d
+    → data_at (Member name ∷ path) root ≡ Some d
 member_leads root path value name d at there = ap (λ o. o >>= get name) at ∙ there
 
 -- The range of a program.
@@ -116,32 +116,32 @@ pub is_some : {A : Type 0} (o : Option A) (P : A → Type 0) → IsSomeAnd o P �
 is_some None P holds = absurd holds
 is_some (Some x) P holds = refl
 
-there_is : (path : List Step) (root d : Data) → value_at path root ≡ Some d → IsSome (value_at path root)
+there_is : (path : List Step) (root d : Data) → data_at path root ≡ Some d → IsSome (data_at path root)
 there_is path root d leads = subst IsSome (sym leads) refl
 
 -- The range of the value at a path.
-range_there : (root : Data) (path : List Step) (value : Data) → value_at path root ≡ Some value
-    → ((d : Data) × (get (codes "range") value ≡ Some d)) → IsSome (value_at (range_in path) root)
+range_there : (root : Data) (path : List Step) (value : Data) → data_at path root ≡ Some value
+    → ((d : Data) × (get (codes "range") value ≡ Some d)) → IsSome (data_at (range_in path) root)
 range_there root path value leads range =
     there_is (range_in path) root range.0 (member_leads root path value (codes "range") range.0 leads range.1)
 
 pub program_points : (root : Data) (contents : Contents) → reads_document root ≡ Some contents
-    → IsSome (value_at (range_in program_path) root)
+    → IsSome (data_at (range_in program_path) root)
 program_points root contents is =
     let program = program_leads root contents is in
     range_there root program_path program.0 program.1 (program_range program.0 contents.program program.2)
 
 -- A comment, and its range.
 pub comment_points : (root : Data) (comments : FiledComments) (place : CommentPlace) (path : List Step)
-    → IsSome (comment_at comments place) → (value_at path root >>= reads_comment) ≡ comment_at comments place
-    → IsSome (value_at (range_in path) root)
+    → IsSome (comment_at comments place) → (data_at path root >>= reads_comment) ≡ comment_at comments place
+    → IsSome (data_at (range_in path) root)
 comment_points root comments place path some leads = by (comment_at comments place) some leads
   where
-    by : (o : Option DependencyComment) → IsSome o → (value_at path root >>= reads_comment) ≡ o
-        → IsSome (value_at (range_in path) root)
+    by : (o : Option DependencyComment) → IsSome o → (data_at path root >>= reads_comment) ≡ o
+        → IsSome (data_at (range_in path) root)
     by None some leads = absurd (cc)
     by (Some comment) some leads =
-        let found = step (value_at path root) reads_comment comment leads in
+        let found = step (data_at path root) reads_comment comment leads in
         range_there root path found.0 found.1 (comment_range found.0 comment found.2)
 
 -- The members of a node, with its range and its kind.
@@ -179,8 +179,8 @@ is_node value node is =
 -- A part of the node at a path that has a fault.
 pub part_points : (root : Data) (path : List Step) (value : Data) (node : Node) (text : List ℕ)
     (fault : SourceFault) (part : NodePart)
-    → value_at path root ≡ Some value → reads_node value ≡ Some node → PartHas text fault node part
-    → IsSome (value_at (part_path (kind_of node) part path) root)
+    → data_at path root ≡ Some value → reads_node value ≡ Some node → PartHas text fault node part
+    → IsSome (data_at (part_path (kind_of node) part path) root)
 part_points root path value node text fault Range leads is has =
     let held = is_node value node is in
     let read = member_read reads_source_range (codes "range") held.members held.range held.has_range in

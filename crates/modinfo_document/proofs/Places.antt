@@ -3,7 +3,7 @@ use Rattle.std.proofs.Common.{◌≡◌, ℕ, List, [], ◌∷◌, codes, Option
 use Rattle.std.proofs.lemmas.Option.{none-some, same_Some}
 use Rattle.serde_json.specs.Data.{Data, null, boolean, number, string, array, object}
 use Rattle.serde_json.specs.Find.{as_array, as_object, as_str, at, get, get_item, get_member}
-use Rattle.deno_graph_json.specs.Read.Error.{value_at}
+use Rattle.deno_graph_json.specs.Read.Error.{data_at}
 use Rattle.deno_graph_json.specs.Read.Partial.{◌>>=◌, member_at}
 use Rattle.deno_graph_json.specs.declared.error.Step.{Step}
 use Rattle.deno_graph_json.specs.declared.error.Step.TheVariants.{Item, Member}
@@ -45,16 +45,16 @@ two_steps name k (object held) = by (get_member name held)
 
 -- The path leads to a value that is read as this.
 abbrev pub LeadsTo : {A : Type 0} → (Data → Option A) → Data → List Step → A → Type 0
-LeadsTo reads root path x = (part : Data) × (value_at path root ≡ Some part) × (reads part ≡ Some x)
+LeadsTo reads root path x = (part : Data) × (data_at path root ≡ Some part) × (reads part ≡ Some x)
 
 item_at_path : (root : Data) (path : List Step) (name : List ℕ) (k : ℕ) (found : Data)
-    → value_at path root ≡ Some found
-    → value_at (Item k ∷ Member name ∷ path) root ≡ member_item name k found
+    → data_at path root ≡ Some found
+    → data_at (Item k ∷ Member name ∷ path) root ≡ member_item name k found
 item_at_path root path name k found is = ap (λ o. (o >>= get name) >>= at k) is ∙ two_steps name k found
 
 below_leads : (indices : NodePath) (path : List Step) (root : Data) (child : Option Data) (node : Option Node)
     (result : Node)
-    → IsReadFrom reads_node child node → value_at path root ≡ child → node_below node indices ≡ Some result
+    → IsReadFrom reads_node child node → data_at path root ≡ child → node_below node indices ≡ Some result
     → LeadsTo reads_node root (path_below path indices) result
 below_leads indices path root None None result from at is = absurd (none-some result is)
 below_leads indices path root None (Some node) result from at is = absurd from

@@ -20,7 +20,7 @@ use Rattle.std.specs.String.{string_bytes}
 use Rattle.std.specs.declared.alloc.Global.{Global}
 use Rattle.serde_json.specs.Data.{Data}
 use Rattle.deno_graph_base.specs.declared.text.position.SourceRange.{SourceRange}
-use Rattle.deno_graph_json.specs.Read.Error.{value_at}
+use Rattle.deno_graph_json.specs.Read.Error.{data_at}
 use Rattle.deno_graph_json.specs.Read.Partial.{◌>>=◌}
 use Rattle.deno_graph_json.specs.declared.error.Step.{Step}
 use Rattle.deno_graph_json.specs.declared.error.Step.TheVariants.{Item, Member}
@@ -99,7 +99,7 @@ node_path (index ∷ indices) = path_below (Item index ∷ Member (codes "body")
 
 -- The path leads to the value that the node was read from.
 abbrev pub LeadsToNode : Data → List Step → Node → Type 0
-LeadsToNode value path node = (value_at path value >>= reads_node) ≡ Some node
+LeadsToNode value path node = (data_at path value >>= reads_node) ≡ Some node
 
 -- The name of the member with the string literal, for the kinds that may have one.
 abbrev pub literal_member : Kind → List ℕ
@@ -128,7 +128,7 @@ comment_path side entry number =
 abbrev pub IsCommentPath : Data → FiledComments → CommentPlace → List Step → Type 0
 IsCommentPath value comments place path = (entry : ℕ) × (number : ℕ)
     × (path ≡ comment_path place.side entry number)
-    × ((value_at path value >>= reads_comment) ≡ comment_at comments place)
+    × ((data_at path value >>= reads_comment) ≡ comment_at comments place)
 
 -- The path of the part of a comment that has this fault: the comment if its text is another, else its range.
 abbrev pub comment_part : SourceFault → List Step → List Step
@@ -137,7 +137,7 @@ comment_part fault comment = range_in comment
 
 -- There is a value at the path, and the pointer is the path as a JSON Pointer.
 abbrev pub Points : Data → List Step → Option (String Global) → Type 0
-Points value path pointer = IsSome (value_at path value)
+Points value path pointer = IsSome (data_at path value)
     × IsSomeAnd pointer (λ text. string_bytes text ≡ pointer_text path)
 
 -- The pointer leads to the part that has this fault; of two comments, to the second.

@@ -3,7 +3,7 @@
 ghost use Rattle.std.specs.Prelude.{◌≡◌, [], ◌∷◌, IfSome, List, Some, codes, option_map};
 ghost use Rattle.serde_json.specs.Data.{Data, array};
 ghost use Rattle.deno_graph_json.specs.Data.{data_of, elements_data};
-ghost use Rattle.deno_graph_json.specs.Read.Error.{value_at};
+ghost use Rattle.deno_graph_json.specs.Read.Error.{data_at};
 ghost use Rattle.deno_graph_json.specs.Read.Partial.{as_usize, reads_items};
 ghost use Rattle.deno_graph_json.specs.declared.error.Step.TheVariants.{Item, Member};
 ghost use Rattle.modinfo_document.specs.declared.comments.FiledEntry.{FiledEntry};
@@ -39,7 +39,7 @@ pub fn find_comment<'a>(
         → IsCommentAt (side_entries contents.comments side) position number
         (option_map (λ found. data_of found.value) result) }
     ensures path { IfSome result (λ found.
-        value_at (comment_path side found.entry found.number) (data_of root.entry)
+        data_at (comment_path side found.entry found.number) (data_of root.entry)
         ≡ Some (data_of found.value)) }
 {
     let entries = root.members()?.get(member_of(side))?.elements()?;
@@ -52,7 +52,7 @@ fn comment_in<'a>(entries: Elements<'a>, position: usize, number: usize) -> Opti
         → reads_items reads_entry (elements_data entries.entry) ≡ Some read
         → IsCommentAt read position number (option_map (λ found. data_of found.value) result) }
     ensures path { IfSome result (λ found.
-        value_at (Item found.number ∷ Member (codes "comments") ∷ Item found.entry ∷ [])
+        data_at (Item found.number ∷ Member (codes "comments") ∷ Item found.entry ∷ [])
         (array (elements_data entries.entry)) ≡ Some (data_of found.value)) }
 {
     let mut passed = 0usize;

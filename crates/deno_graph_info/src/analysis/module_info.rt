@@ -1,4 +1,4 @@
-ghost use Rattle.std.specs.Prelude.{◌≡◌, ◌≢◌, [], false, Some, None, IfOk, IfErr, refl, string_bytes};
+ghost use Rattle.std.specs.Prelude.{◌≡◌, [], false, Some, None, IfOk, IfErr, refl, string_bytes};
 ghost use Rattle.serde_json.specs.View.{view};
 ghost use Rattle.serde_json.specs.Written.{compact_text, has_float as holds_float};
 ghost use Rattle.deno_graph_info.specs.InfoFault.{IsInfoFault};
@@ -10,8 +10,8 @@ use crate::analysis::type_script_reference::TypeScriptReference;
 use crate::analysis::{DependencyDescriptor, SpecifierWithRange};
 use deno_graph_base::values::{Items, TryClone};
 use deno_graph_json::{
-    Element, FromJson, JsonWriter, ObjectReader, ReadError, Tape, ToObject, find_float, has_float,
-    text_of, to_value,
+    Element, FromJson, JsonWriter, ObjectReader, ReadError, Tape, ToObject, has_float, to_text,
+    to_value,
 };
 use serde_json::Value;
 use std::alloc::{AllocError, Global};
@@ -40,8 +40,6 @@ pub struct ModuleInfo {
 
 impl ModuleInfo {
     ghost use Rattle.deno_graph_info.specs.declared.analysis.module_info.ModuleInfo.{ModuleInfo};
-    ghost use Rattle.deno_graph_info.specs.declared.analysis.fault.InfoFault.TheVariants.{OutOfMemory};
-    ghost use Rattle.deno_graph_json.specs.Data.{data_of};
 
     /// Returns an empty result of a module that is no script. Allocates nothing.
     pub fn new(alloc: Global) -> ModuleInfo
@@ -82,20 +80,6 @@ impl ModuleInfo {
         Ok(ModuleInfo::from_json(alloc, tape.root())?)
     }
 
-    /// Like `from_value`, for a value in a flat list. Allocates more only where the value has a float.
-    pub fn from_element(alloc: Global, value: Element<'_>) -> Result<ModuleInfo, InfoFault>
-        ensures ok { IfOk result (λ info. (holds_float (data_of value.entry) ≡ false)
-            × (reads_info (data_of value.entry) ≡ Some info)) }
-        ensures err { IfErr result (λ fault. fault ≢ OutOfMemory
-            → IsInfoFault (data_of value.entry) fault) }
-    {
-        match find_float(alloc, value) {
-            Ok(()) => Ok(ModuleInfo::from_json(alloc, value)?),
-            Err(ReadError::Mismatch(_)) => Err(InfoFault::Float),
-            Err(ReadError::OutOfMemory) => Err(InfoFault::OutOfMemory),
-        }
-    }
-
     /// Returns the JSON, without members that have their default. `from_value` reads it back as an
     /// equal `ModuleInfo`. The only error is that an allocation fails.
     pub fn to_value(&self, alloc: Global) -> Result<Value, AllocError>
@@ -111,7 +95,7 @@ impl ModuleInfo {
     pub fn to_json(&self, alloc: Global) -> Result<String, AllocError>
         ensures text { IfOk result (λ text. string_bytes text ≡ compact_text (json_of_info self.now)) }
     {
-        text_of(alloc, self)
+        to_text(alloc, self)
     }
 
     /// The law that the JSON of a `ModuleInfo` is read back as the same `ModuleInfo`. `IsHeldInfo`

@@ -16,9 +16,9 @@ step_into (Item number) value = at number value
 step_into (Member name) value = get name value
 
 -- the value to which a path leads. The steps are from the inside out: the last step is the first to take.
-abbrev pub value_at : List Step → Data → Option Data
-value_at [] value = Some value
-value_at (step ∷ around) value = value_at around value >>= step_into step
+abbrev pub data_at : List Step → Data → Option Data
+data_at [] value = Some value
+data_at (step ∷ around) value = data_at around value >>= step_into step
 
 -- the error of a value to which a path leads
 abbrev pub mismatch : List Step → Expected → ReadError
@@ -26,7 +26,7 @@ mismatch path expected = Mismatch (record { path = path; expected = expected })
 
 -- the path of the error leads to a value that isn't as expected
 abbrev pub IsIn : Data → ReadError → Type 0
-IsIn value (Mismatch found) = IsSomeAnd (value_at found.path value) (IsNot found.expected)
+IsIn value (Mismatch found) = IsSomeAnd (data_at found.path value) (IsNot found.expected)
 IsIn value OutOfMemory = Unit {0}
 
 abbrev pub IsMismatch : ReadError → Type 0

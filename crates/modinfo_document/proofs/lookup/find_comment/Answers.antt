@@ -1,6 +1,6 @@
 use Rattle.std.proofs.Common.{◌≡◌, [], ◌∷◌, codes, None, Some, IfSome, slice_get, arith, sym, ap}
 use Rattle.serde_json.specs.Data.{array}
-use Rattle.deno_graph_json.specs.Read.Error.{value_at}
+use Rattle.deno_graph_json.specs.Read.Error.{data_at}
 use Rattle.deno_graph_json.specs.declared.error.Step.TheVariants.{Item, Member}
 use Rattle.deno_graph_json.specs.Data.{data_of, elements_data}
 use Rattle.modinfo_document.specs.Comments.{comments_at}
@@ -42,10 +42,10 @@ returns-clause-path c =
     let found : Some (elements_data c.in_ok-entries.entries) ≡ side_items c.args.side
     (data_of c.args.root) = grind arith in
     let there = side_array c.args.side (data_of c.args.root) (elements_data c.in_ok-entries.entries) found in
-    elim c.comment_in.result as (λ r. IfSome r (λ f. value_at
+    elim c.comment_in.result as (λ r. IfSome r (λ f. data_at
     (Item f.number ∷ Member (codes "comments") ∷ Item f.entry ∷ [])
     (array (elements_data c.in_ok-entries.entries)) ≡ Some (data_of f.value))
-    → IfSome r (λ f. value_at (comment_path c.args.side f.entry f.number) (data_of c.args.root)
+    → IfSome r (λ f. data_at (comment_path c.args.side f.entry f.number) (data_of c.args.root)
     ≡ Some (data_of f.value))) [
       | None ↦ λ none. none
       | Some f ↦ λ leads. side_leads c.args.side (data_of c.args.root)

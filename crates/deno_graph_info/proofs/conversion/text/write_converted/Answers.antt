@@ -7,7 +7,8 @@ use Rattle.deno_graph_info.proofs.ConvertedTexts.{
   overflows_object,
   unconverted,
 }
-use Rattle.deno_graph_info.proofs.NamedMembers.{dependencies_among, is_object, no_dependencies}
+use Rattle.deno_graph_json.proofs.Reading.{is_object}
+use Rattle.deno_graph_info.proofs.NamedMembers.{dependencies_among, no_dependencies}
 use Rattle.deno_graph_info.proofs.Outcomes.{column_error-on}
 use Rattle.deno_graph_info.proofs.conversion.text.write_converted.Goals as goal
 

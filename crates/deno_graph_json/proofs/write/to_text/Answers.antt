@@ -1,7 +1,7 @@
 use Rattle.std.proofs.Common.{ap, ◌∙◌}
 use Rattle.deno_graph_json.specs.Text.{text_tokens, with_tokens}
 use Rattle.deno_graph_json.proofs.Texts.{value_text}
-use Rattle.deno_graph_json.proofs.write.text_of.Goals as goal
+use Rattle.deno_graph_json.proofs.write.to_text.Goals as goal
 
 pub returns : goal.returns
 returns g c =
