@@ -8,7 +8,7 @@ ghost use Rattle.deno_graph_json.specs.Data.{data_of, members_data};
 ghost use Rattle.deno_graph_json.specs.Found.{AreFound};
 ghost use Rattle.deno_graph_json.specs.ObjectReader.{readable, value_of};
 ghost use Rattle.deno_graph_json.specs.Read.Result.{IsReadResult, IsReadResultSeen, IsReadError};
-ghost use Rattle.deno_graph_json.specs.Read.Error.{IsIn};
+ghost use Rattle.deno_graph_json.specs.Read.Error.{Expects, IsIn};
 ghost use Rattle.deno_graph_json.specs.Read.Expected.{IsNot};
 ghost use Rattle.deno_graph_json.specs.Read.Partial.{reads_array, member_at, member_or};
 
@@ -161,8 +161,9 @@ impl<'v, Whole> ObjectReader<'v, Whole> {
 
     /// Returns the error of a member that isn't what is expected.
     pub fn member_error(&self, key: &str, expected: Expected) -> ReadError
-        ensures { (member : Data) → get_member key.now (readable self.now) ≡ Some member
+        ensures place { (member : Data) → get_member key.now (readable self.now) ≡ Some member
             → IsNot expected member → IsIn (value_of self.now) result }
+        ensures expected { Expects expected result }
     {
         ReadError::expected(self.alloc, expected).in_member(self.alloc, key)
     }

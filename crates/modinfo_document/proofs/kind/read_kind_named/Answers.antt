@@ -11,4 +11,4 @@ returns-in_default c =
     let name = c.args.name.now in
     let none : reads_kind_named (readable c.args.object.now) name ≡ None = search rules in
     read_error (value_of c.args.object.now) _ c.member_error.result none
-    (c.member_error.ensures (string name) c.requires (search rules))
+    (c.member_error.ensures.place (string name) c.requires (search rules))

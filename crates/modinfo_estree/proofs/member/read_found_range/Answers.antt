@@ -29,7 +29,7 @@ returns-in-None-as_pair c =
     sym c.as_pair.ensures ∙ c.in-None-as_pair.is in
     read_error (value_of c.args.members.now) _ c.member_error.result
     (ap (range_or (byte_in c.args.offsets.now) members) here ∙ rw none refl)
-    (c.member_error.ensures (data_of c.in-Some.value) here none)
+    (c.member_error.ensures.place (data_of c.in-Some.value) here none)
 
 pub returns-in-None : goal.returns-in-None
 returns-in-None c =
