@@ -1,5 +1,20 @@
 -- Reading a kind of node, by its name and its members; and the names that a document may have.
-use Rattle.std.specs.Prelude.{ℕ, List, [], ◌∷◌, codes, bytes_eq, false, Option, Some, None, if◌then◌else◌}
+use Rattle.std.specs.Prelude.{
+  ◌≡◌,
+  ℕ,
+  ⊤,
+  List,
+  [],
+  ◌∷◌,
+  map,
+  codes,
+  bytes_eq,
+  false,
+  Option,
+  Some,
+  None,
+  if◌then◌else◌,
+}
 use Rattle.serde_json.specs.Data.{Data, null, boolean, number, string, array, object, Members}
 use Rattle.serde_json.specs.Find.{as_bool, as_object, as_str, get_member}
 use Rattle.deno_graph_json.specs.Read.Partial.{
@@ -9,6 +24,10 @@ use Rattle.deno_graph_json.specs.Read.Partial.{
   reads_array,
   reads_optional,
 }
+use Rattle.deno_graph_json.specs.declared.error.ReadError.{ReadError}
+use Rattle.deno_graph_json.specs.declared.error.ReadError.TheVariants.{Mismatch, OutOfMemory}
+use Rattle.deno_graph_json.specs.declared.expected.Expected.{Expected}
+use Rattle.deno_graph_json.specs.declared.expected.Expected.TheVariants.{Names}
 use Rattle.deno_graph_source.specs.declared.tree.node.Arg.{Arg}
 use Rattle.deno_graph_source.specs.declared.tree.node.BinaryOp.{BinaryOp}
 use Rattle.deno_graph_source.specs.declared.tree.node.BinaryOp.TheVariants.{Add, Other as OtherOperator}
@@ -65,6 +84,16 @@ use Rattle.modinfo_document.specs.Literal.{reads_source_range, reads_string, rea
 unfoldable pub named : {A : Type 0} → List (List ℕ × A) → List ℕ → Option A
 named [] name = None
 named ((key, x) ∷ table) name = if bytes_eq name key then Some x else named table name
+
+-- What is expected is a name of the table.
+abbrev pub IsNameIn : {A : Type 0} → List (List ℕ × A) → Expected → Type 0
+IsNameIn table (Names names) = map (λ name. name.now) names.now ≡ map (λ entry. entry.0) table
+IsNameIn table _ = ⊥
+
+-- The error says that a name of the table is expected, or that an allocation failed.
+abbrev pub ExpectsNameIn : {A : Type 0} → List (List ℕ × A) → ReadError → Type 0
+ExpectsNameIn table (Mismatch found) = IsNameIn table found.expected
+ExpectsNameIn table OutOfMemory = ⊤
 
 -- The phases of an import, by name.
 abbrev pub phases : List (List ℕ × ImportPhase)

@@ -1,9 +1,10 @@
 //! Reading calls.
 
+ghost use Rattle.std.specs.Prelude.{IfErr};
 ghost use Rattle.serde_json.specs.Data.{string};
 ghost use Rattle.deno_graph_json.specs.ObjectReader.{readable, value_of};
 ghost use Rattle.deno_graph_json.specs.Read.Result.{IsReadResult};
-ghost use Rattle.modinfo_document.specs.Kind.{callees, named, reads_arg, reads_call, reads_named};
+ghost use Rattle.modinfo_document.specs.Kind.{ExpectsNameIn, callees, named, reads_arg, reads_call, reads_named};
 
 use crate::document::Document;
 use deno_graph_json::read::read_str;
@@ -37,7 +38,8 @@ const CALLEES: &[&str] = &["import", "importSource", "importDefer", "expr", "sup
 /// Returns a callee of this name.
 #[tactic(auto, unfolding(crate::specs::Kind::named))]
 fn callee_named(alloc: Global, name: &str) -> Result<Callee, ReadError>
-    ensures { IsReadResult (string name.now) (named callees name.now) result }
+    ensures read { IsReadResult (string name.now) (named callees name.now) result }
+    ensures expected { IfErr result (ExpectsNameIn callees) }
 {
     match name {
         "import" => Ok(Callee::Import(ImportPhase::Evaluation)),

@@ -1,12 +1,12 @@
 //! Reading comments.
 
-ghost use Rattle.std.specs.Prelude.{◌≡◌, [], ◌∷◌, OnOk};
+ghost use Rattle.std.specs.Prelude.{◌≡◌, [], ◌∷◌, IfErr, OnOk};
 ghost use Rattle.serde_json.specs.Data.{string};
 ghost use Rattle.deno_graph_json.specs.ObjectReader.{readable, value_of};
 ghost use Rattle.deno_graph_json.specs.Read.Result.{IsReadResult};
 ghost use Rattle.modinfo_document.specs.Comments.{AreThoseOf, comment_kinds, side_name};
 ghost use Rattle.modinfo_document.specs.Comments.{reads_comment, reads_entry, reads_side, reads_sides};
-ghost use Rattle.modinfo_document.specs.Kind.{named, reads_named};
+ghost use Rattle.modinfo_document.specs.Kind.{ExpectsNameIn, named, reads_named};
 ghost use Rattle.modinfo_document.specs.Result.{IsReadResultBy};
 ghost use Rattle.modinfo_document.specs.internal.Comments.{AddsOn, AreAppendedOn};
 
@@ -149,7 +149,8 @@ const COMMENT_KINDS: &[&str] = &["line", "block"];
 /// Returns the kind of this name.
 #[tactic(auto, unfolding(crate::specs::Kind::named))]
 fn comment_kind_named(alloc: Global, name: &str) -> Result<CommentKind, ReadError>
-    ensures { IsReadResult (string name.now) (named comment_kinds name.now) result }
+    ensures read { IsReadResult (string name.now) (named comment_kinds name.now) result }
+    ensures expected { IfErr result (ExpectsNameIn comment_kinds) }
 {
     match name {
         "line" => Ok(CommentKind::Line),

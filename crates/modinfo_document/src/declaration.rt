@@ -1,9 +1,10 @@
 //! Reading imports, exports and modules, each from the members of its node.
 
+ghost use Rattle.std.specs.Prelude.{IfErr};
 ghost use Rattle.serde_json.specs.Data.{string};
 ghost use Rattle.deno_graph_json.specs.ObjectReader.{readable, value_of};
 ghost use Rattle.deno_graph_json.specs.Read.Result.{IsReadResult};
-ghost use Rattle.modinfo_document.specs.Kind.{named, phases, reads_named, reads_import_decl};
+ghost use Rattle.modinfo_document.specs.Kind.{ExpectsNameIn, named, phases, reads_named, reads_import_decl};
 ghost use Rattle.modinfo_document.specs.Kind.{reads_named_export, reads_export_all, reads_import_equals};
 ghost use Rattle.modinfo_document.specs.Kind.{reads_import_type, reads_module_decl};
 
@@ -54,7 +55,8 @@ const PHASES: &[&str] = &["evaluation", "source", "defer"];
 /// Returns the phase of this name.
 #[tactic(auto, unfolding(crate::specs::Kind::named))]
 fn phase_named(alloc: Global, name: &str) -> Result<ImportPhase, ReadError>
-    ensures { IsReadResult (string name.now) (named phases name.now) result }
+    ensures read { IsReadResult (string name.now) (named phases name.now) result }
+    ensures expected { IfErr result (ExpectsNameIn phases) }
 {
     match name {
         "evaluation" => Ok(ImportPhase::Evaluation),

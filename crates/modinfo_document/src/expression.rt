@@ -1,9 +1,10 @@
 //! Reading literals, identifiers and binary expressions, each from the members of its node.
 
+ghost use Rattle.std.specs.Prelude.{IfErr};
 ghost use Rattle.serde_json.specs.Data.{string};
 ghost use Rattle.deno_graph_json.specs.ObjectReader.{readable, value_of};
 ghost use Rattle.deno_graph_json.specs.Read.Result.{IsReadResult};
-ghost use Rattle.modinfo_document.specs.Kind.{named, operators, reads_named};
+ghost use Rattle.modinfo_document.specs.Kind.{ExpectsNameIn, named, operators, reads_named};
 ghost use Rattle.modinfo_document.specs.Kind.{reads_str, reads_template, reads_binary, reads_ident};
 
 use crate::document::Document;
@@ -55,7 +56,8 @@ const OPERATORS: &[&str] = &["add", "other"];
 /// Returns an operator of this name.
 #[tactic(auto, unfolding(crate::specs::Kind::named))]
 fn operator_named(alloc: Global, name: &str) -> Result<BinaryOp, ReadError>
-    ensures { IsReadResult (string name.now) (named operators name.now) result }
+    ensures read { IsReadResult (string name.now) (named operators name.now) result }
+    ensures expected { IfErr result (ExpectsNameIn operators) }
 {
     match name {
         "add" => Ok(BinaryOp::Add),

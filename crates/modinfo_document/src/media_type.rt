@@ -1,6 +1,7 @@
+ghost use Rattle.std.specs.Prelude.{IfErr};
 ghost use Rattle.serde_json.specs.Data.{string};
 ghost use Rattle.deno_graph_json.specs.Read.Result.{IsReadResult};
-ghost use Rattle.modinfo_document.specs.Kind.{media_types, named, reads_named};
+ghost use Rattle.modinfo_document.specs.Kind.{ExpectsNameIn, media_types, named, reads_named};
 
 use crate::document::Document;
 use deno_graph_json::read::read_str;
@@ -38,7 +39,8 @@ const MEDIA_TYPES: &[&str] = &[
 /// Returns a media type of this name.
 #[tactic(auto, unfolding(crate::specs::Kind::named))]
 fn media_type_named(alloc: Global, name: &str) -> Result<MediaType, ReadError>
-    ensures { IsReadResult (string name.now) (named media_types name.now) result }
+    ensures read { IsReadResult (string name.now) (named media_types name.now) result }
+    ensures expected { IfErr result (ExpectsNameIn media_types) }
 {
     match name {
         "JavaScript" => Ok(MediaType::JavaScript),

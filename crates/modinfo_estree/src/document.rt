@@ -1,12 +1,12 @@
 //! Documents with the tree of a parser.
 
-ghost use Rattle.std.specs.Prelude.{◌≡◌, MatchResult};
+ghost use Rattle.std.specs.Prelude.{◌≡◌, IfErr, MatchResult};
 ghost use Rattle.serde_json.specs.Data.{string};
 ghost use Rattle.deno_graph_json.specs.Data.{data_of};
 ghost use Rattle.deno_graph_json.specs.ObjectReader.{readable, value_of};
 ghost use Rattle.deno_graph_json.specs.Read.Result.{IsReadResult};
 ghost use Rattle.modinfo_document.specs.Document.{Has, IsDocumentIn, IsNoDocumentIn};
-ghost use Rattle.modinfo_document.specs.Kind.{named, reads_named};
+ghost use Rattle.modinfo_document.specs.Kind.{ExpectsNameIn, named, reads_named};
 ghost use Rattle.modinfo_document.specs.Result.{IsReadResultBy};
 ghost use Rattle.modinfo_estree.specs.Document as spec;
 ghost use Rattle.modinfo_estree.specs.Document.{reads_estree, units};
@@ -166,7 +166,8 @@ const UNITS: &[&str] = &["utf16", "utf8"];
 /// Returns the unit of this name.
 #[tactic(auto, unfolding(modinfo_document::specs::Kind::named))]
 fn unit_named(alloc: Global, name: &str) -> Result<OffsetUnit, ReadError>
-    ensures { IsReadResult (string name.now) (named units name.now) result }
+    ensures read { IsReadResult (string name.now) (named units name.now) result }
+    ensures expected { IfErr result (ExpectsNameIn units) }
 {
     match name {
         "utf16" => Ok(OffsetUnit::Utf16),

@@ -1,13 +1,13 @@
 //! Programs.
 #![tactic(auto, using(deno_graph_json::proofs::Reading::reading), unfolding(deno_graph_json::specs::Read::Partial::member_at))]
 
-ghost use Rattle.std.specs.Prelude.{◌≡◌, [], codes};
+ghost use Rattle.std.specs.Prelude.{◌≡◌, [], IfErr, codes};
 ghost use Rattle.deno_graph_json.specs.Data.{data_of};
 ghost use Rattle.deno_graph_json.specs.ObjectReader.{readable, value_of};
 ghost use Rattle.deno_graph_json.specs.Read.Partial.{member_at, member_or, reads_array};
 ghost use Rattle.deno_graph_json.specs.Read.Result.{IsReadResult};
 ghost use Rattle.serde_json.specs.Data.{string};
-ghost use Rattle.modinfo_document.specs.Kind.{named, reads_named};
+ghost use Rattle.modinfo_document.specs.Kind.{ExpectsNameIn, named, reads_named};
 ghost use Rattle.modinfo_estree.specs.Document.{outermost_types, program_types};
 ghost use Rattle.modinfo_estree.specs.Document.{reads_body, reads_file, reads_program};
 ghost use Rattle.modinfo_estree.specs.Node.{reads_node};
@@ -46,7 +46,8 @@ impl FromJson<Estree> for Outermost {
 /// Returns what the outermost node of this type is.
 #[tactic(auto, unfolding(modinfo_document::specs::Kind::named))]
 fn outermost_named(alloc: Global, name: &str) -> Result<Outermost, ReadError>
-    ensures { IsReadResult (string name.now) (named outermost_types name.now) result }
+    ensures read { IsReadResult (string name.now) (named outermost_types name.now) result }
+    ensures expected { IfErr result (ExpectsNameIn outermost_types) }
 {
     match name {
         "Program" => Ok(Outermost::Program),
@@ -77,7 +78,8 @@ impl FromJson<Estree> for ProgramType {
 /// Returns the type of this name, if that is the type of programs.
 #[tactic(auto, unfolding(modinfo_document::specs::Kind::named))]
 fn program_named(alloc: Global, name: &str) -> Result<ProgramType, ReadError>
-    ensures { IsReadResult (string name.now) (named program_types name.now) result }
+    ensures read { IsReadResult (string name.now) (named program_types name.now) result }
+    ensures expected { IfErr result (ExpectsNameIn program_types) }
 {
     match name {
         "Program" => Ok(ProgramType::Program),
