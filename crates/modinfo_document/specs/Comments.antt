@@ -103,3 +103,7 @@ reads_sides members = do
 abbrev pub AreThoseOf : Sides → FiledComments → Type 0
 AreThoseOf sides comments = HasCommentsOf sides.leading comments.leading
     × HasCommentsOf sides.trailing comments.trailing
+
+-- The comments are those of these entries, and the program is this one.
+abbrev pub HasTree : Sides × Program → FiledComments × Program → Type 0
+HasTree contents tree = AreThoseOf contents.0 tree.0 × (tree.1 ≡ contents.1)

@@ -7,7 +7,8 @@ ghost use Rattle.deno_graph_json.specs.ObjectReader.{readable, value_of};
 ghost use Rattle.modinfo_document.specs.Document.{Has, IsDocumentOf, IsNoDocument, IsNoSource, IsSourceOf};
 ghost use Rattle.modinfo_document.specs.Document.{reads_document};
 ghost use Rattle.modinfo_document.specs.Result.{IsReadResultBy};
-ghost use Rattle.modinfo_document.specs.internal.Document.{HasTree, reads_tree};
+ghost use Rattle.modinfo_document.specs.internal.Document.{reads_tree};
+ghost use Rattle.modinfo_document.specs.Comments.{HasTree};
 
 use crate::comments::read_comments;
 use crate::error::DocumentError;

@@ -1,10 +1,9 @@
 -- Comments and program of a document.
-use Rattle.std.specs.Prelude.{◌≡◌, codes, Option, Some}
+use Rattle.std.specs.Prelude.{codes, Option, Some}
 use Rattle.serde_json.specs.Data.{Members}
 use Rattle.deno_graph_json.specs.Read.Partial.{◌>>=◌, member_at}
-use Rattle.deno_graph_source.specs.Comments.{FiledComments}
 use Rattle.deno_graph_source.specs.declared.tree.node.Program.{Program}
-use Rattle.modinfo_document.specs.Comments.{Sides, reads_sides, AreThoseOf}
+use Rattle.modinfo_document.specs.Comments.{Sides, reads_sides}
 use Rattle.modinfo_document.specs.Node.{reads_program}
 
 -- The entries of the comments, and the program.
@@ -13,7 +12,3 @@ reads_tree members = do
   comments ← reads_sides members
   program ← member_at reads_program (codes "program") members
   Some (comments, program)
-
--- The comments are those of these entries, and the program is this one.
-abbrev pub HasTree : Sides × Program → FiledComments × Program → Type 0
-HasTree contents tree = AreThoseOf contents.0 tree.0 × (tree.1 ≡ contents.1)

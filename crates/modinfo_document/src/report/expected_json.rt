@@ -1,7 +1,7 @@
 //! What is expected where a text isn't JSON (RFC 8259).
 
 ghost use Rattle.std.specs.Prelude.{ℕ, IfOk, IfSome, IsTrue, List, codes, take};
-ghost use Rattle.modinfo_document.specs.ExpectedJson.{IsBefore, IsExpected, IsJson};
+ghost use Rattle.modinfo_document.specs.ExpectedJson.{Continues, IsExpected, IsJson};
 
 use deno_graph_json::{Tape, TapeError};
 use json::Scratch;
@@ -44,7 +44,7 @@ pub fn expected_json(alloc: Global, text: &str, start: usize) -> Result<&'static
 /// What is expected of a value, in place of the token that starts with this byte. `None` for other tokens
 /// than numbers, words and byte order marks.
 fn words_for_value(byte: u8) -> Option<&'static str>
-    ensures { (front : List ℕ) → IsBefore front (codes "null")
+    ensures { (front : List ℕ) → Continues front (codes "null")
         → IfSome result (λ words. IsExpected front words.now) }
 {
     match byte {
@@ -61,7 +61,7 @@ fn value_or_name(
     front: &str,
     value: &'static str,
 ) -> Result<&'static str, AllocError>
-    ensures { (IsBefore front.now (codes "null") → IsExpected front.now value.now)
+    ensures { (Continues front.now (codes "null") → IsExpected front.now value.now)
         → IfOk result (λ words. IsExpected front.now words.now) }
 {
     if is_before(alloc, front, "null")? {
@@ -88,7 +88,7 @@ fn is_json(alloc: Global, text: &str) -> Result<bool, AllocError>
 /// Whether the beginning of a text, with `next` and the brackets that are still missing after it, is JSON.
 /// The only error is a failed allocation.
 fn is_before(alloc: Global, front: &str, next: &str) -> Result<bool, AllocError>
-    ensures { IfOk result (λ is. IsTrue is → IsBefore front.now next.now) }
+    ensures { IfOk result (λ is. IsTrue is → Continues front.now next.now) }
 {
     let mut text = String::from_str(alloc, front)?;
     text.push_str(next)?;

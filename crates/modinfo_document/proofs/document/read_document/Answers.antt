@@ -7,7 +7,8 @@ use Rattle.deno_graph_json.specs.Read.Partial.{◌>>=◌, member_at}
 use Rattle.deno_graph_json.proofs.Reading.{is_object}
 use Rattle.modinfo_document.specs.Document.{Has, reads_document}
 use Rattle.modinfo_document.specs.Result.{IsReadResultBy}
-use Rattle.modinfo_document.specs.internal.Document.{HasTree, reads_tree}
+use Rattle.modinfo_document.specs.Comments.{HasTree}
+use Rattle.modinfo_document.specs.internal.Document.{reads_tree}
 use Rattle.modinfo_document.proofs.Documents.{document_read, contents_with}
 use Rattle.modinfo_document.proofs.Results.{exits_by, reading_by, some_and, some_with}
 use Rattle.modinfo_document.proofs.document.read_document.Goals as goal
