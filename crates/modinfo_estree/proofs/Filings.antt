@@ -44,7 +44,7 @@ use Rattle.modinfo_estree.specs.Comments.{comment_at_range, entries_on, entry_on
 use Rattle.modinfo_estree.specs.Comments.{same_side, sides_of}
 use Rattle.modinfo_estree.specs.Tokens.{Layout}
 use Rattle.modinfo_estree.specs.declared.comments.Place.{Place}
-use Rattle.modinfo_estree.specs.internal.Comments.{AreFiled, IsFiled}
+use Rattle.modinfo_estree.specs.internal.Comments.{AreAllFiled, IsFiled}
 
 -- ---- One comment
 
@@ -143,8 +143,8 @@ module _ (text : List ℕ) (layout : Layout) (ends : List Bool) (is_empty : Bool
 
   pub filed_more : (ranges : List SourceRange) (i : ℕ) (d : SourceRange) (found : Option DependencyComment)
       (start old new : FiledComments) → i < length ranges → found ≡ comment_at_range text (get_or ranges i d)
-      → AreFiled text layout ends is_empty (take i ranges) start old → Files found old new
-      → AreFiled text layout ends is_empty (take (i + 1) ranges) start new
+      → AreAllFiled text layout ends is_empty (take i ranges) start old → Files found old new
+      → AreAllFiled text layout ends is_empty (take (i + 1) ranges) start new
   filed_more ranges i d found start old new within is so_far filed =
       let before = filter_map (comment_at_range text) (take i ranges) in
       let found_here = cons_option found [] in
@@ -159,12 +159,12 @@ module _ (text : List ℕ) (layout : Layout) (ends : List Bool) (is_empty : Bool
   -- ---- No range, and all ranges
 
   pub none_filed : (ranges : List SourceRange) (start : FiledComments)
-      → AreFiled text layout ends is_empty (take 0 ranges) start start
+      → AreAllFiled text layout ends is_empty (take 0 ranges) start start
   none_filed ranges start =
       (nothing start.leading start.leading refl, nothing start.trailing start.trailing refl)
 
   pub all_filed : (ranges : List SourceRange) (start new : FiledComments) → start.leading ≡ []
-      → start.trailing ≡ [] → AreFiled text layout ends is_empty ranges start new
+      → start.trailing ≡ [] → AreAllFiled text layout ends is_empty ranges start new
       → AreThoseOf (sides_of text layout ends is_empty ranges) new
   unfolding sides_of
   all_filed ranges start new no_leading no_trailing filed =

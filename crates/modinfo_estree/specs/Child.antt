@@ -56,23 +56,11 @@ roles =
 unfoldable pub role_of : Bool → List ℕ → Role
 role_of is_jsx name = if is_jsx then Other else unwrap_or (named roles name) Other
 
--- Whether a rule may read a string literal of this role: as a specifier, an argument, its operand, an option,
--- the name of a module, a key or a value.
+-- Whether a rule may read a string literal of this role: each but `Other`, since a rule asks for the nodes of
+-- all the others.
 abbrev pub is_read : Role → Bool
-is_read Arguments = true
-is_read Attributes = false
-is_read Callee = false
-is_read Decorators = false
-is_read Expressions = true
-is_read Id = true
-is_read Key = true
-is_read Left = true
-is_read Options = true
-is_read Properties = false
-is_read Right = true
-is_read Source = true
-is_read Value = true
 is_read Other = false
+is_read _ = true
 
 -- Whether nodes of a role belong to a group.
 abbrev pub is_in : Group → Role → Bool

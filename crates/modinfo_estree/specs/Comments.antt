@@ -66,14 +66,10 @@ abbrev pub block_text : List ℕ → List ℕ
 block_text rest = let inside = take (length rest - 2) rest in
     if ends_with nat_eq rest (codes "*/") && not (has_close inside) then inside else []
 
--- The bytes begin as a `#!` line or a comment as in HTML does.
-abbrev pub begins_no_comment : List ℕ → Bool
-begins_no_comment bytes = starts_with nat_eq bytes (codes "#!")
-    || (starts_with nat_eq bytes (codes "<!--") || starts_with nat_eq bytes (codes "-->"))
-
--- The bytes are a `#!` line or a comment as in HTML, which are no comments: they begin as such, on one line.
+-- The bytes begin as a `#!` line or a comment as in HTML does, which are no comments.
 abbrev pub is_no_comment : List ℕ → Bool
-is_no_comment bytes = begins_no_comment bytes && not (has_line_break bytes)
+is_no_comment bytes = starts_with nat_eq bytes (codes "#!")
+    || (starts_with nat_eq bytes (codes "<!--") || starts_with nat_eq bytes (codes "-->"))
 
 -- Some characters are at the end of a line: none is left, or the first is a line terminator.
 abbrev pub ends_line : List ℕ → Bool
@@ -93,7 +89,7 @@ abbrev pub line_comment : List ℕ → SourceRange → List ℕ → DependencyCo
 line_comment text range rest =
     if is_whole_line text range then comment_with Line range rest else comment_with Block range []
 
--- The comment with these bytes, none if they are what is no comment. Other bytes are read as an empty line
+-- The comment with these bytes, none if they begin as what is no comment. Other bytes are read as an empty line
 -- comment, and the check of the source reports the comment.
 unfoldable pub comment_of : List ℕ → SourceRange → List ℕ → Option DependencyComment
 comment_of text range bytes =

@@ -13,7 +13,6 @@ use Rattle.std.specs.Prelude.{
   Some,
   None,
   Option,
-  length,
   nat_le,
   nat_lt,
   slice_get,
@@ -56,7 +55,7 @@ module _ (source : EstreeSource) where
   with_parentheses (suc count) bounds range =
       if has_pair bounds range then with_parentheses count bounds (outside range) else range
 
-  -- The range of the callee or of an argument of a call with the parentheses around it, within these bounds.
-  -- A text has fewer pairs than bytes.
+  -- The range of the callee or of an argument of a call with the parentheses around it, within these bounds:
+  -- at most the innermost 256 pairs, so that many nodes of one range don't read the same pairs again.
   abbrev pub extent_in_call : SourceRange → SourceRange → SourceRange
-  extent_in_call bounds range = with_parentheses (length source.text) bounds range
+  extent_in_call bounds range = with_parentheses 256 bounds range

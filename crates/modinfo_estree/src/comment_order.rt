@@ -1,11 +1,10 @@
 //! The ranges of comments in the order of the text, each once.
 
 ghost use Rattle.std.specs.Prelude.{◌≡◌, IfOk, OnOk, filter};
-ghost use Rattle.modinfo_estree.specs.Comments.{apart, begins_no_comment, comment_ranges, is_comment};
+ghost use Rattle.modinfo_estree.specs.Comments.{apart, comment_ranges, is_comment};
 ghost use Rattle.modinfo_estree.specs.Comments.{is_no_comment, range_start};
 ghost use Rattle.modinfo_estree.specs.Order.{sorted_by_start};
 
-use crate::marks::has_line_break;
 use crate::slice::slice_at;
 use deno_graph_base::text::SourceRange;
 use deno_graph_base::values::Items;
@@ -55,16 +54,10 @@ fn is_comment(text: &str, range: SourceRange) -> bool
     }
 }
 
-/// Returns whether bytes are a `#!` line or a comment as in HTML: begin as such, on one line.
+/// Returns whether bytes begin as a `#!` line or a comment as in HTML does. Doesn't read them to their end,
+/// since a document may have many ranges of the same bytes.
 pub fn is_no_comment(bytes: &str) -> bool
     ensures { result ≡ is_no_comment bytes.now }
-{
-    begins_no_comment(bytes) && !has_line_break(bytes)
-}
-
-/// Returns whether bytes begin as a `#!` line or a comment as in HTML does.
-fn begins_no_comment(bytes: &str) -> bool
-    ensures { result ≡ begins_no_comment bytes.now }
 {
     bytes.starts_with("#!") || bytes.starts_with("<!--") || bytes.starts_with("-->")
 }

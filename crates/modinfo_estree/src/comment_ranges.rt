@@ -11,7 +11,7 @@ ghost use Rattle.modinfo_estree.specs.Document.{comments_of_program, reads_comme
 use crate::member::{is_present, read_range};
 use crate::offsets::Offsets;
 use crate::required::{ReadWith, in_member, read_at, required};
-use crate::source::Members;
+use crate::source::NodeMembers;
 use deno_graph_json::{Element, ReadError};
 use deno_graph_source::text::SourceRange;
 use deno_graph_source::values::Items;
@@ -22,7 +22,7 @@ use std::alloc::Global;
 pub fn read_comments(
     alloc: Global,
     offsets: &Offsets<'_>,
-    members: &Members<'_>,
+    members: &NodeMembers<'_>,
 ) -> Result<Items<SourceRange>, ReadError>
     ensures { IsReadResult (value_of members.now) (reads_comments offsets.now (readable members.now)) result }
 {
@@ -37,7 +37,7 @@ pub fn read_comments(
 fn read_comments_at(
     alloc: Global,
     offsets: &Offsets<'_>,
-    members: &Members<'_>,
+    members: &NodeMembers<'_>,
 ) -> Result<Items<SourceRange>, ReadError>
     ensures { IsReadResult (value_of members.now)
         (member_at (comments_of_program offsets.now) (codes "program") (readable members.now)) result }
@@ -57,7 +57,7 @@ fn read_program_comments(
     ensures { IsReadResult (data_of program.entry)
         (comments_of_program offsets.now (data_of program.entry)) result }
 {
-    let members = Members::new(alloc, program)?;
+    let members = NodeMembers::new(alloc, program)?;
     if is_present(&members, "comments") {
         read_at(alloc, offsets, &members, "comments")
     } else {
@@ -75,7 +75,7 @@ impl<'t> ReadWith<Offsets<'t>> for SourceRange {
         offsets: &Offsets<'t>,
         value: Element<'_>,
     ) -> Result<SourceRange, ReadError> {
-        let members = Members::new(alloc, value)?;
+        let members = NodeMembers::new(alloc, value)?;
         read_range(offsets, &members)
     }
 }

@@ -199,7 +199,8 @@ fn comment_at_range(
     }
 }
 
-/// Returns the comment with these bytes of a text, or `None` if they are a `#!` line or a comment as in HTML.
+/// Returns the comment with these bytes of a text, or `None` if they begin as a `#!` line or a comment as in
+/// HTML does.
 /// Other bytes are read as an empty comment, so that a check of the source reports the comment.
 #[tactic(auto, unfolding(crate::specs::Comments::comment_of))]
 fn comment_of(

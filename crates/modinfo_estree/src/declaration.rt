@@ -16,7 +16,7 @@ use crate::phase::read_phase;
 use crate::reading::Reading;
 use crate::required::{in_member, read_at};
 use crate::role::Group;
-use crate::source::Members;
+use crate::source::NodeMembers;
 use deno_graph_json::{Element, ReadError};
 use deno_graph_source::tree::{Kind, Node, StrLit};
 use deno_graph_source::values::{Items, TryClone};
@@ -93,7 +93,7 @@ impl<'a, 't, 'v> Reading<'a, 't, 'v> {
         ensures { IsReadResult (data_of declaration.entry)
             (spec.reads_exported (parts_of self.now) children.items (data_of declaration.entry)) result }
     {
-        let declared = Members::new(self.alloc, declaration)?;
+        let declared = NodeMembers::new(self.alloc, declaration)?;
         self.import_equals(true, &declared, children)
     }
 
@@ -103,7 +103,7 @@ impl<'a, 't, 'v> Reading<'a, 't, 'v> {
     pub fn import_equals(
         &self,
         is_export: bool,
-        declared: &Members<'_>,
+        declared: &NodeMembers<'_>,
         children: Vec<Child>,
     ) -> Result<Node, ReadError>
         ensures { IsReadResult (value_of declared.now)
@@ -130,7 +130,7 @@ impl<'a, 't, 'v> Reading<'a, 't, 'v> {
         ensures { IsReadResult (data_of reference.entry)
             (spec.external_in (source_of self.now.source.now) (data_of reference.entry)) result }
     {
-        let reference = Members::new(self.alloc, reference)?;
+        let reference = NodeMembers::new(self.alloc, reference)?;
         read_at(self.alloc, &self.source.offsets, &reference, "expression")
     }
 

@@ -10,14 +10,15 @@ ghost use Rattle.modinfo_document.specs.Kind.{ExpectsNameIn, named, reads_named}
 ghost use Rattle.modinfo_document.specs.Result.{IsReadResultBy};
 ghost use Rattle.modinfo_estree.specs.Document as spec;
 ghost use Rattle.modinfo_estree.specs.Document.{reads_estree, units};
-ghost use Rattle.modinfo_estree.specs.internal.Document.{HasTree, reads_tree_in};
+ghost use Rattle.modinfo_estree.specs.internal.Document.{reads_tree_in};
+ghost use Rattle.modinfo_document.specs.Comments.{HasTree};
 
 use crate::comment_order::comment_ranges;
 use crate::comment_ranges::read_comments;
 use crate::comments::file_comments;
 use crate::offsets::{OffsetUnit, Offsets};
 use crate::program::read_file_at;
-use crate::source::{Members, Source};
+use crate::source::{NodeMembers, Source};
 use crate::tokens::Tokens;
 use crate::value_ends::ValueEnds;
 use deno_graph_json::read::{read_object, read_str};
@@ -55,7 +56,7 @@ pub fn read_estree(alloc: Global, value: Element<'_>) -> Result<Document, ReadEr
     let text = object.read_str("source")?;
     let unit = object.read_or("offsets", OffsetUnit::Utf16)?;
     let source = RcStr::from_str(alloc, text)?;
-    let members = Members::of_members(alloc, found);
+    let members = NodeMembers::of_members(alloc, found);
     let tree = read_tree(alloc, unit, text, &members)?;
     Ok(document_of(specifier, media_type, source, tree))
 }
@@ -89,7 +90,7 @@ fn read_tree(
     alloc: Global,
     unit: OffsetUnit,
     text: &str,
-    members: &Members<'_>,
+    members: &NodeMembers<'_>,
 ) -> Result<(Comments, Program), ReadError>
     ensures { IsReadResultBy HasTree (value_of members.now)
         (spec.reads_tree (record { unit = unit; text = text.now }) (readable members.now)) result }
@@ -110,7 +111,7 @@ fn read_tree_in(
     alloc: Global,
     source: &Source<'_>,
     ranges: Items<SourceRange>,
-    members: &Members<'_>,
+    members: &NodeMembers<'_>,
 ) -> Result<(Comments, Program), ReadError>
     ensures { IsReadResultBy HasTree (value_of members.now)
         (reads_tree_in source.now ranges (readable members.now)) result }

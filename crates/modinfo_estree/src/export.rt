@@ -13,7 +13,7 @@ use crate::expression::found;
 use crate::member::read_range;
 use crate::offsets::Offsets;
 use crate::reading::Reading;
-use crate::source::Members;
+use crate::source::NodeMembers;
 use deno_graph_json::{Element, ReadError};
 use deno_graph_source::text::SourceRange;
 use deno_graph_source::tree::{Kind, Node};
@@ -45,7 +45,7 @@ impl<'a, 't, 'v> Reading<'a, 't, 'v> {
         };
         match declaration.members() {
             Some(members) => {
-                let declared = Members::of_members(self.alloc, members);
+                let declared = NodeMembers::of_members(self.alloc, members);
                 decorators_start(self.alloc, &self.source.offsets, &declared)
             }
             None => Ok(None),
@@ -58,7 +58,7 @@ impl<'a, 't, 'v> Reading<'a, 't, 'v> {
 fn decorators_start(
     alloc: Global,
     offsets: &Offsets<'_>,
-    members: &Members<'_>,
+    members: &NodeMembers<'_>,
 ) -> Result<Option<usize>, AllocError>
     ensures { IfOk result (λ start. start
         ≡ spec.decorators_start (byte_in offsets.now) (readable members.now)) }
@@ -71,7 +71,7 @@ fn decorators_start(
 
 /// Returns the first decorator.
 #[tactic(auto, unfolding(crate::specs::Kind::first_decorator))]
-fn first_decorator<'v>(members: &Members<'v>) -> Option<Element<'v>>
+fn first_decorator<'v>(members: &NodeMembers<'v>) -> Option<Element<'v>>
     ensures { option_map data_of result ≡ spec.first_decorator (readable members.now) }
 {
     members.get("decorators")?.elements()?.get(0)
@@ -83,7 +83,7 @@ fn read_start(alloc: Global, offsets: &Offsets<'_>, value: Element<'_>) -> Resul
     ensures { IsReadResult (data_of value.entry)
         (spec.start_in (byte_in offsets.now) (data_of value.entry)) result }
 {
-    let members = Members::new(alloc, value)?;
+    let members = NodeMembers::new(alloc, value)?;
     let range = read_range(offsets, &members)?;
     Ok(range.start)
 }

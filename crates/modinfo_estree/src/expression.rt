@@ -15,7 +15,7 @@ use crate::literal::if_spelled;
 use crate::member::{has_text, text_at};
 use crate::reading::Reading;
 use crate::role::Group;
-use crate::source::{Estree, Members};
+use crate::source::{Estree, NodeMembers};
 use deno_graph_json::{Element, FromJson, ObjectReader, ReadError};
 use deno_graph_source::text::JsString;
 use deno_graph_source::tree::{BinaryOp, Kind, Node};
@@ -169,7 +169,7 @@ impl FromJson<Texts> for JsString {
 
     #[tactic(auto, using(deno_graph_json::proofs::Reading::reading))]
     fn from_json(alloc: Global, value: Element<'_>) -> Result<JsString, ReadError> {
-        let texts = Members::new(alloc, value)?;
+        let texts = NodeMembers::new(alloc, value)?;
         texts.read("cooked")
     }
 }

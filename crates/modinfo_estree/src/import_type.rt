@@ -15,7 +15,7 @@ use crate::member::is_present;
 use crate::reading::Reading;
 use crate::required::{ReadWith, in_member, read_at, required};
 use crate::role::Group;
-use crate::source::Members;
+use crate::source::NodeMembers;
 use deno_graph_json::{Element, ReadError};
 use deno_graph_source::tree::{Kind, Node, StrLit};
 use deno_graph_source::values::Items;
@@ -56,7 +56,7 @@ impl<'a, 't, 'v> Reading<'a, 't, 'v> {
             (spec.reads_literal_in (source_of self.now.source.now).counted (data_of argument.entry))
             result }
     {
-        let members = Members::new(self.alloc, argument)?;
+        let members = NodeMembers::new(self.alloc, argument)?;
         match members.get("literal") {
             Some(_) => read_at(self.alloc, &self.source.offsets, &members, "literal"),
             None => ReadWith::read_with(self.alloc, &self.source.offsets, argument),

@@ -13,7 +13,7 @@ use crate::member::read_range;
 use crate::offsets::Offsets;
 use crate::required::ReadWith;
 use crate::slice::slice_at;
-use crate::source::Members;
+use crate::source::NodeMembers;
 use deno_graph_json::{Element, Expected, ReadError};
 use deno_graph_source::text::{JsString, SourceRange};
 use deno_graph_source::tree::StrLit;
@@ -35,7 +35,7 @@ impl<'t> ReadWith<Offsets<'t>> for StrLit {
         offsets: &Offsets<'t>,
         value: Element<'_>,
     ) -> Result<StrLit, ReadError> {
-        let members = Members::new(alloc, value)?;
+        let members = NodeMembers::new(alloc, value)?;
         let range = read_range(offsets, &members)?;
         let found = members.read("value")?;
         let value = if_spelled(alloc, offsets, range, &members, found)?;
@@ -50,7 +50,7 @@ pub fn if_spelled(
     alloc: Global,
     offsets: &Offsets<'_>,
     range: SourceRange,
-    members: &Members<'_>,
+    members: &NodeMembers<'_>,
     value: JsString,
 ) -> Result<JsString, ReadError>
     requires { member_at reads_string (codes "value") (readable members.now) ≡ Some value }

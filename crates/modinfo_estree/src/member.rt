@@ -10,7 +10,7 @@ ghost use Rattle.modinfo_estree.specs.Member.{range_between};
 ghost use Rattle.modinfo_estree.specs.Source.{byte_in};
 
 use crate::offsets::Offsets;
-use crate::source::Members;
+use crate::source::NodeMembers;
 use deno_graph_json::{Element, Expected, ReadError, View};
 use deno_graph_source::text::SourceRange;
 
@@ -25,7 +25,7 @@ pub fn type_of(value: Element<'_>) -> Option<&str>
 
 /// Returns the text of a member that is a string.
 #[inline(always)]
-pub fn text_at<'v>(members: &Members<'v>, name: &str) -> Option<&'v str>
+pub fn text_at<'v>(members: &NodeMembers<'v>, name: &str) -> Option<&'v str>
     ensures { option_map (λ text. text.now) result ≡ spec.text_at name.now (readable members.now) }
 {
     members.get(name)?.as_str()
@@ -33,7 +33,7 @@ pub fn text_at<'v>(members: &Members<'v>, name: &str) -> Option<&'v str>
 
 /// Returns whether a member is this string.
 #[inline(always)]
-pub fn has_text(members: &Members<'_>, name: &str, text: &str) -> bool
+pub fn has_text(members: &NodeMembers<'_>, name: &str, text: &str) -> bool
     ensures { result ≡ spec.has_text name.now text.now (readable members.now) }
 {
     match text_at(members, name) {
@@ -43,7 +43,7 @@ pub fn has_text(members: &Members<'_>, name: &str, text: &str) -> bool
 }
 
 /// Returns whether a member is a node of this type.
-pub fn has_type(members: &Members<'_>, name: &str, wanted: &str) -> bool
+pub fn has_type(members: &NodeMembers<'_>, name: &str, wanted: &str) -> bool
     ensures { result ≡ spec.has_type name.now wanted.now (readable members.now) }
 {
     match members.get(name) {
@@ -56,7 +56,7 @@ pub fn has_type(members: &Members<'_>, name: &str, wanted: &str) -> bool
 }
 
 /// Returns whether a member is an identifier of this name.
-pub fn has_name(members: &Members<'_>, name: &str, wanted: &str) -> bool
+pub fn has_name(members: &NodeMembers<'_>, name: &str, wanted: &str) -> bool
     ensures { result ≡ spec.has_name name.now wanted.now (readable members.now) }
 {
     match name_at(members, name) {
@@ -66,7 +66,7 @@ pub fn has_name(members: &Members<'_>, name: &str, wanted: &str) -> bool
 }
 
 /// Returns the name of the identifier that a member is.
-fn name_at<'v>(members: &Members<'v>, name: &str) -> Option<&'v str>
+fn name_at<'v>(members: &NodeMembers<'v>, name: &str) -> Option<&'v str>
     ensures { option_map (λ text. text.now) result ≡ spec.name_at name.now (readable members.now) }
 {
     members.get(name)?.members()?.get("name")?.as_str()
@@ -74,7 +74,7 @@ fn name_at<'v>(members: &Members<'v>, name: &str) -> Option<&'v str>
 
 /// Returns whether a member is true.
 #[inline(always)]
-pub fn is_true(members: &Members<'_>, name: &str) -> bool
+pub fn is_true(members: &NodeMembers<'_>, name: &str) -> bool
     ensures { result ≡ spec.is_true name.now (readable members.now) }
 {
     match members.get(name) {
@@ -84,7 +84,7 @@ pub fn is_true(members: &Members<'_>, name: &str) -> bool
 }
 
 /// Returns whether a member is an array with an item.
-pub fn has_items(members: &Members<'_>, name: &str) -> bool
+pub fn has_items(members: &NodeMembers<'_>, name: &str) -> bool
     ensures { result ≡ spec.has_items name.now (readable members.now) }
 {
     match members.get(name) {
@@ -97,7 +97,7 @@ pub fn has_items(members: &Members<'_>, name: &str) -> bool
 }
 
 /// Returns whether a member is there, and not null.
-pub fn is_present(members: &Members<'_>, name: &str) -> bool
+pub fn is_present(members: &NodeMembers<'_>, name: &str) -> bool
     ensures { result ≡ spec.is_present name.now (readable members.now) }
 {
     match members.get(name) {
@@ -107,7 +107,10 @@ pub fn is_present(members: &Members<'_>, name: &str) -> bool
 }
 
 /// Reads the range of a node or a comment: `range`, or `start` and `end`.
-pub fn read_range(offsets: &Offsets<'_>, members: &Members<'_>) -> Result<SourceRange, ReadError>
+pub fn read_range(
+    offsets: &Offsets<'_>,
+    members: &NodeMembers<'_>,
+) -> Result<SourceRange, ReadError>
     ensures { IsReadResult (value_of members.now)
         (spec.reads_range (byte_in offsets.now) (readable members.now)) result }
 {
@@ -120,7 +123,7 @@ pub fn read_range(offsets: &Offsets<'_>, members: &Members<'_>) -> Result<Source
 /// Like `read_range`, for members that `find` found.
 pub fn read_found_range(
     offsets: &Offsets<'_>,
-    members: &Members<'_>,
+    members: &NodeMembers<'_>,
     range: Option<Element<'_>>,
     start: Option<Element<'_>>,
     end: Option<Element<'_>>,
@@ -144,7 +147,7 @@ pub fn read_found_range(
 #[tactic(auto, using(deno_graph_json::proofs::Reading::reading), unfolding(crate::specs::Member::reads_start_and_end))]
 fn read_start_and_end(
     offsets: &Offsets<'_>,
-    members: &Members<'_>,
+    members: &NodeMembers<'_>,
     start: Option<Element<'_>>,
     end: Option<Element<'_>>,
 ) -> Result<SourceRange, ReadError>

@@ -14,7 +14,7 @@ use crate::member::{read_found_range, type_of};
 use crate::reading::Reading;
 use crate::required::ReadWith;
 use crate::role::Role;
-use crate::source::{Members, Source};
+use crate::source::{NodeMembers, Source};
 use deno_graph_json::read::read_object;
 use deno_graph_json::{Element, Elements, ReadError, View};
 use deno_graph_source::tree::Node;
@@ -33,7 +33,7 @@ fn read_node(
         (reads_node (source_of source.now) role (data_of value.entry)) result }
 {
     let members = read_object(alloc, value)?;
-    let object = Members::of_members(alloc, members);
+    let object = NodeMembers::of_members(alloc, members);
     let mut found = [None; 4];
     object.find(&["type", "range", "start", "end"], &mut found);
     let [type_name, range, start, end] = found;
@@ -59,7 +59,7 @@ fn read_children(
     alloc: Global,
     source: &Source<'_>,
     is_jsx: bool,
-    members: deno_graph_json::Members<'_>,
+    members: deno_graph_json::NodeMembers<'_>,
 ) -> Result<Items<Child>, ReadError>
     ensures { IsReadResult (object (members_data members.entry))
         (children_in (source_of source.now) is_jsx (members_data members.entry)) result }
@@ -80,7 +80,7 @@ fn read_candidates(
     alloc: Global,
     source: &Source<'_>,
     is_jsx: bool,
-    members: deno_graph_json::Members<'_>,
+    members: deno_graph_json::NodeMembers<'_>,
     found: &[Candidate<'_, '_>],
 ) -> Result<Items<Child>, ReadError>
     requires { AreCandidates (members_data members) found.now }

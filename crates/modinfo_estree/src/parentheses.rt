@@ -8,13 +8,16 @@ ghost use Rattle.modinfo_estree.specs.Source.{source_of};
 use crate::source::Source;
 use deno_graph_source::text::SourceRange;
 
+/// The most pairs of parentheses around a callee or an argument that are read.
+const PAIR_LIMIT: usize = 256;
+
 /// Returns the range of the callee or of an argument of a call with the parentheses around it, which are
-/// within `bounds`.
+/// within `bounds`: at most the innermost `PAIR_LIMIT` pairs.
 pub fn extent_in(source: &Source<'_>, bounds: SourceRange, range: SourceRange) -> SourceRange
     ensures { result ≡ extent_in_call (source_of source.now) bounds range }
 {
     let mut extent = range;
-    let mut left = source.text.len();
+    let mut left = PAIR_LIMIT;
     while left > 0 {
         match pair_around(source, bounds, extent) {
             Some(outer) => extent = outer,

@@ -6,7 +6,7 @@ ghost use Rattle.modinfo_document.specs.Kind.{phases, reads_named};
 ghost use Rattle.modinfo_estree.specs.Kind.{reads_phase};
 
 use crate::member::is_present;
-use crate::source::{Estree, Members};
+use crate::source::{Estree, NodeMembers};
 use deno_graph_json::{Element, FromJson, ReadError};
 use deno_graph_source::tree::ImportPhase;
 use modinfo_document::Document;
@@ -14,7 +14,7 @@ use std::alloc::Global;
 
 /// Reads the phase of an import, `Evaluation` if there is none or null.
 #[tactic(auto, unfolding(crate::specs::Kind::reads_phase))]
-pub fn read_phase(members: &Members<'_>) -> Result<ImportPhase, ReadError>
+pub fn read_phase(members: &NodeMembers<'_>) -> Result<ImportPhase, ReadError>
     ensures { IsReadResult (value_of members.now) (reads_phase (readable members.now)) result }
 {
     if is_present(members, "phase") {

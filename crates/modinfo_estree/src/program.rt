@@ -15,7 +15,7 @@ ghost use Rattle.modinfo_estree.specs.Source.{source_of};
 ghost use Rattle.modinfo_estree.specs.declared.role.Role.TheVariants.{Other};
 
 use crate::required::{in_member, read_at, required};
-use crate::source::{Estree, Members, Source};
+use crate::source::{Estree, NodeMembers, Source};
 use deno_graph_json::read::read_str;
 use deno_graph_json::{Element, Expected, FromJson, ReadError};
 use deno_graph_source::tree::Node;
@@ -91,7 +91,7 @@ fn program_named(alloc: Global, name: &str) -> Result<ProgramType, ReadError>
 pub fn read_file_at(
     alloc: Global,
     source: &Source<'_>,
-    members: &Members<'_>,
+    members: &NodeMembers<'_>,
 ) -> Result<Items<Node>, ReadError>
     ensures { IsReadResult (value_of members.now)
         (member_at (reads_file (source_of source.now)) (codes "program") (readable members.now)) result }
@@ -110,7 +110,7 @@ fn read_file(
     ensures { IsReadResult (data_of value.entry)
         (reads_file (source_of source.now) (data_of value.entry)) result }
 {
-    let members = Members::new(alloc, value)?;
+    let members = NodeMembers::new(alloc, value)?;
     match members.read("type")? {
         Outermost::Program => read_body(alloc, source, &members),
         Outermost::File => read_program_at(alloc, source, &members),
@@ -121,7 +121,7 @@ fn read_file(
 fn read_program_at(
     alloc: Global,
     source: &Source<'_>,
-    members: &Members<'_>,
+    members: &NodeMembers<'_>,
 ) -> Result<Items<Node>, ReadError>
     ensures { IsReadResult (value_of members.now)
         (member_at (reads_program (source_of source.now)) (codes "program") (readable members.now)) result }
@@ -145,7 +145,7 @@ fn read_program(
     ensures { IsReadResult (data_of value.entry)
         (reads_program (source_of source.now) (data_of value.entry)) result }
 {
-    let members = Members::new(alloc, value)?;
+    let members = NodeMembers::new(alloc, value)?;
     let _type: ProgramType = members.read("type")?;
     read_body(alloc, source, &members)
 }
@@ -155,7 +155,7 @@ fn read_program(
 fn read_body(
     alloc: Global,
     source: &Source<'_>,
-    members: &Members<'_>,
+    members: &NodeMembers<'_>,
 ) -> Result<Items<Node>, ReadError>
     ensures { IsReadResult (value_of members.now)
         (reads_body (source_of source.now) (readable members.now)) result }
@@ -172,7 +172,7 @@ fn read_body(
 fn read_directives(
     alloc: Global,
     source: &Source<'_>,
-    members: &Members<'_>,
+    members: &NodeMembers<'_>,
 ) -> Result<Items<Node>, ReadError>
     ensures { IsReadResult (value_of members.now)
         (member_or (reads_array (reads_node (source_of source.now) Other)) (codes "directives") []

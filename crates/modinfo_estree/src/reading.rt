@@ -6,7 +6,7 @@ ghost use Rattle.modinfo_estree.specs.Kind.{made};
 
 use crate::child::{Child, nodes_of};
 use crate::role::Role;
-use crate::source::{Members, Source};
+use crate::source::{NodeMembers, Source};
 use deno_graph_source::text::SourceRange;
 use deno_graph_source::tree::{Kind, Node};
 use deno_graph_source::values::Items;
@@ -18,7 +18,7 @@ pub struct Reading<'a, 't, 'v> {
     pub alloc: Global,
     pub source: &'a Source<'t>,
     pub role: Role,
-    pub members: Members<'v>,
+    pub members: NodeMembers<'v>,
     pub range: SourceRange,
 }
 

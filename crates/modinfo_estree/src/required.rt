@@ -8,7 +8,7 @@ ghost use Rattle.deno_graph_json.specs.ObjectReader.{readable, value_of};
 ghost use Rattle.deno_graph_json.specs.Read.Partial.{member_at, reads_array, reads_items};
 ghost use Rattle.deno_graph_json.specs.Read.Result.{IsReadResult, IsReadResultSeen};
 
-use crate::source::Members;
+use crate::source::NodeMembers;
 use deno_graph_json::read::read_array;
 use deno_graph_json::{Element, Elements, Expected, ReadError};
 use deno_graph_source::values::Items;
@@ -66,7 +66,7 @@ fn read_each<Context, T: ReadWith<Context> + Drop>(
 pub fn read_at<Context, T: ReadWith<Context>>(
     alloc: Global,
     context: &Context,
-    members: &Members<'_>,
+    members: &NodeMembers<'_>,
     name: &'static str,
 ) -> Result<T, ReadError>
     ensures { IsReadResult (value_of members.now)
@@ -79,7 +79,7 @@ pub fn read_at<Context, T: ReadWith<Context>>(
 /// Finds the value of a required member. Allocates nothing.
 pub fn required<'v>(
     alloc: Global,
-    members: &Members<'v>,
+    members: &NodeMembers<'v>,
     name: &'static str,
 ) -> Result<Element<'v>, ReadError>
     ensures { IsReadResultSeen data_of (value_of members.now)
@@ -95,7 +95,7 @@ pub fn required<'v>(
 /// becomes an error in the member.
 pub fn in_member<T>(
     alloc: Global,
-    members: &Members<'_>,
+    members: &NodeMembers<'_>,
     name: &str,
     read: Result<T, ReadError>,
 ) -> Result<T, ReadError>

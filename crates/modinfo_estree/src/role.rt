@@ -50,16 +50,11 @@ impl Role {
         }
     }
 
-    /// Returns whether a rule may read a string literal of this role.
+    /// Returns whether a rule may read a string literal of this role: each but `Other`.
     pub fn is_read(self) -> bool
         ensures { result ≡ is_read self }
     {
-        match self {
-            Role::Arguments | Role::Expressions | Role::Id | Role::Key | Role::Left => true,
-            Role::Options | Role::Right | Role::Source | Role::Value => true,
-            Role::Attributes | Role::Callee | Role::Decorators => false,
-            Role::Properties | Role::Other => false,
-        }
+        !matches!(self, Role::Other)
     }
 
     /// Returns whether nodes of this role belong to a group.

@@ -7,7 +7,7 @@ use deno_graph_json::ObjectReader;
 pub struct Estree;
 
 /// The members of a node.
-pub type Members<'v> = ObjectReader<'v, Estree>;
+pub type NodeMembers<'v> = ObjectReader<'v, Estree>;
 
 /// A text, and where its tokens are.
 #[derive(Drop)]

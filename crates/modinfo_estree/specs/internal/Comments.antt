@@ -16,9 +16,9 @@ IsFiled place comment old new = AreAppended old.leading new.leading (entry_on Le
     × AreAppended old.trailing new.trailing (entry_on Trailing place comment)
 
 -- The comments at these ranges were filed, after the earlier ones.
-abbrev pub AreFiled : List ℕ → Layout → List Bool → Bool → List SourceRange → FiledComments → FiledComments
+abbrev pub AreAllFiled : List ℕ → Layout → List Bool → Bool → List SourceRange → FiledComments → FiledComments
     → Type 0
-AreFiled text layout ends is_empty ranges old new =
+AreAllFiled text layout ends is_empty ranges old new =
     AreAppended old.leading new.leading
     (entries_on Leading text layout ends is_empty (filter_map (comment_at_range text) ranges))
     × AreAppended old.trailing new.trailing

@@ -1,11 +1,10 @@
 -- Comments and program of a document.
-use Rattle.std.specs.Prelude.{◌≡◌, List, codes, Option, Some}
+use Rattle.std.specs.Prelude.{List, codes, Option, Some}
 use Rattle.serde_json.specs.Data.{Members}
 use Rattle.deno_graph_base.specs.declared.text.position.SourceRange.{SourceRange}
 use Rattle.deno_graph_json.specs.Read.Partial.{◌>>=◌, member_at}
-use Rattle.deno_graph_source.specs.Comments.{FiledComments}
 use Rattle.deno_graph_source.specs.declared.tree.node.Program.{Program}
-use Rattle.modinfo_document.specs.Comments.{AreThoseOf, Sides}
+use Rattle.modinfo_document.specs.Comments.{Sides}
 use Rattle.modinfo_estree.specs.Document.{reads_file, tree_of}
 use Rattle.modinfo_estree.specs.Source.{source_of}
 use Rattle.modinfo_estree.specs.declared.source.Source.{Source}
@@ -15,7 +14,3 @@ unfoldable pub reads_tree_in : Source → List SourceRange → Members → Optio
 reads_tree_in source ranges members = do
   body ← member_at (reads_file (source_of source)) (codes "program") members
   Some (tree_of source.text.now source.tokens ranges body)
-
--- The comments are those of these entries, and the program is this one.
-abbrev pub HasTree : Sides × Program → FiledComments × Program → Type 0
-HasTree contents tree = AreThoseOf contents.0 tree.0 × (tree.1 ≡ contents.1)

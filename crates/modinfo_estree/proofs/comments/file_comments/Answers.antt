@@ -2,7 +2,7 @@ use Rattle.std.proofs.Common.{subst, sym}
 use Rattle.std.proofs.lemmas.List.{take_all}
 use Rattle.deno_graph_base.specs.declared.text.position.SourceRange.{SourceRange}
 use Rattle.deno_graph_source.specs.Comments.{FiledComments}
-use Rattle.modinfo_estree.specs.internal.Comments.{AreFiled, IsFiled}
+use Rattle.modinfo_estree.specs.internal.Comments.{AreAllFiled, IsFiled}
 use Rattle.modinfo_estree.proofs.Filings.{Files, all_filed, filed_more, none_filed}
 use Rattle.modinfo_estree.proofs.comments.file_comments.Goals as goal
 use Rattle.modinfo_estree.proofs.comments.file_comments.Goals.{in-Some+in_ok-file, in_default}
@@ -50,6 +50,6 @@ returns c =
     let is_empty = c.args.is_empty in
     all_filed text tokens ends is_empty c.args.ranges.now c.new-comments.result
     c.loop-range.comments c.new-comments.ensures.leading c.new-comments.ensures.trailing
-    (subst (λ ranges. AreFiled text tokens ends is_empty ranges c.new-comments.result c.loop-range.comments)
+    (subst (λ ranges. AreAllFiled text tokens ends is_empty ranges c.new-comments.result c.loop-range.comments)
     (take_all c.loop-range.range-index c.args.ranges.now c.loop-range-test.false)
     c.loop-range.invariant)

@@ -13,7 +13,7 @@ use Rattle.modinfo_document.proofs.Results.{exits_by, result_by_on, some_and, so
 use Rattle.modinfo_estree.specs.Document.{reads_estree, reads_tree, units}
 use Rattle.modinfo_estree.specs.Offsets.{Counted}
 use Rattle.modinfo_estree.specs.declared.offsets.OffsetUnit.TheVariants.{Utf16}
-use Rattle.modinfo_estree.specs.internal.Document.{HasTree}
+use Rattle.modinfo_document.specs.Comments.{HasTree}
 use Rattle.modinfo_estree.proofs.Estrees.{contents_in, contents_with, estree_read}
 use Rattle.modinfo_estree.proofs.document.read_estree.Goals as goal
 

@@ -12,7 +12,8 @@ use Rattle.modinfo_estree.specs.Document.{reads_comments, reads_file, reads_tree
 use Rattle.modinfo_estree.specs.Offsets.{Counted}
 use Rattle.modinfo_estree.specs.Tokens.{Layout, layout}
 use Rattle.modinfo_estree.specs.declared.source.Source.{Source}
-use Rattle.modinfo_estree.specs.internal.Document.{HasTree, reads_tree_in}
+use Rattle.modinfo_document.specs.Comments.{HasTree}
+use Rattle.modinfo_estree.specs.internal.Document.{reads_tree_in}
 use Rattle.modinfo_estree.proofs.document.read_tree.Goals as goal
 
 -- The tree of a text is that of its source, once the comments are known.
