@@ -21,6 +21,7 @@ use Rattle.serde_json.specs.Find.{as_object, as_str}
 use Rattle.deno_graph_json.specs.Read.Partial.{◌>>=◌, as_usize, member_at, member_or, reads_array}
 use Rattle.deno_graph_source.specs.ByOffset.{all_items, value_at}
 use Rattle.deno_graph_source.specs.Comments.{Ascends, Filing, FiledComments}
+use Rattle.deno_graph_source.specs.declared.tree.node.Program.{Program}
 use Rattle.deno_graph_source.specs.declared.tree.comments.CommentSide.{CommentSide}
 use Rattle.deno_graph_source.specs.declared.tree.comments.CommentSide.TheVariants.{Leading, Trailing}
 use Rattle.deno_graph_source.specs.declared.tree.comments.CommentKind.{CommentKind}

@@ -59,7 +59,7 @@ fn read_children(
     alloc: Global,
     source: &Source<'_>,
     is_jsx: bool,
-    members: deno_graph_json::NodeMembers<'_>,
+    members: deno_graph_json::Members<'_>,
 ) -> Result<Items<Child>, ReadError>
     ensures { IsReadResult (object (members_data members.entry))
         (children_in (source_of source.now) is_jsx (members_data members.entry)) result }
@@ -80,7 +80,7 @@ fn read_candidates(
     alloc: Global,
     source: &Source<'_>,
     is_jsx: bool,
-    members: deno_graph_json::NodeMembers<'_>,
+    members: deno_graph_json::Members<'_>,
     found: &[Candidate<'_, '_>],
 ) -> Result<Items<Child>, ReadError>
     requires { AreCandidates (members_data members) found.now }
