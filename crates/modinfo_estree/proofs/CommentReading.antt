@@ -20,7 +20,6 @@ use Rattle.std.proofs.Common.{
   take,
   drop,
   get_or,
-  Some,
   refl,
   ap,
   ◌∙◌,
@@ -89,20 +88,20 @@ inside_block text unclosed =
 spelled_read : (source : List ℕ) (kind : CommentKind) (range : SourceRange) (text : List ℕ)
     → (is_line kind ≡ true → is_whole_line source range ≡ true)
     → (is_line kind ≡ false → has_close text ≡ false)
-    → comment_of source range (spelling kind text) ≡ Some (comment_with kind range text)
+    → comment_of source range (spelling kind text) ≡ comment_with kind range text
 unfolding comment_of
 spelled_read source Line range text line block =
-    ap (λ is. Some (if is then comment_with Line range text else comment_with Block range [])) (line refl)
+    ap (λ is. if is then comment_with Line range text else comment_with Block range []) (line refl)
 spelled_read source Block range text line block =
-    ap (λ inside. Some (comment_with Block range inside)) (inside_block text (block refl))
+    ap (λ inside. comment_with Block range inside) (inside_block text (block refl))
 
 pub comment_read : (text : List ℕ) (comment : DependencyComment) → IsSpelled text comment
-    → IsWhole text comment → comment_at_range text comment.range ≡ Some comment
+    → IsWhole text comment → comment_at_range text comment.range ≡ comment
 unfolding comment_at_range
 comment_read text comment spelled whole =
     let range = comment.range in
     let bytes = slice_of text range in
-    ap (λ t. if t then comment_of text range bytes else Some (comment_with Line range []))
+    ap (λ t. if t then comment_of text range bytes else comment_with Line range [])
     (range_test text range spelled.range)
     ∙ ap (comment_of text range) spelled.slice
     ∙ spelled_read text comment.kind range comment.text whole.0 whole.1

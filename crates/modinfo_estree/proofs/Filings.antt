@@ -11,11 +11,9 @@ use Rattle.std.proofs.Common.{
   ◌++◌,
   if◌then◌else◌,
   length,
+  map,
   take,
   get_or,
-  Option,
-  Some,
-  None,
   Result,
   Ok,
   Err,
@@ -27,9 +25,8 @@ use Rattle.std.proofs.Common.{
   ◌∙◌,
 }
 use Rattle.std.proofs.lemmas.Grind.{flat_map-append}
-use Rattle.std.proofs.lemmas.List.{append-nil, take_more}
-use Rattle.std.proofs.lemmas.List.Elements.{filter_map-append}
-use Rattle.std.specs.List.{cons_option, filter_map, flat_map}
+use Rattle.std.proofs.lemmas.List.{append-nil, map-append, take_more}
+use Rattle.std.specs.List.{flat_map}
 use Rattle.deno_graph_base.specs.declared.text.position.SourceRange.{SourceRange}
 use Rattle.deno_graph_source.specs.ByOffset.{AddsItem}
 use Rattle.deno_graph_source.specs.Comments.{Ascends, Filing, FiledComments}
@@ -98,20 +95,19 @@ appended_both old mid new es fs first then_ =
     (both_on Leading (alone old) (alone mid) (alone new) es fs (first, refl) (then_, refl)).0
 
 module _ (text : List ℕ) (layout : Layout) (ends : List Bool) (is_empty : Bool) where
-  -- The comment that was found at a range, if there is one, was filed.
-  abbrev pub Files : Option DependencyComment → FiledComments → FiledComments → Type 0
-  Files None old new = new ≡ old
-  Files (Some comment) old new = IsFiled (place_of text layout ends is_empty comment) comment old new
+  -- A comment was filed.
+  abbrev pub Files : DependencyComment → FiledComments → FiledComments → Type 0
+  Files comment old new = IsFiled (place_of text layout ends is_empty comment) comment old new
 
   -- The comments at one more range.
-  found_more : (ranges : List SourceRange) (i : ℕ) (d : SourceRange) (found : Option DependencyComment)
+  found_more : (ranges : List SourceRange) (i : ℕ) (d : SourceRange) (found : DependencyComment)
       → i < length ranges → found ≡ comment_at_range text (get_or ranges i d)
-      → filter_map (comment_at_range text) (take (i + 1) ranges)
-      ≡ filter_map (comment_at_range text) (take i ranges) ++ cons_option found []
+      → map (comment_at_range text) (take (i + 1) ranges)
+      ≡ map (comment_at_range text) (take i ranges) ++ found ∷ []
   found_more ranges i d found within is =
-      ap (filter_map (comment_at_range text)) (take_more ranges i d within)
-      ∙ filter_map-append (comment_at_range text) (take i ranges) (get_or ranges i d ∷ [])
-      ∙ ap (λ o. filter_map (comment_at_range text) (take i ranges) ++ cons_option o []) (sym is)
+      ap (map (comment_at_range text)) (take_more ranges i d within)
+      ∙ map-append (comment_at_range text) (take i ranges) (get_or ranges i d ∷ [])
+      ∙ ap (λ comment. map (comment_at_range text) (take i ranges) ++ comment ∷ []) (sym is)
 
   abbrev entries : CommentSide → List DependencyComment → List FiledEntry
   entries side comments = entries_on side text layout ends is_empty comments
@@ -126,14 +122,10 @@ module _ (text : List ℕ) (layout : Layout) (ends : List Bool) (is_empty : Bool
       (appended_both start old new (flat_map entry before) (flat_map entry comments) so_far one)
 
   -- The entries of the comment that was found.
-  found_on : (found : Option DependencyComment) (old new : FiledComments) → Files found old new
-      → AreAppended old.leading new.leading (entries Leading (cons_option found []))
-      × AreAppended old.trailing new.trailing (entries Trailing (cons_option found []))
-  found_on None old new filed = (
-    nothing old.leading new.leading (ap (λ f. f.leading) filed),
-    nothing old.trailing new.trailing (ap (λ f. f.trailing) filed),
-  )
-  found_on (Some comment) old new filed =
+  found_on : (found : DependencyComment) (old new : FiledComments) → Files found old new
+      → AreAppended old.leading new.leading (entries Leading (found ∷ []))
+      × AreAppended old.trailing new.trailing (entries Trailing (found ∷ []))
+  found_on comment old new filed =
       let place = place_of text layout ends is_empty comment in (
         subst (AreAppended old.leading new.leading) (sym (append-nil (entry_on Leading place comment)))
             filed.0,
@@ -141,13 +133,13 @@ module _ (text : List ℕ) (layout : Layout) (ends : List Bool) (is_empty : Bool
             filed.1,
       )
 
-  pub filed_more : (ranges : List SourceRange) (i : ℕ) (d : SourceRange) (found : Option DependencyComment)
+  pub filed_more : (ranges : List SourceRange) (i : ℕ) (d : SourceRange) (found : DependencyComment)
       (start old new : FiledComments) → i < length ranges → found ≡ comment_at_range text (get_or ranges i d)
       → AreAllFiled text layout ends is_empty (take i ranges) start old → Files found old new
       → AreAllFiled text layout ends is_empty (take (i + 1) ranges) start new
   filed_more ranges i d found start old new within is so_far filed =
-      let before = filter_map (comment_at_range text) (take i ranges) in
-      let found_here = cons_option found [] in
+      let before = map (comment_at_range text) (take i ranges) in
+      let found_here = found ∷ [] in
       let more = sym (found_more ranges i d found within is) in
       let one = found_on found old new filed in (
         subst (λ all. AreAppended start.leading new.leading (entries Leading all)) more
@@ -169,6 +161,6 @@ module _ (text : List ℕ) (layout : Layout) (ends : List Bool) (is_empty : Bool
   unfolding sides_of
   all_filed ranges start new no_leading no_trailing filed =
       let mid : FiledComments = record { leading = new.leading; trailing = start.trailing } in
-      let comments = filter_map (comment_at_range text) ranges in
+      let comments = map (comment_at_range text) ranges in
       both_sides start mid new (entries Leading comments) (entries Trailing comments) no_leading no_trailing
       (filed.0, refl) (filed.1, refl)

@@ -15,6 +15,8 @@ use Rattle.std.specs.Prelude.{
   codes,
   drop,
   filter,
+  map,
+  nat_le,
   length,
   nat_eq,
   nat_lt,
@@ -22,12 +24,9 @@ use Rattle.std.specs.Prelude.{
   slice_index_or,
   take,
   if◌then◌else◌,
-  Option,
-  Some,
-  None,
 }
 use Rattle.std.specs.Str.{chars}
-use Rattle.std.specs.List.{ends_with, filter_map, flat_map, starts_with}
+use Rattle.std.specs.List.{ends_with, flat_map, starts_with}
 use Rattle.deno_graph_base.specs.SourceRange.{slice_of}
 use Rattle.deno_graph_base.specs.declared.text.position.SourceRange.{SourceRange}
 use Rattle.deno_graph_source.specs.declared.tree.comments.CommentKind.{CommentKind}
@@ -66,9 +65,9 @@ abbrev pub block_text : List ℕ → List ℕ
 block_text rest = let inside = take (length rest - 2) rest in
     if ends_with nat_eq rest (codes "*/") && not (has_close inside) then inside else []
 
--- The bytes begin as a `#!` line or a comment as in HTML does, which are no comments.
-abbrev pub is_no_comment : List ℕ → Bool
-is_no_comment bytes = starts_with nat_eq bytes (codes "#!")
+-- The bytes begin as a `#!` line or a comment as in HTML does.
+abbrev pub begins_other : List ℕ → Bool
+begins_other bytes = starts_with nat_eq bytes (codes "#!")
     || (starts_with nat_eq bytes (codes "<!--") || starts_with nat_eq bytes (codes "-->"))
 
 -- Some characters are at the end of a line: none is left, or the first is a line terminator.
@@ -89,28 +88,32 @@ abbrev pub line_comment : List ℕ → SourceRange → List ℕ → DependencyCo
 line_comment text range rest =
     if is_whole_line text range then comment_with Line range rest else comment_with Block range []
 
--- The comment with these bytes, none if they begin as what is no comment. Other bytes are read as an empty line
--- comment, and the check of the source reports the comment.
-unfoldable pub comment_of : List ℕ → SourceRange → List ℕ → Option DependencyComment
+-- The comment with these bytes. Bytes that aren't a comment's are read as an empty line comment, and the check
+-- of the source reports the comment.
+unfoldable pub comment_of : List ℕ → SourceRange → List ℕ → DependencyComment
 comment_of text range bytes =
-    if starts_with nat_eq bytes (codes "//") then Some (line_comment text range (drop 2 bytes)) else
-    (if starts_with nat_eq bytes (codes "/*") then Some (comment_with Block range (block_text (drop 2 bytes)))
-    else (if is_no_comment bytes then None else Some (comment_with Line range [])))
+    if starts_with nat_eq bytes (codes "//") then line_comment text range (drop 2 bytes) else
+    (if starts_with nat_eq bytes (codes "/*") then comment_with Block range (block_text (drop 2 bytes)) else
+    comment_with Line range [])
 
 -- The comment of a text at a range. For a range that is none of the text it is an empty line comment, and
 -- the check of the source reports the range.
-unfoldable pub comment_at_range : List ℕ → SourceRange → Option DependencyComment
+unfoldable pub comment_at_range : List ℕ → SourceRange → DependencyComment
 comment_at_range text range =
     if is_text_range text range then comment_of text range (slice_of text range) else
-    Some (comment_with Line range [])
+    comment_with Line range []
 
 -- The start of a range.
 abbrev pub range_start : SourceRange → ℕ
 range_start range = range.start
 
--- Whether the text has no `#!` line and no comment as in HTML at a range.
-unfoldable pub is_comment : List ℕ → SourceRange → Bool
-is_comment text range = not (is_text_range text range && is_no_comment (slice_of text range))
+-- A `#!` line or a comment as in HTML begins at a range of the text.
+unfoldable pub is_other : List ℕ → SourceRange → Bool
+is_other text range = is_text_range text range && begins_other (slice_of text range)
+
+-- The range isn't that of a `#!` line or of a comment as in HTML.
+abbrev pub is_comment : List ℕ → SourceRange → Bool
+is_comment text range = not (is_other text range)
 
 -- Ranges in the order of the text after the range `last`: equal ones once, up to the first that begins before
 -- the one before it ends.
@@ -123,10 +126,27 @@ abbrev pub apart : List SourceRange → List SourceRange
 apart [] = []
 apart (first ∷ others) = first ∷ apart_after first others
 
+-- Ranges in the order of the text, equal ones once, up to the first two that share a byte.
+abbrev pub in_order : List SourceRange → List SourceRange
+in_order ranges = apart (sorted_by_start range_start ranges)
+
+-- The text has a range, without a line terminator.
+abbrev pub is_in_line : List ℕ → SourceRange → Bool
+is_in_line text range = is_text_range text range && not (has_line_break (slice_of text range))
+
+-- Each range is in a line, and begins where the one before it ends, or after it; the first at `from` or after.
+abbrev pub are_in_lines : List ℕ → ℕ → List SourceRange → Bool
+are_in_lines text from [] = true
+are_in_lines text from (range ∷ ranges) =
+    nat_le from range.start && (is_in_line text range && are_in_lines text range.end ranges)
+
 -- The ranges of the comments of a text, by those that a document has: in the order of the text, equal ones
--- once. After two that share a byte there are no others: the check of the source reports the two.
+-- once. After two that share a byte there are no others: the check of the source reports the two. `#!` lines and
+-- comments as in HTML are passed over, if each is in a line and no two share a byte; otherwise their ranges are
+-- taken for those of comments, and the check of the source reports them.
 unfoldable pub comment_ranges : List ℕ → List SourceRange → List SourceRange
-comment_ranges text ranges = apart (sorted_by_start range_start (filter (is_comment text) ranges))
+comment_ranges text ranges = let others = in_order (filter (is_other text) ranges) in
+    if are_in_lines text 0 others then in_order (filter (is_comment text) ranges) else others
 
 -- A line comment.
 abbrev pub is_line : CommentKind → Bool
@@ -222,7 +242,7 @@ entries_on side text layout ends is_empty comments =
 -- The entries of both sides for the comments at these ranges, in the order of the ranges.
 unfoldable pub sides_of : List ℕ → Layout → List Bool → Bool → List SourceRange → Sides
 sides_of text layout ends is_empty ranges =
-    let comments = filter_map (comment_at_range text) ranges in
+    let comments = map (comment_at_range text) ranges in
     record {
       leading = entries_on Leading text layout ends is_empty comments;
       trailing = entries_on Trailing text layout ends is_empty comments;

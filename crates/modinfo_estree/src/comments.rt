@@ -13,7 +13,6 @@ ghost use Rattle.modinfo_estree.specs.Comments.{line_trails, place_of, sides_of,
 ghost use Rattle.modinfo_estree.specs.Range.{is_text_range, rest_range};
 ghost use Rattle.modinfo_estree.specs.internal.Comments.{IsFiled};
 
-use crate::comment_order::is_no_comment;
 use crate::last_token::{is_closing, is_name, is_operator, last_byte};
 use crate::marks::{has_line_break, is_line_break, is_space};
 use crate::slice::slice_at;
@@ -24,10 +23,9 @@ use deno_graph_base::values::Text;
 use deno_graph_source::tree::{CommentKind, CommentSide, Comments, DependencyComment};
 use std::alloc::{AllocError, Global};
 
-/// Files the comments at some ranges of a text, in the order of the ranges. Passes over a range where the
-/// text has a `#!` line or a comment as in HTML. For a range that the text doesn't have, or where it has no
-/// comment, files an empty comment, so that a check of the source reports the range. `is_empty` says that the
-/// text has no token. Fails only if an allocation fails.
+/// Files the comments at some ranges of a text, in the order of the ranges. For a range that the text doesn't
+/// have, or where it has no comment, files an empty comment, so that a check of the source reports the range.
+/// `is_empty` says that the text has no token. Fails only if an allocation fails.
 pub fn file_comments(
     alloc: Global,
     text: &str,
@@ -41,10 +39,9 @@ pub fn file_comments(
 {
     let mut comments = Comments::new(alloc);
     for range in ranges {
-        if let Some(comment) = comment_at_range(alloc, text, *range)? {
-            let place = place_of(text, tokens, ends, is_empty, &comment);
-            file(&mut comments, place, comment)?;
-        }
+        let comment = comment_at_range(alloc, text, *range)?;
+        let place = place_of(text, tokens, ends, is_empty, &comment);
+        file(&mut comments, place, comment)?;
     }
     Ok(comments)
 }
@@ -183,14 +180,13 @@ fn begins_with_semicolon(text: &str) -> bool
     false
 }
 
-/// Returns the comment of a text at a range, or `None` if the text has a `#!` line or a comment as in HTML
-/// there. Returns an empty line comment if the text doesn't have the range.
+/// Returns the comment of a text at a range, an empty line comment if the text doesn't have the range.
 #[tactic(auto, unfolding(crate::specs::Comments::comment_at_range))]
 fn comment_at_range(
     alloc: Global,
     text: &str,
     range: SourceRange,
-) -> Result<Option<DependencyComment>, AllocError>
+) -> Result<DependencyComment, AllocError>
     ensures { IfOk result (λ comment. comment ≡ comment_at_range text.now range) }
 {
     match slice_at(text, range) {
@@ -199,16 +195,15 @@ fn comment_at_range(
     }
 }
 
-/// Returns the comment with these bytes of a text, or `None` if they begin as a `#!` line or a comment as in
-/// HTML does.
-/// Other bytes are read as an empty comment, so that a check of the source reports the comment.
+/// Returns the comment with these bytes of a text. Bytes that aren't a comment's are read as an empty one, so
+/// that a check of the source reports the comment.
 #[tactic(auto, unfolding(crate::specs::Comments::comment_of))]
 fn comment_of(
     alloc: Global,
     text: &str,
     range: SourceRange,
     bytes: &str,
-) -> Result<Option<DependencyComment>, AllocError>
+) -> Result<DependencyComment, AllocError>
     requires { bytes.now ≡ slice_of text.now range }
     ensures { IfOk result (λ comment. comment ≡ comment_of text.now range bytes.now) }
 {
@@ -219,7 +214,6 @@ fn comment_of(
         Some(_) => comment_with(alloc, CommentKind::Block, range, ""),
         None => match after(bytes, "/*") {
             Some(rest) => comment_with(alloc, CommentKind::Block, range, block_text(rest)),
-            None if is_no_comment(bytes) => Ok(None),
             None => comment_with(alloc, CommentKind::Line, range, ""),
         },
     }
@@ -260,11 +254,11 @@ fn comment_with(
     kind: CommentKind,
     range: SourceRange,
     inside: &str,
-) -> Result<Option<DependencyComment>, AllocError>
-    ensures { IfOk result (λ comment. comment ≡ Some (comment_with kind range inside.now)) }
+) -> Result<DependencyComment, AllocError>
+    ensures { IfOk result (λ comment. comment ≡ comment_with kind range inside.now) }
 {
     let text = Text::from_str(alloc, inside)?;
-    Ok(Some(DependencyComment { kind, range, text }))
+    Ok(DependencyComment { kind, range, text })
 }
 
 /// Returns the text of a block comment by what follows its `/*`, empty if no `*/` follows or more follows its

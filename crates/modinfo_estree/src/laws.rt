@@ -33,5 +33,5 @@ pub fn each_byte_is_marked()
 /// goes as far as the comment does.
 pub fn each_comment_is_read()
     ensures { (text : List ℕ) → (comment : DependencyComment) → IsSpelled text comment
-        → IsWhole text comment → comment_at_range text comment.range ≡ Some comment }
+        → IsWhole text comment → comment_at_range text comment.range ≡ comment }
 {}

@@ -1,6 +1,5 @@
 -- How the comments at some ranges are filed, one after another.
-use Rattle.std.specs.Prelude.{List, Bool, ℕ}
-use Rattle.std.specs.List.{filter_map}
+use Rattle.std.specs.Prelude.{List, Bool, map, ℕ}
 use Rattle.deno_graph_base.specs.declared.text.position.SourceRange.{SourceRange}
 use Rattle.deno_graph_source.specs.Comments.{FiledComments}
 use Rattle.deno_graph_source.specs.declared.tree.comments.CommentSide.TheVariants.{Leading, Trailing}
@@ -20,6 +19,6 @@ abbrev pub AreAllFiled : List ℕ → Layout → List Bool → Bool → List Sou
     → Type 0
 AreAllFiled text layout ends is_empty ranges old new =
     AreAppended old.leading new.leading
-    (entries_on Leading text layout ends is_empty (filter_map (comment_at_range text) ranges))
+    (entries_on Leading text layout ends is_empty (map (comment_at_range text) ranges))
     × AreAppended old.trailing new.trailing
-    (entries_on Trailing text layout ends is_empty (filter_map (comment_at_range text) ranges))
+    (entries_on Trailing text layout ends is_empty (map (comment_at_range text) ranges))

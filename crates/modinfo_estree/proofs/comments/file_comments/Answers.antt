@@ -1,11 +1,9 @@
 use Rattle.std.proofs.Common.{subst, sym}
 use Rattle.std.proofs.lemmas.List.{take_all}
 use Rattle.deno_graph_base.specs.declared.text.position.SourceRange.{SourceRange}
-use Rattle.deno_graph_source.specs.Comments.{FiledComments}
 use Rattle.modinfo_estree.specs.internal.Comments.{AreAllFiled, IsFiled}
-use Rattle.modinfo_estree.proofs.Filings.{Files, all_filed, filed_more, none_filed}
+use Rattle.modinfo_estree.proofs.Filings.{all_filed, filed_more, none_filed}
 use Rattle.modinfo_estree.proofs.comments.file_comments.Goals as goal
-use Rattle.modinfo_estree.proofs.comments.file_comments.Goals.{in-Some+in_ok-file, in_default}
 
 abbrev nowhere : SourceRange
 nowhere = record { start = 0; end = 0 }
@@ -22,25 +20,12 @@ loop-range-preserved c =
     let ends = c.args.ends.now in
     let is_empty = c.args.is_empty in
     let ranges = c.args.ranges.now in
-    let found = c.in_ok-comment.field-0 in
+    let found = c.in_ok-comment.comment in
     let old = c.loop-range.comments in
-    let step = λ (new : FiledComments) (filed : Files text tokens ends is_empty found old new).
-    filed_more text tokens ends is_empty ranges c.loop-range.range-index nowhere found
-    c.new-comments.result old new c.loop-range-test.true c.in_ok-comment.ensures
-    c.loop-range.invariant filed in
-    elim c.match-branch-2.branch [
-      | in-Some+in_ok-file w ↦
-          let one = subst (λ place. IsFiled place w.in-Some.comment old w.file.new.comments)
-          w.place_of-place.ensures w.in_ok-file.ensures in
-          let filed =
-          subst (λ found. Files text tokens ends is_empty found old w.file.new.comments)
-          (sym w.in-Some.is) one in
-          step c.match-branch-2.comments (subst (Files text tokens ends is_empty found old)
-          (sym w.comments-is) filed)
-      | in_default w ↦
-          step c.match-branch-2.comments (subst (λ o. Files text tokens ends is_empty o old
-          c.match-branch-2.comments) (sym w.in_default.is) w.comments-is)
-    ]
+    let filed = subst (λ place. IsFiled place found old c.file.new.comments)
+    c.place_of-place.ensures c.in_ok-file.ensures in
+    filed_more text tokens ends is_empty ranges c.loop-range.range-index nowhere found c.new-comments.result old
+    c.file.new.comments c.loop-range-test.true c.in_ok-comment.ensures c.loop-range.invariant filed
 
 pub returns : goal.returns
 returns c =

@@ -21,4 +21,4 @@ returns-else-is_spelled c =
     ∙ c.if-is_spelled.false in
     option_and_then_some reads_string (get_member (codes "value") ms) value c.requires
     (λ d here read. read_error object _ c.member_error.result (cond-false _ _ _ no)
-    (c.member_error.ensures d here tt))
+    (c.member_error.ensures.place d here tt))
