@@ -88,8 +88,8 @@ abbrev pub line_comment : List ℕ → SourceRange → List ℕ → DependencyCo
 line_comment text range rest =
     if is_whole_line text range then comment_with Line range rest else comment_with Block range []
 
--- The comment with these bytes. Bytes that aren't a comment's are read as an empty line comment, and the check
--- of the source reports the comment.
+-- The comment with these bytes. Bytes that aren't a comment's are read as an empty line comment, and the
+-- check of the source reports the comment.
 unfoldable pub comment_of : List ℕ → SourceRange → List ℕ → DependencyComment
 comment_of text range bytes =
     if starts_with nat_eq bytes (codes "//") then line_comment text range (drop 2 bytes) else
@@ -134,16 +134,17 @@ in_order ranges = apart (sorted_by_start range_start ranges)
 abbrev pub is_in_line : List ℕ → SourceRange → Bool
 is_in_line text range = is_text_range text range && not (has_line_break (slice_of text range))
 
--- Each range is in a line, and begins where the one before it ends, or after it; the first at `from` or after.
+-- Each range is in a line, and begins where the one before it ends, or after it; the first at `from` or
+-- after.
 abbrev pub are_in_lines : List ℕ → ℕ → List SourceRange → Bool
 are_in_lines text from [] = true
 are_in_lines text from (range ∷ ranges) =
     nat_le from range.start && (is_in_line text range && are_in_lines text range.end ranges)
 
 -- The ranges of the comments of a text, by those that a document has: in the order of the text, equal ones
--- once. After two that share a byte there are no others: the check of the source reports the two. `#!` lines and
--- comments as in HTML are passed over, if each is in a line and no two share a byte; otherwise their ranges are
--- taken for those of comments, and the check of the source reports them.
+-- once. After two that share a byte there are no others: the check of the source reports the two. `#!` lines
+-- and comments as in HTML are passed over, if each is in a line and no two share a byte; otherwise their
+-- ranges are taken for those of comments, and the check of the source reports them.
 unfoldable pub comment_ranges : List ℕ → List SourceRange → List SourceRange
 comment_ranges text ranges = let others = in_order (filter (is_other text) ranges) in
     if are_in_lines text 0 others then in_order (filter (is_comment text) ranges) else others

@@ -24,8 +24,9 @@ loop-range-preserved c =
     let old = c.loop-range.comments in
     let filed = subst (λ place. IsFiled place found old c.file.new.comments)
     c.place_of-place.ensures c.in_ok-file.ensures in
-    filed_more text tokens ends is_empty ranges c.loop-range.range-index nowhere found c.new-comments.result old
-    c.file.new.comments c.loop-range-test.true c.in_ok-comment.ensures c.loop-range.invariant filed
+    filed_more text tokens ends is_empty ranges c.loop-range.range-index nowhere found
+    c.new-comments.result old c.file.new.comments c.loop-range-test.true c.in_ok-comment.ensures
+    c.loop-range.invariant filed
 
 pub returns : goal.returns
 returns c =
@@ -35,6 +36,7 @@ returns c =
     let is_empty = c.args.is_empty in
     all_filed text tokens ends is_empty c.args.ranges.now c.new-comments.result
     c.loop-range.comments c.new-comments.ensures.leading c.new-comments.ensures.trailing
-    (subst (λ ranges. AreAllFiled text tokens ends is_empty ranges c.new-comments.result c.loop-range.comments)
+    (subst
+    (λ ranges. AreAllFiled text tokens ends is_empty ranges c.new-comments.result c.loop-range.comments)
     (take_all c.loop-range.range-index c.args.ranges.now c.loop-range-test.false)
     c.loop-range.invariant)
