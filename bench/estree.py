@@ -95,6 +95,18 @@ def one_gap(count):
     return document(source, [node("ExpressionStatement", 0, len(source), expression=each) for each in called])
 
 
+def pairs(count):
+    """Calls that all have their argument in the same pairs of parentheses."""
+    source = "require(" + "(" * count + '"a"' + ")" * (count + 1)
+    called = [call(0, [literal(len("require(") + count, "a")], len(source))] * count
+    return document(source, [node("ExpressionStatement", 0, len(source), expression=each) for each in called])
+
+
+def one_line(count):
+    """A comment as in HTML, handed in many times."""
+    return document("<!--" + " " * count, [], [{"start": 0, "end": count + 4}] * count)
+
+
 def turned_around(count):
     """The elements of an array, the last one first."""
     elements = [name(at, "a") for at in range(1, 2 * count, 2)]
@@ -107,5 +119,7 @@ ESTREE = {
     "statements": statements,
     "comments": comments_in_a_row,
     "one gap": one_gap,
+    "pairs": pairs,
+    "one line": one_line,
     "turned": turned_around,
 }
