@@ -1,6 +1,23 @@
 -- Trees whose literals have the values that their slices of the text spell, by ECMA-262's definitions of a
 -- string's and a template's value.
-use Rattle.std.specs.Prelude.{◌≡◌, ℕ, ◌≤◌, ⊤, List, [], ◌∷◌, map, All, Option, Some, None}
+use Rattle.std.specs.Prelude.{
+  ◌≡◌,
+  ℕ,
+  ◌+◌,
+  ◌-◌,
+  ◌<◌,
+  ◌≤◌,
+  ⊤,
+  List,
+  [],
+  ◌∷◌,
+  map,
+  slice_index,
+  All,
+  Option,
+  Some,
+  None,
+}
 use Rattle.deno_graph_base.specs.SourceRange.{IsTextRange, slice_of}
 use Rattle.deno_graph_base.specs.declared.text.position.SourceRange.{SourceRange}
 use Rattle.deno_graph_source.specs.Node.{kind_of, range_of, children_of, literal_of, nodes_of}
@@ -34,14 +51,40 @@ KeyIsSpelled text range (key.Str value) = (slice : SourceRange) × (slice.start 
     text slice value
 KeyIsSpelled text range _ = ⊤
 
--- Ranges of parts and of children follow each other by turns between two offsets: a part comes first, then a
--- child and a part for each child.
-abbrev pub FollowByTurns : ℕ → List SourceRange → List SourceRange → ℕ → Type 0
-FollowByTurns from (part ∷ []) [] to = (from ≤ part.start) × (part.start ≤ part.end) × (part.end ≤ to)
-FollowByTurns from (part ∷ parts) (child ∷ children) to =
-    (from ≤ part.start) × (part.start ≤ part.end) × (part.end ≤ child.start) × (child.start ≤ child.end)
-    × FollowByTurns child.end parts children to
-FollowByTurns from parts children to = ⊥
+-- a part of a template starts after the backquote at the template's start
+abbrev pub IsFirstPart : List ℕ → ℕ → SourceRange → Type 0
+IsFirstPart text from part = (slice_index text from ≡ 96) × (part.start ≡ from + 1)
+
+-- `${` follows a part of a template, and then a child
+abbrev pub IsBeforeChild : List ℕ → SourceRange → SourceRange → Type 0
+IsBeforeChild text part child =
+    (part.start ≤ part.end) × (slice_index text part.end ≡ 36) × (slice_index text (part.end + 1) ≡ 123)
+    × (part.end + 2 ≤ child.start)
+
+-- a `}` that is after a child is right before a part of a template
+abbrev pub IsAfterChild : List ℕ → SourceRange → SourceRange → Type 0
+IsAfterChild text child part =
+    (child.start ≤ child.end) × (child.end < part.start) × (slice_index text (part.start - 1) ≡ 125)
+
+-- the backquote at a template's end follows a part
+abbrev pub IsLastPart : List ℕ → SourceRange → ℕ → Type 0
+IsLastPart text part to = (part.start ≤ part.end) × (slice_index text part.end ≡ 96) × (part.end + 1 ≡ to)
+
+-- Children and parts follow a part of a template by turns, up to the template's end. By ECMA-262 a part
+-- before a child is in a TemplateHead or a TemplateMiddle, and a part after a child in a TemplateMiddle or a
+-- TemplateTail.
+abbrev pub FollowByTurns : List ℕ → SourceRange → List SourceRange → List SourceRange → ℕ → Type 0
+FollowByTurns text part [] [] to = IsLastPart text part to
+FollowByTurns text part (next ∷ parts) (child ∷ children) to =
+    IsBeforeChild text part child × IsAfterChild text child next × FollowByTurns text next parts children to
+FollowByTurns text part parts children to = ⊥
+
+-- The ranges are those of all parts of a template at a range with children at these ranges. By ECMA-262 the
+-- only part of a template without children is in a NoSubstitutionTemplate.
+abbrev pub AreParts : List ℕ → SourceRange → List SourceRange → List SourceRange → Type 0
+AreParts text range children [] = ⊥
+AreParts text range children (part ∷ parts) =
+    IsFirstPart text range.start part × FollowByTurns text part parts children range.end
 
 -- each value is the cooked value of the part at its range
 abbrev pub CookEach : List ℕ → List SourceRange → List (List ℕ) → Type 0
@@ -49,12 +92,12 @@ CookEach text [] [] = ⊤
 CookEach text (part ∷ parts) (value ∷ values) = CooksAt text part value × CookEach text parts values
 CookEach text parts values = ⊥
 
--- a template at a range with these children has cooked parts with these values: ascending slices of its
--- range, one before, between and after its children
+-- A template at a range with these children has parts with these cooked values. A part with a cooked value
+-- has a backquote or `${` only in an escape, so the part ends at the first of them that is in no escape.
 pub record TemplateIsSpelled (text : List ℕ) (range : SourceRange) (children : List Node)
     (values : List (List ℕ)) : Type 0 where
   pub parts : List SourceRange
-  pub follow : FollowByTurns range.start parts (map range_of children) range.end
+  pub are_parts : AreParts text range (map range_of children) parts
   pub cooked : CookEach text parts values
 
 -- what a node's kind says of the text besides its literal

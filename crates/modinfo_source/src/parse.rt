@@ -1,6 +1,6 @@
 //! From a source text to a `ParsedSource`.
 
-ghost use Rattle.std.specs.Prelude.{◌≡◌, Err, IfOk};
+ghost use Rattle.std.specs.Prelude.{◌≡◌, Err, IfOk, false};
 ghost use Rattle.std.specs.Rc.{rc_str_bytes};
 ghost use Rattle.std.specs.Str.{IsCharBoundary};
 ghost use Rattle.deno_graph_base.specs.Position.{HasPosition};
@@ -36,6 +36,7 @@ pub fn parse_module(
     ensures specifier { IfOk result (λ parsed. parsed.specifier ≡ specifier) }
     ensures text { IfOk result (λ parsed. parsed.text ≡ rc_str_bytes source) }
     ensures media_type { IfOk result (λ parsed. parsed.media_type ≡ media_type) }
+    ensures scope_analysis { IfOk result (λ parsed. parsed.scope_analysis ≡ false) }
     ensures valid { IfOk result (λ parsed. IsValid parsed.text parsed.program parsed.comments) }
     // Each string literal has the value that its slice of the text spells, by ECMA-262, and so has each part
     // of a template.

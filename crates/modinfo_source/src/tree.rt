@@ -175,7 +175,7 @@ fn kind_inside(
     ensures { IfOk result (KindIsSpelled text.now flat.range children.now) }
 {
     if flat.shape == Shape::Template {
-        template_kind(alloc, flat.range, children, parts)
+        template_kind(alloc, text, flat.range, children, parts)
     } else {
         kind_of(alloc, text, flat, args, children.len())
     }

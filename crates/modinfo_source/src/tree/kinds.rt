@@ -4,7 +4,7 @@ ghost use Rattle.std.specs.Prelude.{◌≡◌, IfOk, List};
 ghost use Rattle.deno_graph_source.specs.declared.tree.node.Node.{Node};
 ghost use Rattle.modinfo_source.specs.Spelled.{KeyIsSpelled, KindIsSpelled, LiteralIsSpelled};
 
-use crate::tree::literals::{literal_at, name_at, value_at};
+use crate::tree::literals::{literal_at, name_at, spelled_value};
 use deno_graph_base::text::SourceRange;
 use deno_graph_base::values::Items;
 use deno_graph_source::tree::{Arg, BinaryOp, Kind, PropKey, StrLit};
@@ -25,7 +25,7 @@ pub(crate) fn kind_of(
     match flat.shape {
         Shape::ExportOther => Ok(Kind::ExportOther),
         Shape::Call { callee, .. } => Ok(Kind::Call { callee, args }),
-        Shape::Str => Ok(Kind::Str(value_at(alloc, text, flat.range)?)),
+        Shape::Str => Ok(Kind::Str(spelled_value(alloc, text, flat.range)?)),
         Shape::Sum if count == 2 => Ok(Kind::Binary(BinaryOp::Add)),
         Shape::Ident => Ok(Kind::Ident(name_at(alloc, text, flat.range)?)),
         Shape::Object => Ok(Kind::Object),
@@ -141,7 +141,7 @@ fn key_of(
 {
     match key {
         KeyShape::Str(range) if range.start == property.start => {
-            Ok(PropKey::Str(value_at(alloc, text, range)?))
+            Ok(PropKey::Str(spelled_value(alloc, text, range)?))
         }
         KeyShape::Ident(range) => Ok(PropKey::Ident(name_at(alloc, text, range)?)),
         _ => Ok(PropKey::Other),

@@ -16,11 +16,15 @@ pub(crate) fn literal_at(alloc: Global, text: &str, range: SourceRange) -> Resul
     ensures range { IfOk result (λ literal. literal.range ≡ range) }
     ensures value { IfOk result (λ literal. SpellsAt text.now range literal.value) }
 {
-    Ok(StrLit::new(value_at(alloc, text, range)?, range))
+    Ok(StrLit::new(spelled_value(alloc, text, range)?, range))
 }
 
 /// Returns the value of the string literal at a range. If there is none, returns a syntax error.
-pub(crate) fn value_at(alloc: Global, text: &str, range: SourceRange) -> Result<JsString, ReadError>
+pub(crate) fn spelled_value(
+    alloc: Global,
+    text: &str,
+    range: SourceRange,
+) -> Result<JsString, ReadError>
     ensures { IfOk result (SpellsAt text.now range) }
 {
     let Some(slice) = slice_at(text, range) else {

@@ -1,8 +1,17 @@
 //! The kinds of templates.
 
-ghost use Rattle.std.specs.Prelude.{◌≡◌, All, IfOk, IfSome, IsTrue, List, map, ℕ};
+ghost use Rattle.std.specs.Prelude.{◌≡◌, All, IfOk, IfSome, IsTrue, List, map, slice_index, ℕ};
 ghost use Rattle.deno_graph_source.specs.Node.{range_of};
-ghost use Rattle.modinfo_source.specs.Spelled.{CookEach, FollowByTurns, KindIsSpelled};
+ghost use Rattle.modinfo_source.specs.Spelled.{
+  AreParts,
+  CookEach,
+  FollowByTurns,
+  IsAfterChild,
+  IsBeforeChild,
+  IsFirstPart,
+  IsLastPart,
+  KindIsSpelled,
+};
 ghost use Rattle.modinfo_source.specs.internal.Parts.{PartIsCooked, part_ranges};
 
 use deno_graph_base::text::{JsString, SourceRange};
@@ -30,20 +39,21 @@ impl Part {
     }
 }
 
-/// Returns the kind of a template at a range: `Template` if each part has a value, and if the parts are
-/// before, between and after the children; or else `Other`.
+/// Returns the kind of a template at a range: `Template` if each part has a value, and if the text has the
+/// marks of a template around the parts and the children; or else `Other`.
 pub(crate) fn template_kind(
     alloc: Global,
+    text: &str,
     range: SourceRange,
     children: &[Node],
     parts: Vec<Part>,
 ) -> Result<Kind, ReadError>
-    ensures { (text : List ℕ) → All (PartIsCooked text) parts.items
-        → IfOk result (KindIsSpelled text range children.now) }
+    requires { All (PartIsCooked text.now) parts.items }
+    ensures { IfOk result (KindIsSpelled text.now range children.now) }
 {
-    let follow = follow_by_turns(range.start, &parts, children, range.end);
+    let are_parts = are_parts(text, range, children, &parts);
     match values_of(alloc, parts)? {
-        Some(values) if follow => Ok(Kind::Template(values)),
+        Some(values) if are_parts => Ok(Kind::Template(values)),
         _ => Ok(Kind::Other),
     }
 }
@@ -63,30 +73,91 @@ fn values_of(alloc: Global, parts: Vec<Part>) -> Result<Option<Items<JsString>>,
     Ok(Some(values))
 }
 
-/// Returns whether parts and children follow each other by turns between two offsets, a part first and
-/// last.
-#[tactic(auto, unfolding(deno_graph_source::specs::Node::range_of))]
-fn follow_by_turns(from: usize, parts: &[Part], children: &[Node], to: usize) -> bool
+/// Returns whether parts are all parts of a template at a range.
+fn are_parts(text: &str, range: SourceRange, children: &[Node], parts: &[Part]) -> bool
     ensures { IsTrue result
-        → FollowByTurns from (part_ranges parts.now) (map range_of children.now) to }
+        → AreParts text.now range (map range_of children.now) (part_ranges parts.now) }
 {
-    let mut end = from;
+    match parts.split_first() {
+        Some((first, rest)) => {
+            is_first_part(text, range.start, first.range)
+                && follow_by_turns(text, first.range, rest, children, range.end)
+        }
+        None => false,
+    }
+}
+
+/// Returns whether children and parts follow a part by turns, up to the end of a template.
+#[tactic(auto, unfolding(deno_graph_source::specs::Node::range_of))]
+fn follow_by_turns(
+    text: &str,
+    first: SourceRange,
+    parts: &[Part],
+    children: &[Node],
+    to: usize,
+) -> bool
+    ensures { IsTrue result
+        → FollowByTurns text.now first (part_ranges parts.now) (map range_of children.now) to }
+{
+    let mut part = first;
     let (mut left_parts, mut left_children) = (parts, children);
-    'parts: while let Some((part, rest)) = left_parts.split_first() {
-        if part.range.start < end || part.range.end < part.range.start {
+    'parts: while let Some((next, rest)) = left_parts.split_first() {
+        let Some((child, others)) = left_children.split_first() else {
+            return false;
+        };
+        if !is_before_child(text, part, child.range)
+            || !is_after_child(text, child.range, next.range)
+        {
             return false;
         }
+        part = next.range;
         left_parts = rest;
-        match left_children.split_first() {
-            None => return rest.is_empty() && part.range.end <= to,
-            Some((child, others)) => {
-                if child.range.start < part.range.end || child.range.end < child.range.start {
-                    return false;
-                }
-                end = child.range.end;
-                left_children = others;
-            }
-        }
+        left_children = others;
     }
-    false
+    left_children.is_empty() && is_last_part(text, part, to)
+}
+
+/// Returns whether a part starts after the backquote at the start of its template.
+fn is_first_part(text: &str, from: usize, part: SourceRange) -> bool
+    ensures { IsTrue result → IsFirstPart text.now from part }
+{
+    from < part.start && from + 1 == part.start && is_byte_at(text, from, b'`')
+}
+
+/// Returns whether `${` follows a part, and then a child.
+fn is_before_child(text: &str, part: SourceRange, child: SourceRange) -> bool
+    ensures { IsTrue result → IsBeforeChild text.now part child }
+{
+    part.start <= part.end
+        && part.end < child.start
+        && part.end + 1 < child.start
+        && is_byte_at(text, part.end, b'$')
+        && is_byte_at(text, part.end + 1, b'{')
+}
+
+/// Returns whether a `}` that is after a child is right before a part.
+fn is_after_child(text: &str, child: SourceRange, part: SourceRange) -> bool
+    ensures { IsTrue result → IsAfterChild text.now child part }
+{
+    child.start <= child.end && child.end < part.start && is_byte_at(text, part.start - 1, b'}')
+}
+
+/// Returns whether the backquote at the end of a template follows a part.
+fn is_last_part(text: &str, part: SourceRange, to: usize) -> bool
+    ensures { IsTrue result → IsLastPart text.now part to }
+{
+    part.start <= part.end
+        && part.end < to
+        && part.end + 1 == to
+        && is_byte_at(text, part.end, b'`')
+}
+
+/// Returns whether a text has a byte at an offset.
+fn is_byte_at(text: &str, at: usize, byte: u8) -> bool
+    ensures { IsTrue result → slice_index text.now at ≡ byte }
+{
+    match text.as_bytes().get(at) {
+        Some(found) => *found == byte,
+        None => false,
+    }
 }
