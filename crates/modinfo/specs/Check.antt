@@ -6,7 +6,6 @@ use Rattle.std.specs.Prelude.{
   ℕ,
   List,
   codes,
-  IfSome,
   IsSomeAnd,
   MatchOption,
   None,
@@ -143,12 +142,13 @@ WarnsOfQuestion text (Valid warnings) = (value : Data) × (read_text text ≡ So
     × WarnsOfModules value (Valid warnings)
 WarnsOfQuestion text (Invalid report) = Unit {0}
 
--- The report has the pointer of the source of a document, no range, and only a place that the text has.
+-- The report has the pointer of the source of a document, and a place: a position of the text, and the offset
+-- that the position has there. It has no other pointer, and no range.
 pub record HasSyntaxPlace (text : List ℕ) (report : FaultReport) : Type 0 where
   pub pointer : IsSomeAnd report.pointer (λ pointer. string_bytes pointer ≡ codes "/source")
   pub other : report.other ≡ None
   pub range : report.range ≡ None
-  pub at : IfSome report.at (λ at. IsAt text at.position at.offset)
+  pub at : IsSomeAnd report.at (λ at. IsAt text at.position at.offset)
 
 -- The report has the place of the fault: of a bad specifier the specifier, of a syntax error the source.
 abbrev pub HasUnparsedPlace : SourceText → Fault → FaultReport → Type 0
@@ -156,7 +156,8 @@ HasUnparsedPlace text Specifier report = HasPath specifier_path report
 HasUnparsedPlace text Syntax report = HasSyntaxPlace text.source report
 HasUnparsedPlace text fault report = Unit {0}
 
--- The text can't be parsed, and the report has the name and the place of its fault.
+-- The text has a fault for which it has no information, and the report has the fault's name and place. Of a
+-- syntax error this says only that the specifier is a URL, and that the report's place is one of the source.
 pub record ReportsUnparsed (text : SourceText) (report : FaultReport) : Type 0 where
   pub fault : Fault
   pub no_memory : fault ≢ OutOfMemory
@@ -164,7 +165,8 @@ pub record ReportsUnparsed (text : SourceText) (report : FaultReport) : Type 0 w
   pub name : IsNamed (name_of_fault fault) report
   pub place : HasUnparsedPlace text fault report
 
--- `Valid` is returned only for a text that can be parsed, `Invalid` only with a fault of the text.
+-- `Valid` is returned only for a text of which there is a source, so one whose specifier is a URL; `Invalid`
+-- only with a fault of the text.
 abbrev pub ReportsOnText : SourceText → Report → Type 0
 ReportsOnText text = OfReport (CanBeParsed text) (ReportsUnparsed text)
 
@@ -174,11 +176,11 @@ pub record ReportsNoText (value : Data) (report : FaultReport) : Type 0 where
   pub name : IsNamed (codes "Tree") report
   pub place : PointsInto value report
 
--- The value has a text that can be parsed.
+-- The value has a text of which there is a source.
 abbrev pub HasParsedText : Data → Type 0
 HasParsedText value = (text : SourceText) × (reads_text value ≡ Some text) × CanBeParsed text
 
--- The value has no text, or one that can't be parsed; and the report says which.
+-- The value has no text, or one with a fault; and the report says which.
 abbrev pub IsTextFaultReport : Data → FaultReport → Type 0
 IsTextFaultReport value report = ReportsNoText value report
     ⊎ ((text : SourceText) × (reads_text value ≡ Some text) × ReportsUnparsed text report)

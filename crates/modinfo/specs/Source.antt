@@ -66,14 +66,15 @@ IsInfoOfText text printed = (module_ : ParsedModule) × IsParsed text module_
     × (printed ≡ compact_text (json_of_info info))
 
 -- Why a text has no information: its specifier is no URL, or else the parser reported a syntax error; or an
--- allocation failed.
+-- allocation failed. Of a syntax error this says only that the specifier is a URL.
 abbrev pub IsNoInfoOfText : SourceText → Fault → Type 0
 IsNoInfoOfText text Specifier = (error : ParseError) × (parse_url None text.specifier ≡ Err error)
 IsNoInfoOfText text Syntax = (url : Parts) × (parse_url None text.specifier ≡ Ok url)
 IsNoInfoOfText text OutOfMemory = Unit {0}
 IsNoInfoOfText text fault = ⊥
 
--- The parser makes such a source of the text.
+-- There is a source of the text. This is so exactly where the specifier is a URL: an empty program without
+-- comments is a source of every such text. So it doesn't say that the parser accepts the text.
 abbrev pub CanBeParsed : SourceText → Type 0
 CanBeParsed text = (module_ : ParsedModule) × IsParsed text module_
 
@@ -98,7 +99,7 @@ abbrev pub IsNoTextInfo : List ℕ → Fault → Type 0
 IsNoTextInfo document fault = IsNoText document fault
     ⊎ ((text : SourceText) × IsTextIn document text × IsNoInfoOfText text fault)
 
--- The bytes are a document whose text can be parsed.
+-- The bytes are a document with a text of which there is a source.
 abbrev pub IsSourceDocument : List ℕ → Type 0
 IsSourceDocument document = (text : SourceText) × IsTextIn document text × CanBeParsed text
 

@@ -1,10 +1,13 @@
 //! Source texts: documents of `analyze --source`, and the information on a text.
 
-ghost use Rattle.std.specs.Prelude.{◌≡◌, IfOk, MatchResult, None, Ok, option_map, Some};
+ghost use Rattle.std.specs.Prelude.{◌≡◌, Err, IfOk, MatchResult, None, Ok, option_map, Some};
 ghost use Rattle.std.specs.String.{string_bytes};
 ghost use Rattle.url.specs.Parser.{parse_url};
+ghost use Rattle.deno_graph_base.specs.Position.{HasPosition};
 ghost use Rattle.deno_graph_json.specs.Data.{data_of};
 ghost use Rattle.deno_graph_json.specs.Read.Result.{IsReadResult};
+ghost use Rattle.deno_graph_source.specs.declared.tree.parse_error.ParseDiagnostic.{ParseDiagnostic};
+ghost use Rattle.deno_graph_source.specs.declared.tree.parse_error.ParseError.TheVariants.{Diagnostic};
 ghost use Rattle.modinfo.specs.Fault.{fault_of_document};
 ghost use Rattle.modinfo.specs.Source.{AreNoParts, HasParts, IsInfoOfText, IsNoInfoOfText, IsNoText, IsParsed, IsTextIn};
 ghost use Rattle.modinfo.specs.Source.{media_type_at, reads_text};
@@ -102,9 +105,11 @@ impl SourceText {
     }
 
     /// The source that the parser makes of the text, whose specifier was parsed. `Diagnostic` if the text
-    /// has a syntax error, `OutOfMemory` if an allocation fails.
+    /// has a syntax error, with a position of the text; `OutOfMemory` if an allocation fails.
     pub fn into_source(self, alloc: Global, specifier: Url) -> Result<ParsedSource, ParseError>
-        ensures { parse_url None self.specifier ≡ Ok specifier → IfOk result (IsParsed self) }
+        ensures parsed { parse_url None self.specifier ≡ Ok specifier → IfOk result (IsParsed self) }
+        ensures position { (diagnostic : ParseDiagnostic) → result ≡ Err (Diagnostic diagnostic)
+            → HasPosition self.source diagnostic.position }
     {
         let SourceText {
             source: text,

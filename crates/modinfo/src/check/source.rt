@@ -1,7 +1,9 @@
 //! Checking documents of `analyze --source`.
 
-ghost use Rattle.std.specs.Prelude.{IfOk};
+ghost use Rattle.std.specs.Prelude.{◌≡◌, IfOk, IsSomeAnd};
 ghost use Rattle.std.specs.Rc.{rc_str_bytes};
+ghost use Rattle.std.specs.String.{string_bytes};
+ghost use Rattle.deno_graph_base.specs.Position.{HasPosition};
 ghost use Rattle.deno_graph_json.specs.Data.{data_of};
 ghost use Rattle.modinfo_document.specs.Report.{HasNoWarnings, IsNamed};
 ghost use Rattle.modinfo.specs.Check.{HasParsedText, HasSyntaxPlace, IsSourceFaultReport, IsTextFaultReport, OfReport, ReportsOnText};
@@ -72,15 +74,19 @@ pub fn check_text(alloc: Global, text: SourceText) -> Result<Report, AllocError>
     }
 }
 
-/// The report on a syntax error: the message of the parser is what is expected, and the place is one of
-/// the source text. The only error is a failed allocation.
+/// The report on a syntax error. The message of the parser is what is expected. The place has the parser's
+/// position, and that position's offset in the source text. The only error is a failed allocation.
 fn syntax_report(
     alloc: Global,
     source: RcStr,
     diagnostic: &ParseDiagnostic,
 ) -> Result<FaultReport, AllocError>
+    requires { HasPosition (rc_str_bytes source) diagnostic.now.position }
     ensures name { IfOk result (IsNamed (name_of_fault Fault.Syntax)) }
     ensures place { IfOk result (HasSyntaxPlace (rc_str_bytes source)) }
+    ensures position { IfOk result (λ report. IsSomeAnd report.at
+        (λ at. at.position ≡ diagnostic.now.position)) }
+    ensures expected { IfOk result (λ report. string_bytes report.expected ≡ diagnostic.now.message) }
 {
     let fault = String::from_str(alloc, Fault::Syntax.name())?;
     let pointer = String::from_str(alloc, "/source")?;

@@ -2,8 +2,8 @@ use Rattle.modinfo.proofs.Texts.{is_parsed}
 use Rattle.modinfo.proofs.source.SourceText.into_source.Goals as goal
 
 -- The parser was handed in the text and its media type.
-pub returns : goal.returns
-returns c parses =
+pub returns-clause-parsed : goal.returns-clause-parsed
+returns-clause-parsed c parses =
     let made = c.parse_module.ensures in
     is_parsed c.args.self c.args.specifier c.parse_module.result parses made.specifier
     (rw (c.in_ok-source.ensures.ok, c.as_str.ensures) at made.text)
