@@ -1,6 +1,5 @@
-"""Compares the manual pages with the header for C and with --help of the program that MODINFO names, else that in
-build/. The page of the program has each command and option with its meaning, word for word, each fault, and no
-others."""
+"""Shows the manual pages. That of the program has each command and option as `--help` prints it, of the program that
+MODINFO names, else of that in build/; and its example prints what it shows."""
 
 import os
 import re
@@ -9,7 +8,7 @@ import subprocess
 from pathlib import Path
 
 import pytest
-from installed import FUNCTIONS, HEADER, ROOT, VERSION, run
+from installed import ROOT, VERSION, run
 
 PROGRAM = os.environ.get("MODINFO", f"{ROOT}/build/modinfo")
 PAGE, FUNCTIONS_PAGE = ROOT / "packaging/module-info.1", ROOT / "packaging/modinfo.3"
@@ -55,22 +54,8 @@ def test_usage_and_meanings(help_text: str) -> None:
         assert names[0].isupper() or words(f"{names} {meaning}") in page
 
 
-def test_names(help_text: str) -> None:
-    named = {name for names, _ in ENTRY.findall(help_text) for name in names.replace(",", "").split()}
-    tags = " ".join(re.findall(r"^\.T[PQ]\n\.BR? (.*)", PAGE.read_text(), re.MULTILINE))
-    on_page = {name for name in tags.replace("\\-", "-").replace("\\", "").replace(",", "").split()}
-    assert {name for name in on_page if not name.isdigit()} == named | {"-h", "--help", "-V", "--version"}
-
-
 def test_example() -> None:
     page = run("man", "--no-hyphenation", "--local-file", PAGE, LC_ALL="C.UTF-8", MANWIDTH="200").translate(TYPESET)
     found = re.search(r"^ +\$ (echo [^|]*)\| module.info (\w+)\n +(\{.*)$", page, re.MULTILINE)
     assert found is not None
     assert run("sh", "-c", f'{found[1]}| "$0" {found[2]}', PROGRAM).strip() == found[3]
-
-
-def test_functions() -> None:
-    declared = re.findall(r"^(\w+ modinfo_\w+\(.*?\))(?: MODINFO_NONNULL)?;", HEADER, re.MULTILINE | re.DOTALL)
-    page = shown(FUNCTIONS_PAGE)
-    assert [each for each in declared if words(each) + ";" not in page] == []
-    assert len(declared) == len(FUNCTIONS)
