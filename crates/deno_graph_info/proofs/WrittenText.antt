@@ -20,49 +20,49 @@ use Rattle.deno_graph_info.specs.declared.analysis.specifier_with_range.Specifie
 use Rattle.deno_graph_info.proofs.OrderedMembers.{followed_by}
 use Rattle.deno_graph_info.specs.internal.Chosen.{Test, chosen, passes}
 use Rattle.deno_graph_info.specs.internal.Written.{
-  AreReadable,
-  AreReadableItems,
+  AreFloatless,
+  AreFloatlessItems,
   AreWritten,
-  IsReadable,
+  IsFloatless,
   IsWritten,
   member_tokens,
 }
 
 -- ---- numbers
 
-pub readable_whole : (n : ℕ) → n < 2 ^ 64 → IsReadable (number (unsigned n))
-readable_whole n small = ap json.number (unless_float-number_of (decimal n) (unsigned n)
+pub floatless_whole : (n : ℕ) → n < 2 ^ 64 → IsFloatless (number (unsigned n))
+floatless_whole n small = ap json.number (unless_float-number_of (decimal n) (unsigned n)
     (number_of-decimal n small))
 
-pub readable_signed : (z : ℤ) → SFits w64 z → IsReadable (number (negative z))
-readable_signed (pos n) fits =
+pub floatless_signed : (z : ℤ) → SFits w64 z → IsFloatless (number (negative z))
+floatless_signed (pos n) fits =
     ap json.number (unless_float-number_of (decimal n) (unsigned n) (number_of-decimal n (grind arith)))
-readable_signed (negsuc n) fits =
+floatless_signed (negsuc n) fits =
     ap json.number
     (unless_float-number_of (signed_decimal (negsuc n)) (negative (negsuc n)) (number_of-negative n
     (grind arith)))
 
-readable_pair : (one other : ℕ) → one < 2 ^ 64 → other < 2 ^ 64
-    → IsReadable (array (item (number (unsigned one)) (item (number (unsigned other)) no_items)))
-readable_pair one other a b =
-    ap json.array (ap₂ json.item (readable_whole one a)
-    (ap (λ j. json.item j json.no_items) (readable_whole other b)))
+floatless_pair : (one other : ℕ) → one < 2 ^ 64 → other < 2 ^ 64
+    → IsFloatless (array (item (number (unsigned one)) (item (number (unsigned other)) no_items)))
+floatless_pair one other a b =
+    ap json.array (ap₂ json.item (floatless_whole one a)
+    (ap (λ j. json.item j json.no_items) (floatless_whole other b)))
 
 -- a specifier with its range
-pub readable_specifier : (s : SpecifierWithRange) → IsHeldSpecifier s → IsReadable (json_of_specifier s)
-readable_specifier s held =
-    let start = readable_pair s.range.start.line s.range.start.character held.0.0 held.0.1 in
-    let end = readable_pair s.range.end.line s.range.end.character held.1.0 held.1.1 in
-    let range : IsReadable (json_of_range s.range) =
+pub floatless_specifier : (s : SpecifierWithRange) → IsHeldSpecifier s → IsFloatless (json_of_specifier s)
+floatless_specifier s held =
+    let start = floatless_pair s.range.start.line s.range.start.character held.0.0 held.0.1 in
+    let end = floatless_pair s.range.end.line s.range.end.character held.1.0 held.1.1 in
+    let range : IsFloatless (json_of_range s.range) =
     ap json.array (ap₂ json.item start (ap (λ j. json.item j json.no_items) end)) in
     ap (λ j. json.object (json.member (codes "range") j (json.member (codes "text") (json.string s.text)
     json.no_members))) range
 
 -- ---- members
 
-pub readable_member : (k : List ℕ) (d : Data) (ms : Members) → IsReadable d → AreReadable ms
-    → AreReadable (member k d ms)
-readable_member k d ms here rest = ap₂ (json.member k) here rest
+pub floatless_member : (k : List ℕ) (d : Data) (ms : Members) → IsFloatless d → AreFloatless ms
+    → AreFloatless (member k d ms)
+floatless_member k d ms here rest = ap₂ (json.member k) here rest
 
 inner_value : json.Members → json.Json
 inner_value json.no_members = json.null
@@ -72,14 +72,14 @@ inner_members : json.Members → json.Members
 inner_members json.no_members = json.no_members
 inner_members (json.member k j ms) = ms
 
-readable_parts : (k : List ℕ) (d : Data) (ms : Members) → AreReadable (member k d ms)
-    → IsReadable d × AreReadable ms
+floatless_parts : (k : List ℕ) (d : Data) (ms : Members) → AreFloatless (member k d ms)
+    → IsFloatless d × AreFloatless ms
 unfolding inner_value inner_members
-readable_parts k d ms h = (ap inner_value h, ap inner_members h)
+floatless_parts k d ms h = (ap inner_value h, ap inner_members h)
 
-pub readable_item : (d : Data) (ds : Items) → IsReadable d → AreReadableItems ds
-    → AreReadableItems (item d ds)
-readable_item d ds here rest = ap₂ json.item here rest
+pub floatless_item : (d : Data) (ds : Items) → IsFloatless d → AreFloatlessItems ds
+    → AreFloatlessItems (item d ds)
+floatless_item d ds here rest = ap₂ json.item here rest
 
 -- the text so far, with the members that are left, is the same after a member is written
 pub member_written : (k : List ℕ) (d : Data) (rest : Members) (old named new whole : Text)
@@ -126,11 +126,11 @@ module _ (names : Test) (k : List ℕ) (d : Data) (left rest : Members) (first :
       member_written k d (chosen names rest) old named new whole name value
       (ap (λ ms. with_tokens (member_tokens ms) old) (sym (chosen_first true is)) ∙ so_far)
 
-  pub chosen_readable : (whole : Members) → passes names k ≡ true → IsReadable d
-      → (AreReadable (chosen names left) → AreReadable whole) → AreReadable (chosen names rest)
-      → AreReadable whole
-  chosen_readable whole is here so_far more =
-      so_far (subst AreReadable (sym (chosen_first true is)) (readable_member k d
+  pub chosen_floatless : (whole : Members) → passes names k ≡ true → IsFloatless d
+      → (AreFloatless (chosen names left) → AreFloatless whole) → AreFloatless (chosen names rest)
+      → AreFloatless whole
+  chosen_floatless whole is here so_far more =
+      so_far (subst AreFloatless (sym (chosen_first true is)) (floatless_member k d
       (chosen names rest) here more))
 
   pub depth_next : (all : ℕ) → members_depth left ≤ all → members_depth rest ≤ all
@@ -158,9 +158,9 @@ array_written ds left old begun items new opens none inside closes =
     ∙ ap (with_tokens (item_tokens ds)) opens
     ∙ with_tokens-twice (begin_array ∷ []) (item_tokens ds) old
 
-pub items_readable : (ds left : Items) → left ≡ no_items → (AreReadableItems left → AreReadableItems ds)
-    → AreReadableItems ds
-items_readable ds left none so_far = so_far (subst AreReadableItems (sym none) refl)
+pub items_floatless : (ds left : Items) → left ≡ no_items → (AreFloatlessItems left → AreFloatlessItems ds)
+    → AreFloatlessItems ds
+items_floatless ds left none so_far = so_far (subst AreFloatlessItems (sym none) refl)
 
 pub with_nothing : (text : Text) → with_tokens [] text ≡ text
 with_nothing text = ap (λ ts. (text.0, ts)) (append-nil text.1)
@@ -178,7 +178,7 @@ pub chosen_object : (names : Test) (ms all : Members) (old begun inside new : Te
 chosen_object names ms all old begun inside new written is opens closes = (
   object_written all old begun inside new opens
       (written.0 ∙ ap (λ l. with_tokens (member_tokens l) begun) is) closes,
-  ap json.object (subst AreReadable is written.1),
+  ap json.object (subst AreFloatless is written.1),
 )
 
 joined_tokens : (ms ns : Members) → member_tokens (followed_by ms ns) ≡ member_tokens ms ++ member_tokens ns
@@ -187,18 +187,18 @@ joined_tokens (member k d ms) ns =
     ap (λ ts. key k ∷ (text_tokens d ++ ts)) (joined_tokens ms ns)
     ∙ ap (λ ts. key k ∷ ts) (sym (append_assoc (text_tokens d) (member_tokens ms) (member_tokens ns)))
 
-joined_readable : (ms ns : Members) → AreReadable ms → AreReadable ns → AreReadable (followed_by ms ns)
-joined_readable no_members ns a b = b
-joined_readable (member k d ms) ns a b =
-    let parts = readable_parts k d ms a in
-    readable_member k d (followed_by ms ns) parts.0 (joined_readable ms ns parts.1 b)
+joined_floatless : (ms ns : Members) → AreFloatless ms → AreFloatless ns → AreFloatless (followed_by ms ns)
+joined_floatless no_members ns a b = b
+joined_floatless (member k d ms) ns a b =
+    let parts = floatless_parts k d ms a in
+    floatless_member k d (followed_by ms ns) parts.0 (joined_floatless ms ns parts.1 b)
 
 -- members, then a member, and then other members
 pub joined_written : (k : List ℕ) (d : Data) (front back all : Members) (begun before_key value after : Text)
     → AreWritten front begun before_key → value ≡ with_tokens (key k ∷ text_tokens d) before_key
-    → IsReadable d
+    → IsFloatless d
     → AreWritten back value after → followed_by front (member k d back) ≡ all → AreWritten all begun after
-joined_written k d front back all begun before_key value after a v readable b is = (
+joined_written k d front back all begun before_key value after a v floatless b is = (
   b.0
       ∙ ap (with_tokens (member_tokens back)) v
       ∙ with_tokens-twice (key k ∷ text_tokens d) (member_tokens back) before_key
@@ -206,7 +206,8 @@ joined_written k d front back all begun before_key value after a v readable b is
       ∙ with_tokens-twice (member_tokens front) (member_tokens (member k d back)) begun
       ∙ ap (λ ts. with_tokens ts begun) (sym (joined_tokens front (member k d back)))
       ∙ ap (λ ms. with_tokens (member_tokens ms) begun) is,
-  subst AreReadable is (joined_readable front (member k d back) a.1 (readable_member k d back readable b.1)),
+  subst AreFloatless is (joined_floatless front (member k d back) a.1
+      (floatless_member k d back floatless b.1)),
 )
 
 -- members in braces are an object

@@ -14,7 +14,7 @@ use Rattle.std.specs.Str.{IsAscii, IsUtf8, bytes_eq, chars}
 use denote.Ref.{Bor}
 use lib.Utf8.{encodes}
 use Rattle.deno_graph_jsdoc.specs.JsDocGrammar.{Attribute, resolution_mode_value}
-use Rattle.deno_graph_jsdoc.specs.internal.Reading.{text_of}
+use Rattle.deno_graph_jsdoc.specs.internal.Reading.{chars_of}
 use Rattle.deno_graph_base.specs.ResolutionMode.{mode_named}
 use Rattle.deno_graph_base.specs.declared.values.resolution_mode.TypeScriptTypesResolutionMode.TheVariants.{
   Require,
@@ -92,7 +92,7 @@ pub is_mode-chars : (key : List ℕ) → IsUtf8 key
 is_mode-chars key utf8 =
     bytes_eq-chars key (codes "resolution-mode") utf8 (IsAscii-from_test (codes "resolution-mode") refl)
 
-pub text_of-then_some : (test : Bool) (value : Bor (List ℕ))
-    → text_of (then_some test value) ≡ cond test (Some (chars value.now)) None
-text_of-then_some true value = refl
-text_of-then_some false value = refl
+pub chars_of-then_some : (test : Bool) (value : Bor (List ℕ))
+    → chars_of (then_some test value) ≡ cond test (Some (chars value.now)) None
+chars_of-then_some true value = refl
+chars_of-then_some false value = refl

@@ -3,7 +3,7 @@
 ghost use Rattle.std.specs.Prelude.{◌≡◌, IfErr};
 ghost use Rattle.serde_json.specs.Data.{array, object};
 ghost use Rattle.serde_json.specs.View.{view, items_view, members_view};
-ghost use Rattle.serde_json.specs.Written.{has_float as holds_float, items_have_float as float_in_items, members_have_float as float_in_members};
+ghost use Rattle.serde_json.specs.Written as Written;
 ghost use Rattle.deno_graph_json.specs.Data.{data_of, elements_data, members_data};
 ghost use Rattle.deno_graph_json.specs.Read.Error.{Expects};
 ghost use Rattle.deno_graph_json.specs.Read.Result.{IsReadResult};
@@ -19,7 +19,7 @@ use std::alloc::Global;
 /// Returns whether a number that isn't held as a whole number is anywhere in the value.
 #[cycle(float)]
 pub fn has_float(value: &Value) -> bool
-    ensures { result ≡ holds_float (view value.now) }
+    ensures { result ≡ Written.has_float (view value.now) }
 {
     match value {
         Value::Number(number) => number.is_f64(),
@@ -31,7 +31,7 @@ pub fn has_float(value: &Value) -> bool
 
 #[cycle(float)]
 fn items_have_float(items: &Vec<Value>) -> bool
-    ensures { result ≡ float_in_items (items_view items.now.items) }
+    ensures { result ≡ Written.items_have_float (items_view items.now.items) }
 {
     for item in items {
         if has_float(item) {
@@ -43,7 +43,7 @@ fn items_have_float(items: &Vec<Value>) -> bool
 
 #[cycle(float)]
 fn members_have_float(members: &Map<String, Value>) -> bool
-    ensures { result ≡ float_in_members (members_view members.now.entries) }
+    ensures { result ≡ Written.members_have_float (members_view members.now.entries) }
 {
     for (_, value) in members.iter() {
         if has_float(value) {
@@ -57,7 +57,7 @@ fn members_have_float(members: &Map<String, Value>) -> bool
 /// is expected there is always `Integer`.
 /// Allocates only where the text has a float.
 pub fn find_float(alloc: Global, value: Element<'_>) -> Result<(), ReadError>
-    ensures read { IsReadResult (data_of value.entry) (unless_float (holds_float (data_of value.entry))) result }
+    ensures read { IsReadResult (data_of value.entry) (unless_float (Written.has_float (data_of value.entry))) result }
     ensures expected { IfErr result (Expects Integer) }
 {
     if value.has_float_node() {
@@ -69,7 +69,7 @@ pub fn find_float(alloc: Global, value: Element<'_>) -> Result<(), ReadError>
 
 #[cycle(find_float)]
 fn find_float_in(alloc: Global, value: Element<'_>) -> Result<(), ReadError>
-    ensures read { IsReadResult (data_of value.entry) (unless_float (holds_float (data_of value.entry))) result }
+    ensures read { IsReadResult (data_of value.entry) (unless_float (Written.has_float (data_of value.entry))) result }
     ensures expected { IfErr result (Expects Integer) }
 {
     match value.view() {
@@ -83,7 +83,7 @@ fn find_float_in(alloc: Global, value: Element<'_>) -> Result<(), ReadError>
 #[cycle(find_float)]
 fn find_float_in_items(alloc: Global, items: Elements<'_>) -> Result<(), ReadError>
     ensures read { IsReadResult (array (elements_data items.entry))
-        (unless_float (float_in_items (elements_data items.entry))) result }
+        (unless_float (Written.items_have_float (elements_data items.entry))) result }
     ensures expected { IfErr result (Expects Integer) }
 {
     let mut number = 0usize;
@@ -99,7 +99,7 @@ fn find_float_in_items(alloc: Global, items: Elements<'_>) -> Result<(), ReadErr
 #[cycle(find_float)]
 fn find_float_in_members(alloc: Global, members: Members<'_>) -> Result<(), ReadError>
     ensures read { IsReadResult (object (members_data members.entry))
-        (unless_float (float_in_members (members_data members.entry))) result }
+        (unless_float (Written.members_have_float (members_data members.entry))) result }
     ensures expected { IfErr result (Expects Integer) }
 {
     let found = members.sorted(alloc)?;

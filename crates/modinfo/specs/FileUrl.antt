@@ -14,7 +14,7 @@ abbrev pub is_absolute : List ℕ → Bool
 is_absolute [] = false
 is_absolute (byte ∷ bytes) = byte == 47
 
--- The byte stands for itself in the path of a URL (RFC 3986, section 3.3), or is the slash.
+-- The byte is as it is in the path of a URL (RFC 3986, section 3.3), or is the slash.
 unfoldable pub is_kept : ℕ → Bool
 is_kept byte = is_ascii byte
     && (is_ascii_alphanumeric byte || list_any (λ kept. kept == byte) (codes "/-._~!$&'()*+,;=:@"))

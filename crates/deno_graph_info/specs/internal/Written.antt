@@ -13,18 +13,18 @@ use Rattle.serde_json.specs.Written.{
 use Rattle.deno_graph_json.specs.Text.{Text, text_tokens, with_tokens}
 
 -- No number that is held as a whole number has a text that reads as a float.
-abbrev pub IsReadable : Data → Type 0
-IsReadable d = blank (outline d) ≡ outline d
+abbrev pub IsFloatless : Data → Type 0
+IsFloatless d = blank (outline d) ≡ outline d
 
-abbrev pub AreReadableItems : Items → Type 0
-AreReadableItems ds = blank_items (items_outline ds) ≡ items_outline ds
+abbrev pub AreFloatlessItems : Items → Type 0
+AreFloatlessItems ds = blank_items (items_outline ds) ≡ items_outline ds
 
-abbrev pub AreReadable : Members → Type 0
-AreReadable ms = blank_members (members_outline ms) ≡ members_outline ms
+abbrev pub AreFloatless : Members → Type 0
+AreFloatless ms = blank_members (members_outline ms) ≡ members_outline ms
 
 -- the compact text of the value was appended
 abbrev pub IsWritten : Data → Text → Text → Type 0
-IsWritten d old new = (new ≡ with_tokens (text_tokens d) old) × IsReadable d
+IsWritten d old new = (new ≡ with_tokens (text_tokens d) old) × IsFloatless d
 
 -- the tokens of members, without the braces of the object
 abbrev pub member_tokens : Members → List Token
@@ -33,4 +33,4 @@ member_tokens (member k d ms) = key k ∷ (text_tokens d ++ member_tokens ms)
 
 -- the compact text of the members was appended, without the braces of the object
 abbrev pub AreWritten : Members → Text → Text → Type 0
-AreWritten ms old new = (new ≡ with_tokens (member_tokens ms) old) × AreReadable ms
+AreWritten ms old new = (new ≡ with_tokens (member_tokens ms) old) × AreFloatless ms

@@ -1,6 +1,7 @@
 ghost use Rattle.std.specs.Prelude.{◌≡◌, [], false, Some, None, IfOk, IfErr, refl, string_bytes};
 ghost use Rattle.serde_json.specs.View.{view};
-ghost use Rattle.serde_json.specs.Written.{compact_text, has_float as holds_float};
+ghost use Rattle.serde_json.specs.Written as Written;
+ghost use Rattle.serde_json.specs.Written.{compact_text};
 ghost use Rattle.deno_graph_info.specs.InfoFault.{IsInfoFault};
 ghost use Rattle.deno_graph_info.specs.Json.ModuleInfo.{info_entries, json_of_info, reads_info, IsHeldInfo};
 
@@ -69,7 +70,7 @@ impl ModuleInfo {
     /// Returns `Float` if a number that isn't held as a whole number is anywhere in the value,
     /// `Shape` if the value can't be read, and `OutOfMemory` if an allocation fails.
     pub fn from_value(alloc: Global, value: &Value) -> Result<ModuleInfo, InfoFault>
-        ensures ok { IfOk result (λ info. (holds_float (view value.now) ≡ false)
+        ensures ok { IfOk result (λ info. (Written.has_float (view value.now) ≡ false)
             × (reads_info (view value.now) ≡ Some info)) }
         ensures err { IfErr result (IsInfoFault (view value.now)) }
     {
@@ -85,7 +86,7 @@ impl ModuleInfo {
     pub fn to_value(&self, alloc: Global) -> Result<Value, AllocError>
         ensures form { IfOk result (λ value. view value ≡ json_of_info self.now) }
         ensures read_back { IfOk result (λ value. reads_info (view value) ≡ Some self.now) }
-        ensures no_float { IfOk result (λ value. holds_float (view value) ≡ false) }
+        ensures no_float { IfOk result (λ value. Written.has_float (view value) ≡ false) }
     {
         to_value(alloc, self)
     }

@@ -73,8 +73,8 @@ ReadsImportAlone G input result =
 abbrev pub rest_of : Option (Bor (List ℕ)) → Option (List ℕ × Unit {0})
 rest_of result = option_map (λ rest. (chars rest.now, tt)) result
 
-abbrev pub text_of : Option (Bor (List ℕ)) → Option (List ℕ)
-text_of text = option_map (λ text. chars text.now) text
+abbrev pub chars_of : Option (Bor (List ℕ)) → Option (List ℕ)
+chars_of text = option_map (λ text. chars text.now) text
 
 abbrev pub rest_and_text : Option (Bor (List ℕ) × Bor (List ℕ)) → Option (List ℕ × List ℕ)
 rest_and_text result = option_map (λ found. (chars found.0.now, chars found.1.now)) result

@@ -8,7 +8,7 @@ ghost use Rattle.deno_graph_jsdoc.specs.JsDocGrammar.{resolution_mode_value, mod
 ghost use Rattle.deno_graph_jsdoc.specs.internal.Cache.{AreCached};
 ghost use Rattle.deno_graph_jsdoc.specs.internal.Reading.{IsModeBlockEnd, Reads, EndOfIdent};
 ghost use Rattle.deno_graph_jsdoc.specs.internal.Reading.{rest_and_text, rest_and_mode};
-ghost use Rattle.deno_graph_jsdoc.specs.internal.Reading.{rest_and_attribute, text_of};
+ghost use Rattle.deno_graph_jsdoc.specs.internal.Reading.{rest_and_attribute, chars_of};
 ghost use Rattle.deno_graph_base.specs.ResolutionMode.{mode_named};
 
 use super::cached_lists::{CachedList, list_at};
@@ -64,7 +64,7 @@ fn mode_with(
     name: Option<&str>,
     mode: Option<TypeScriptTypesResolutionMode>,
 ) -> Option<TypeScriptTypesResolutionMode>
-    ensures { (before others : List Attribute) → text_of name.entry ≡ resolution_mode_value before
+    ensures { (before others : List Attribute) → chars_of name.entry ≡ resolution_mode_value before
         → mode ≡ mode_of others → result ≡ mode_of (before ++ others) }
 {
     match name {
@@ -76,8 +76,8 @@ fn mode_with(
 /// Returns the value of the first `resolution-mode` of a list of attributes that ends with this
 /// attribute. `name` is the value before the attribute.
 fn name_after<'a>(name: Option<&'a str>, key: &str, value: &'a str) -> Option<&'a str>
-    ensures { (before : List Attribute) → text_of name.entry ≡ resolution_mode_value before
-        → text_of result ≡ resolution_mode_value
+    ensures { (before : List Attribute) → chars_of name.entry ≡ resolution_mode_value before
+        → chars_of result ≡ resolution_mode_value
         (before ++ record { key = chars key.now; value = chars value.entry.now } ∷ []) }
 {
     match name {
@@ -108,7 +108,7 @@ fn key(input: &str) -> Option<(&str, &str)>
 
 /// Returns the mode that a text names, or None if it names none.
 fn mode_of(name: Option<&str>) -> Option<TypeScriptTypesResolutionMode>
-    ensures { result ≡ option_and_then mode_named (text_of name.entry) }
+    ensures { result ≡ option_and_then mode_named (chars_of name.entry) }
 {
     TypeScriptTypesResolutionMode::from_str(name?)
 }

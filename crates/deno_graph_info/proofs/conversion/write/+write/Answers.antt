@@ -10,11 +10,11 @@ use Rattle.deno_graph_json.specs.Text.{text_in, with_tokens}
 use Rattle.deno_graph_json.specs.View.{members_of}
 use Rattle.deno_graph_info.specs.internal.Chosen.{chosen, test_of}
 use Rattle.deno_graph_info.specs.internal.Ordered.{listed, ordered_data}
-use Rattle.deno_graph_info.specs.internal.Written.{AreReadable, member_tokens}
+use Rattle.deno_graph_info.specs.internal.Written.{AreFloatless, member_tokens}
 use Rattle.deno_graph_info.proofs.OrderedMembers.{listed_next}
-use Rattle.deno_graph_info.proofs.WrittenText.{all_chosen, array_written, chosen_readable, chosen_text}
-use Rattle.deno_graph_info.proofs.WrittenText.{depth_next, item_tokens, item_written, items_readable}
-use Rattle.deno_graph_info.proofs.WrittenText.{object_written, readable_item}
+use Rattle.deno_graph_info.proofs.WrittenText.{all_chosen, array_written, chosen_floatless, chosen_text}
+use Rattle.deno_graph_info.proofs.WrittenText.{depth_next, item_tokens, item_written, items_floatless}
+use Rattle.deno_graph_info.proofs.WrittenText.{object_written, floatless_item}
 use Rattle.deno_graph_info.proofs.conversion.write.+write.Goals as goal
 
 pub write_items-write_value-requires : goal.write_items-write_value-requires
@@ -39,7 +39,7 @@ write_items-loop-item-preserved t c =
       item_written d rest out (text_in c.write_value.new.out)
           (with_tokens (item_tokens all) (text_in c.begin_array.new.self)) value.0
           (ap (λ l. with_tokens (item_tokens l) out) (sym first) ∙ kept.3),
-      λ more. kept.4 (rw first (readable_item d rest value.1 more)),
+      λ more. kept.4 (rw first (floatless_item d rest value.1 more)),
     )
 
 pub write_items-returns : goal.write_items-returns
@@ -55,7 +55,7 @@ write_items-returns t c =
     (λ closes. (
       array_written all left (text_in c.args.out.now) (text_in c.begin_array.new.self)
           (text_in c.loop-item.out) (text_in c.end_array.new.self) opens none kept.3 closes,
-      ap json.array (items_readable all left none kept.4),
+      ap json.array (items_floatless all left none kept.4),
     )) (text_written c.end_array.result c.loop-item.out c.end_array.new.self end_array c.end_array.ensures)
 
 pub write_object-returns : goal.write_object-returns
@@ -70,7 +70,7 @@ write_object-returns t c =
       object_written ms (text_in c.args.out.now) (text_in c.begin_object.new.self)
           (text_in c.write_chosen.new.out) (text_in c.end_object.new.self) opens
           (inside.0 ∙ ap (λ l. with_tokens (member_tokens l) (text_in c.begin_object.new.self)) all) closes,
-      ap json.object (subst AreReadable all inside.1),
+      ap json.object (subst AreFloatless all inside.1),
     )) (text_written c.end_object.result c.write_chosen.new.out c.end_object.new.self end_object
     c.end_object.ensures)
 
@@ -104,5 +104,5 @@ write_listed-loop-name-preserved-in-Continue-branch-2 t c =
           (text_in c.write_value.new.out) (with_tokens (member_tokens whole)
           (text_in c.args.out.now)) has named
           value.0 kept.3,
-      chosen_readable names k d left rest first whole has value.1 kept.4,
+      chosen_floatless names k d left rest first whole has value.1 kept.4,
     )

@@ -7,7 +7,7 @@ use Rattle.deno_graph_json.specs.View.{members_of}
 use Rattle.deno_graph_info.proofs.WrittenText.{item_tokens}
 use Rattle.deno_graph_info.specs.internal.Chosen.{chosen, test_of}
 use Rattle.deno_graph_info.specs.internal.Ordered.{listed, ordered_data}
-use Rattle.deno_graph_info.specs.internal.Written.{AreReadable, AreReadableItems, member_tokens}
+use Rattle.deno_graph_info.specs.internal.Written.{AreFloatless, AreFloatlessItems, member_tokens}
 use Rattle.deno_graph_info.proofs.conversion.write.+write.Given as goal
 
 abbrev pub decreases-write_value : goal.decreases-write_value
@@ -34,7 +34,7 @@ invariant-write_items-loop-item l = (goal.iterator-write_items-loop-item).can_ne
     × (items_depth (elements_data l.item-iterator) ≤ items_depth (elements_data l.fn.items))
     × (with_tokens (item_tokens (elements_data l.item-iterator)) (text_in l.out)
     ≡ with_tokens (item_tokens (elements_data l.fn.items)) (text_in l.initial.out))
-    × (AreReadableItems (elements_data l.item-iterator) → AreReadableItems (elements_data l.fn.items))
+    × (AreFloatlessItems (elements_data l.item-iterator) → AreFloatlessItems (elements_data l.fn.items))
 
 abbrev pub invariant-write_listed-loop-name : goal.invariant-write_listed-loop-name
 invariant-write_listed-loop-name l = (goal.iterator-write_listed-loop-name).can_next l.name-iterator
@@ -44,13 +44,13 @@ invariant-write_listed-loop-name l = (goal.iterator-write_listed-loop-name).can_
     (text_in l.out)
     ≡ with_tokens (member_tokens (chosen (test_of l.names) (listed (members_of l.fn.members))))
     (text_in l.initial.out))
-    × (AreReadable (chosen (test_of l.names) (listed (members_of l.name-iterator)))
-    → AreReadable (chosen (test_of l.names) (listed (members_of l.fn.members))))
+    × (AreFloatless (chosen (test_of l.names) (listed (members_of l.name-iterator)))
+    → AreFloatless (chosen (test_of l.names) (listed (members_of l.fn.members))))
 
 abbrev pub invariant-write_sorted-loop-name : goal.invariant-write_sorted-loop-name
 invariant-write_sorted-loop-name l =
     (members_depth (named_data l.name-iterator) ≤ members_depth (named_data l.members))
     × (with_tokens (member_tokens (chosen (test_of l.names) (named_data l.name-iterator))) (text_in l.out)
     ≡ with_tokens (member_tokens (chosen (test_of l.names) (named_data l.members))) (text_in l.initial.out))
-    × (AreReadable (chosen (test_of l.names) (named_data l.name-iterator))
-    → AreReadable (chosen (test_of l.names) (named_data l.members)))
+    × (AreFloatless (chosen (test_of l.names) (named_data l.name-iterator))
+    → AreFloatless (chosen (test_of l.names) (named_data l.members)))

@@ -3,7 +3,7 @@ use Rattle.std.proofs.Common.{length, subst, ap, arith, rules}
 use Rattle.std.specs.Str.{chars}
 use Rattle.deno_graph_jsdoc.specs.JsDocGrammar.{Anything}
 use Rattle.deno_graph_jsdoc.specs.internal.Cache.{AreCached}
-use Rattle.deno_graph_jsdoc.specs.internal.Reading.{IsModeBlockEnd, Reads, rest_and_mode, text_of}
+use Rattle.deno_graph_jsdoc.specs.internal.Reading.{IsModeBlockEnd, Reads, rest_and_mode, chars_of}
 use Rattle.deno_graph_jsdoc.proofs.Blocks.{SoFar, SoFar-more, block_fails, block_cached, block_no_attribute}
 use Rattle.deno_graph_jsdoc.proofs.Blocks.{block_closed, block_broken}
 use Rattle.deno_graph_jsdoc.proofs.Readings.{Begins-length, Begins-shorter, space_read}
@@ -15,12 +15,12 @@ pub returns-in_err-after : goal.returns-in_err-after
 returns-in_err-after c =
     rw c.from_residual.ensures
     (block_no_attribute (chars c.args.input.now) (chars c.loop-after.rest.now)
-    (text_of c.loop-after.name) c.loop-after.invariant.1 c.in_err-after.ensures)
+    (chars_of c.loop-after.name) c.loop-after.invariant.1 c.in_err-after.ensures)
 
 pub returns-in-Some : goal.returns-in-Some
 returns-in-Some c =
     block_closed (chars c.args.input.now) (chars c.loop-after.rest.now) (chars c.in_ok-after.after.now)
-    (text_of c.loop-after.name) (text_of c.name_after-name.result)
+    (chars_of c.loop-after.name) (chars_of c.name_after-name.result)
     (record { key = chars c.in_ok-after.key.now; value = chars c.in_ok-after.value.now })
     c.loop-after.invariant.1 c.in_ok-after.ensures c.name_after-name.ensures
     (chars c.in-Some.end.now) c.mode_of.result
@@ -30,7 +30,7 @@ pub returns-in_err-rest : goal.returns-in_err-rest
 returns-in_err-rest c =
     rw c.from_residual-in_err-rest.ensures
     (block_broken (chars c.args.input.now) (chars c.loop-after.rest.now) (chars c.in_ok-after.after.now)
-    (text_of c.loop-after.name) (text_of c.name_after-name.result)
+    (chars_of c.loop-after.name) (chars_of c.name_after-name.result)
     (record { key = chars c.in_ok-after.key.now; value = chars c.in_ok-after.value.now })
     c.loop-after.invariant.1 c.in_ok-after.ensures c.name_after-name.ensures
     (rw c.skip_space-after.ensures at c.in_default.ensures)
@@ -52,10 +52,10 @@ cache c =
     (AreCached-after c.args.cache.now c.in_ok-after.ensures.0 c.loop-after.invariant.2))
 
 more : (c : In_ok-rest)
-    → SoFar (chars c.args.input.now) (chars c.in_ok-rest.rest.now) (text_of c.name_after-name.result)
+    → SoFar (chars c.args.input.now) (chars c.in_ok-rest.rest.now) (chars_of c.name_after-name.result)
 more c =
     SoFar-more (chars c.args.input.now) (chars c.loop-after.rest.now) (chars c.in_ok-after.after.now)
-    (text_of c.loop-after.name) (text_of c.name_after-name.result)
+    (chars_of c.loop-after.name) (chars_of c.name_after-name.result)
     (record { key = chars c.in_ok-after.key.now; value = chars c.in_ok-after.value.now })
     c.loop-after.invariant.1 c.in_ok-after.ensures c.name_after-name.ensures
     (chars c.in_ok-rest.rest.now) (rw c.skip_space-after.ensures at c.in_ok-rest.ensures)
@@ -67,7 +67,7 @@ pub returns-in_err-end : goal.returns-in_err-end
 returns-in_err-end c =
     let later = chars c.in_ok-rest.rest.now in
     rw c.from_residual-in_err-end.ensures
-    (block_fails (chars c.args.input.now) later (text_of c.name_after-name.result)
+    (block_fails (chars c.args.input.now) later (chars_of c.name_after-name.result)
     (more (goal.at.returns-in_err-end c).In_ok-rest)
     (subst (λ read. Reads Anything IsModeBlockEnd later (rest_and_mode read)) c.in_err-end.was
     c.in-Some-list_at.ensures))
@@ -75,7 +75,7 @@ returns-in_err-end c =
 pub returns-in-Some-list_at : goal.returns-in-Some-list_at
 returns-in-Some-list_at c =
     let later = chars c.in_ok-rest.rest.now in
-    block_cached (chars c.args.input.now) later (text_of c.name_after-name.result)
+    block_cached (chars c.args.input.now) later (chars_of c.name_after-name.result)
     (more (goal.at.returns-in-Some-list_at c).In_ok-rest) (chars c.in_ok-end.end.now) c.in_ok-end.mode
     c.mode_with.result
     (subst (λ read. Reads Anything IsModeBlockEnd later (rest_and_mode read)) c.in_ok-end.was

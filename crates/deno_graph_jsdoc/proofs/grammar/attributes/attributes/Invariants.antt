@@ -4,13 +4,13 @@ use Rattle.std.specs.Str.{chars}
 use denote.Shadow.{shadow}
 use denote.Text.{Utf8}
 use Rattle.deno_graph_jsdoc.specs.internal.Cache.{AreCached}
-use Rattle.deno_graph_jsdoc.specs.internal.Reading.{text_of}
+use Rattle.deno_graph_jsdoc.specs.internal.Reading.{chars_of}
 use Rattle.deno_graph_jsdoc.proofs.Blocks.{SoFar}
 use Rattle.deno_graph_jsdoc.proofs.grammar.attributes.attributes.Given as goal
 
 abbrev pub invariant-loop-after : goal.invariant-loop-after
 invariant-loop-after l =
-    shadow (Utf8 l.rest) × SoFar (chars l.input) (chars l.rest) (text_of l.name)
+    shadow (Utf8 l.rest) × SoFar (chars l.input) (chars l.rest) (chars_of l.name)
     × AreCached (chars l.rest) l.cache
 
 abbrev pub decreases-loop-after : goal.decreases-loop-after
