@@ -11,7 +11,7 @@ use Rattle.deno_graph_info.specs.Conversion.{
   DependencyOverflows,
   IsConvertedDependency,
 }
-use Rattle.deno_graph_info.specs.internal.Written.{AreReadableItems, IsReadable, IsWritten}
+use Rattle.deno_graph_info.specs.internal.Written.{AreFloatlessItems, IsFloatless, IsWritten}
 use Rattle.deno_graph_json.proofs.Texts.{with_tokens-twice}
 use Rattle.deno_graph_json.specs.Text.{Text, text_tokens, with_tokens}
 
@@ -54,11 +54,11 @@ abbrev other_items : json.Items → json.Items
 other_items json.no_items = json.no_items
 other_items (json.item j js) = js
 
-readable_more : (ds : Items) (d : Data) → AreReadableItems ds → IsReadable d
-    → AreReadableItems (items_then ds (item d no_items))
-readable_more no_items d all here = ap (λ j. json.item j json.no_items) here
-readable_more (item e ds) d all here =
-    ap₂ json.item (ap first_item all) (readable_more ds d (ap other_items all) here)
+floatless_more : (ds : Items) (d : Data) → AreFloatlessItems ds → IsFloatless d
+    → AreFloatlessItems (items_then ds (item d no_items))
+floatless_more no_items d all here = ap (λ j. json.item j json.no_items) here
+floatless_more (item e ds) d all here =
+    ap₂ json.item (ap first_item all) (floatless_more ds d (ap other_items all) here)
 
 converted_one_more : (ds es : Items) (d e : Data) → AreConverted ds es → IsConvertedDependency d e
     → AreConverted (items_then ds (item d no_items)) (items_then es (item e no_items))
@@ -74,7 +74,7 @@ pub record IsConvertedSoFar (all left : Items) (begun now : Text) : Type 0 where
   pub whole : all ≡ items_then passed left
   pub converted : AreConverted passed new
   pub text : now ≡ with_tokens (inner_tokens new) begun
-  pub readable : AreReadableItems new
+  pub floatless : AreFloatlessItems new
 
 -- before the first
 pub converted_none : (all left : Items) (text : Text) → left ≡ all → IsConvertedSoFar all left text text
@@ -84,7 +84,7 @@ converted_none all left text is = record {
   whole = sym is;
   converted = tt;
   text = sym (with_nothing text);
-  readable = refl;
+  floatless = refl;
 }
 
 module _ (all left rest : Items) (d : Data) (begun now : Text) (h : IsConvertedSoFar all left begun now)
@@ -102,7 +102,7 @@ module _ (all left rest : Items) (d : Data) (begun now : Text) (h : IsConvertedS
         written.0 ∙ ap (with_tokens (text_tokens after)) h.text
         ∙ with_tokens-twice (inner_tokens h.new) (text_tokens after) begun
         ∙ ap (λ ts. with_tokens ts begun) (sym (inner_more h.new after));
-    readable = readable_more h.new after h.readable written.1;
+    floatless = floatless_more h.new after h.floatless written.1;
   }
 
   overflow_at : (passed : Items) → DependencyOverflows d → AnyOverflows (items_then passed (item d rest))
@@ -127,6 +127,6 @@ converted_all all left old begun now new h none opens closes = (
         ∙ with_tokens-twice (inner_tokens h.new) (end_array ∷ []) (with_tokens (begin_array ∷ []) old)
         ∙ ap (λ ts. with_tokens ts (with_tokens (begin_array ∷ []) old)) (inner_closed h.new)
         ∙ with_tokens-twice (begin_array ∷ []) (item_tokens h.new) old,
-    ap json.array h.readable,
+    ap json.array h.floatless,
   ),
 )

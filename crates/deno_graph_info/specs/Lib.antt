@@ -1,3 +1,4 @@
+pub mod Change
 pub mod Comment
 pub mod Conversion
 pub mod Dependency

@@ -1,5 +1,6 @@
 //! The conversion of a module's stored information from version 1 to version 2.
 
+pub mod change;
 pub mod comment;
 pub mod convert;
 mod dependency;
@@ -11,7 +12,7 @@ pub mod text;
 mod types;
 mod write;
 
+pub use change::{Change, change_of};
 pub use convert::module_graph_1_to_2;
-pub use dependency::column_overflows;
 pub use fault::ConvertFault;
 pub use text::converted_text;

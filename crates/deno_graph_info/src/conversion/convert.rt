@@ -2,14 +2,13 @@ ghost use Rattle.std.specs.Prelude.{◌≡◌, codes, false, option_map, OnOk, O
 ghost use Rattle.std.specs.String.{string_bytes};
 ghost use Rattle.serde_json.specs.Find.{get};
 ghost use Rattle.serde_json.specs.View.{view, items_view};
-ghost use Rattle.serde_json.specs.Written.{has_float as holds_float};
+ghost use Rattle.serde_json.specs.Written as Written;
 ghost use Rattle.deno_graph_info.specs.Conversion.{AnyOverflows, AreConverted, DependencyOverflows, IsConverted, IsConvertedDependency, IsConvertFault, dependencies_in, with_types, with_value_at, without_value_at};
 ghost use Rattle.deno_graph_info.specs.internal.ConvertFault.{IsColumnFault};
 
 use crate::analysis::SpecifierWithRange;
-use crate::conversion::comment::read_comments;
+use crate::conversion::change::{Change, change_of};
 use crate::conversion::fault::ConvertFault;
-use crate::conversion::types::types_named;
 use deno_graph_json::{Tape, has_float, to_value};
 use serde_json::{Value, put};
 use std::alloc::{AllocError, Global};
@@ -26,7 +25,7 @@ use std::alloc::{AllocError, Global};
 /// `ColumnOverflow` if types would end beyond the largest column, and `OutOfMemory` if an allocation
 /// fails. On an error the value is unchanged.
 pub fn module_graph_1_to_2(alloc: Global, value: &mut Value) -> Result<(), ConvertFault>
-    ensures no_float { OnOk result (holds_float (view value.old) ≡ false) }
+    ensures no_float { OnOk result (Written.has_float (view value.old) ≡ false) }
     ensures ok { OnOk result (IsConverted (view value.old) (view value.new)) }
     ensures err { IfErr result (IsConvertFault (view value.old)) }
     ensures unchanged { OnErr result (value.new ≡ value.old) }
@@ -72,14 +71,12 @@ fn convert_dependency(alloc: Global, dependency: &Value) -> Result<Value, Conver
     ensures err { IfErr result (IsColumnFault (DependencyOverflows (view dependency.now))) }
 {
     let tape = Tape::from_value(alloc, dependency)?;
-    let comments = read_comments(alloc, tape.root())?;
+    let change = change_of(alloc, tape.root())?;
     let mut converted = dependency.clone()?;
-    let Some(comments) = comments else {
-        return Ok(converted);
-    };
-    let types = types_named(alloc, &comments)?;
-    put_types(alloc, &mut converted, types)?;
-    remove_member(&mut converted, "leadingComments");
+    if let Change::Comments(types) = change {
+        put_types(alloc, &mut converted, types)?;
+        remove_member(&mut converted, "leadingComments");
+    }
     Ok(converted)
 }
 

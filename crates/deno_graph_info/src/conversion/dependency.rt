@@ -1,6 +1,6 @@
 //! Writing converted dependencies as text.
 
-ghost use Rattle.std.specs.Prelude.{◌↔◌, codes, IfOk, IfErr, IsTrue, OnOk};
+ghost use Rattle.std.specs.Prelude.{codes, IfErr, OnOk};
 ghost use Rattle.serde_json.specs.Data.{Data, Items, array, object, put};
 ghost use Rattle.deno_graph_json.specs.Data.{data_of, elements_data, members_data};
 ghost use Rattle.deno_graph_json.specs.Text.{text_in};
@@ -10,14 +10,12 @@ ghost use Rattle.deno_graph_info.specs.internal.ConvertFault.{IsColumnFault};
 ghost use Rattle.deno_graph_info.specs.internal.Written.{IsWritten};
 
 use crate::analysis::SpecifierWithRange;
-use crate::conversion::comment::read_comments;
+use crate::conversion::change::{Change, change_of};
 use crate::conversion::fault::ConvertFault;
 use crate::conversion::names::Names;
 use crate::conversion::ordered::in_order;
-use crate::conversion::types::types_named;
 use crate::conversion::write::{write_chosen, write_value};
 use deno_graph_json::{Element, Elements, Members, Writer, append};
-use deno_graph_pragmas::finders::laws::captures_are_unique;
 use std::alloc::{AllocError, Global};
 
 /// The members except the comments.
@@ -69,12 +67,9 @@ fn write_dependency(
         × IsWritten after (text_in out.old) (text_in out.new)) }
     ensures err { IfErr result (IsColumnFault (DependencyOverflows (data_of dependency.entry))) }
 {
-    match read_comments(alloc, dependency)? {
-        Some(comments) => {
-            let types = types_named(alloc, &comments)?;
-            Ok(write_replaced(alloc, dependency, types, out)?)
-        }
-        None => Ok(write_value(alloc, dependency, out)?),
+    match change_of(alloc, dependency)? {
+        Change::Nothing => Ok(write_value(alloc, dependency, out)?),
+        Change::Comments(types) => Ok(write_replaced(alloc, dependency, types, out)?),
     }
 }
 
@@ -128,22 +123,4 @@ fn write_untyped(alloc: Global, members: Members<'_>, out: &mut Writer) -> Resul
     out.begin_object()?;
     write_chosen(alloc, &ordered, KEPT, out)?;
     out.end_object()
-}
-
-/// Returns whether the types that the comments of a dependency name would end beyond the largest
-/// column, so that a value with this dependency can't be converted. The only error is that an
-/// allocation fails.
-pub fn column_overflows(alloc: Global, dependency: Element<'_>) -> Result<bool, AllocError>
-    ensures { IfOk result
-        (λ overflows. IsTrue overflows ↔ DependencyOverflows (data_of dependency.entry)) }
-{
-    captures_are_unique();
-    let Some(comments) = read_comments(alloc, dependency)? else {
-        return Ok(false);
-    };
-    match types_named(alloc, &comments) {
-        Ok(_types) => Ok(false),
-        Err(ConvertFault::ColumnOverflow) => Ok(true),
-        Err(_fault) => Err(AllocError),
-    }
 }

@@ -1,14 +1,14 @@
 //! Reports on stored information that can't be converted.
 
-ghost use Rattle.std.specs.Prelude.{◌≡◌, ◌↔◌, IfOk, IfSome, IsSome, codes, false, option_map};
+ghost use Rattle.std.specs.Prelude.{◌≡◌, ◌↔◌, IfOk, IfSome, IsSome, IsTrue, codes, false, option_map};
 ghost use Rattle.serde_json.specs.Written.{has_float};
 ghost use Rattle.deno_graph_json.specs.Data.{data_of, elements_data};
-ghost use Rattle.deno_graph_info.specs.Conversion.{AnyOverflows, Overflows};
+ghost use Rattle.deno_graph_info.specs.Conversion.{AnyOverflows, DependencyOverflows, Overflows};
 ghost use Rattle.modinfo_document.specs.Report.{HasNoWarnings, IsNamed, Reports};
 ghost use Rattle.modinfo.specs.internal.Check.{ReportsOnValue, array_in};
 
 use deno_graph_info::analysis::{ConvertFault, laws};
-use deno_graph_info::conversion::column_overflows;
+use deno_graph_info::conversion::change_of;
 use deno_graph_json::{Element, Elements, Mismatch};
 use modinfo_document::report::{FaultReport, Report, Warnings};
 use std::alloc::{AllocError, Global};
@@ -57,12 +57,24 @@ fn first_overflow(
 {
     let mut number = 0usize;
     for dependency in dependencies {
-        if column_overflows(alloc, dependency)? {
+        if overflows(alloc, dependency)? {
             return Ok(Some(overflow_report(alloc, dependency, number)?));
         }
         number = number.saturating_add(1);
     }
     Ok(None)
+}
+
+/// Whether the types that the comments of a dependency name would end after the largest column.
+fn overflows(alloc: Global, dependency: Element<'_>) -> Result<bool, AllocError>
+    ensures { IfOk result
+        (λ overflows. IsTrue overflows ↔ DependencyOverflows (data_of dependency.entry)) }
+{
+    match change_of(alloc, dependency) {
+        Ok(_change) => Ok(false),
+        Err(ConvertFault::ColumnOverflow) => Ok(true),
+        Err(_fault) => Err(AllocError),
+    }
 }
 
 /// The report on the dependency with this index. Its pointer leads to the column at which the last

@@ -10,7 +10,7 @@ use Rattle.deno_graph_info.specs.Json.SpecifierWithRange.{json_of_specifier}
 use Rattle.deno_graph_info.specs.internal.Chosen.{chosen}
 use Rattle.deno_graph_info.specs.internal.Ordered.{ordered_data}
 use Rattle.deno_graph_info.proofs.ChosenMembers.{Ascend, Ascend-members_data, around, kept_without}
-use Rattle.deno_graph_info.proofs.WrittenText.{joined_written, members_object, readable_specifier}
+use Rattle.deno_graph_info.proofs.WrittenText.{joined_written, members_object, floatless_specifier}
 use Rattle.deno_graph_info.proofs.conversion.dependency.write_typed.Goals as goal
 
 pub returns : goal.returns
@@ -36,7 +36,7 @@ returns c =
     (chosen (record { above = None; below = Some types; except = Some comments }) ms)
     (chosen (record { above = Some types; below = None; except = Some comments }) ms) all begun
     (text_in c.write_chosen.new.out) (text_in c.append.new.out) inside c.in_ok-write_chosen.ensures
-    typed (readable_specifier c.args.types.now c.in_ok-append.ensures.held)
+    typed (floatless_specifier c.args.types.now c.in_ok-append.ensures.held)
     c.in_ok-write_chosen-2.ensures is in
     on_ok_weaker c.end_object.result
     (λ closes. members_object all (text_in c.args.out.now) begun inside

@@ -23,7 +23,7 @@ loop-dependency-preserved c =
       tt,
       tt,
       left_next (elements_data c.args.dependencies) left rest d c.loop-dependency.invariant.2 first
-          (λ over. true≢false (sym (c.in_ok-column_overflows.ensures.1 over) ∙ c.if-branch.false)),
+          (λ over. true≢false (sym (c.in_ok-overflows.ensures.1 over) ∙ c.if-branch.false)),
     )
 
 pub returns-then-branch-clause-fault : goal.returns-then-branch-clause-fault
@@ -34,7 +34,7 @@ returns-then-branch-clause-fault c =
     let first : left ≡ item d rest = elements_next c.loop-dependency.dependency-iterator c.next.new.self
     (Some c.in-Some.dependency) c.in-Some.ensures.steps in (
       (λ _. left_here (elements_data c.args.dependencies) left rest d c.loop-dependency.invariant.2 first
-          (c.in_ok-column_overflows.ensures.0 c.if-branch.true)),
+          (c.in_ok-overflows.ensures.0 c.if-branch.true)),
       (λ _. refl),
     )
 
