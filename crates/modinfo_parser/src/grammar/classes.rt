@@ -1,6 +1,6 @@
 //! Classes, and decorators.
 
-use crate::parser::{Form, Parsed, Parser};
+use crate::parser::{Form, Operand, Parsed, Parser};
 use modinfo_lexer::token::TokenKind;
 
 impl<'a> Parser<'a> {
@@ -122,11 +122,23 @@ impl<'a> Parser<'a> {
         if depth == 0 {
             return Err(self.too_deep());
         }
-        self.primary(depth - 1)?;
+        let first = self.nodes.len();
+        let start = self.start();
+        let form = self.primary(depth - 1)?;
+        let end = self.lexer.previous_end();
+        let mut operand = Operand {
+            form,
+            first,
+            start,
+            end,
+        };
         for _turn in 0..self.turns {
             match self.kind() {
                 TokenKind::Dot => self.member_name()?,
-                TokenKind::ParenOpen => self.arguments(depth - 1)?,
+                TokenKind::ParenOpen => {
+                    let types = self.nodes.len();
+                    self.call(depth - 1, operand, types)?;
+                }
                 TokenKind::Bang if self.language.is_typescript && !self.token().is_after_line_end =>
                     {
                         self.next()?;
@@ -134,10 +146,11 @@ impl<'a> Parser<'a> {
                 TokenKind::Less | TokenKind::ShiftLeft if self.language.is_typescript => {
                     let types = self.nodes.len();
                     self.type_arguments(depth - 1)?;
-                    self.arguments_before(depth - 1, types)?;
+                    self.call(depth - 1, operand, types)?;
                 }
                 _ => break,
             }
+            operand = operand.with_form(Form::Other);
         }
         Ok(())
     }

@@ -60,7 +60,7 @@ impl<'a> Parser<'a> {
         Ok(())
     }
 
-    /// Types with commas between them.
+    /// Types with commas between them, each with its type arguments on the same line or a later one.
     #[cycle(grammar)]
     pub(crate) fn list_of_types(&mut self, depth: usize) -> Parsed<()> {
         if depth == 0 {
@@ -68,6 +68,9 @@ impl<'a> Parser<'a> {
         }
         for _turn in 0..self.turns {
             self.type_(depth - 1)?;
+            if matches!(self.kind(), TokenKind::Less | TokenKind::ShiftLeft) {
+                self.type_arguments(depth - 1)?;
+            }
             if !self.eat(TokenKind::Comma)? {
                 break;
             }

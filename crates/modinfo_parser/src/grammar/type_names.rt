@@ -2,7 +2,7 @@
 
 use crate::parser::{Parsed, Parser};
 use crate::shape::Shape;
-use modinfo_lexer::token::TokenKind;
+use modinfo_lexer::token::{Token, TokenKind};
 
 impl<'a> Parser<'a> {
     /// A type without operators.
@@ -33,11 +33,44 @@ impl<'a> Parser<'a> {
             TokenKind::TemplateHead => self.template_type(depth - 1),
             TokenKind::Typeof => self.typeof_type(depth - 1),
             TokenKind::Import => self.import_type(depth - 1),
-            kind if kind.is_identifier() || kind == TokenKind::This => {
+            TokenKind::This => {
                 self.entity_name()?;
+                self.type_after_is(depth - 1)
+            }
+            kind if kind.is_identifier() => {
+                let first = self.token();
+                self.entity_name()?;
+                if self.is_basic_type(first) {
+                    return Ok(());
+                }
                 self.type_arguments_on_line(depth - 1)
             }
             _ => Err(self.error("expected a type")),
+        }
+    }
+
+    /// `is` and a type after `this`, if they follow on its line.
+    #[cycle(grammar)]
+    fn type_after_is(&mut self, depth: usize) -> Parsed<()> {
+        if depth == 0 {
+            return Err(self.too_deep());
+        }
+        if self.at_on_line(TokenKind::Is) {
+            self.next()?;
+            self.type_(depth - 1)?;
+        }
+        Ok(())
+    }
+
+    /// Returns whether the name that was read is a single word for a type that has no type arguments, as
+    /// `number`. `first` is the token with which the name begins.
+    fn is_basic_type(&self, first: Token) -> bool {
+        if first.end != self.lexer.previous_end() {
+            return false;
+        }
+        match self.lexer.text().as_bytes().get(first.start..first.end) {
+            Some(word) => names_basic_type(word),
+            None => false,
         }
     }
 
@@ -194,4 +227,21 @@ impl<'a> Parser<'a> {
         }
         Ok(())
     }
+}
+
+/// Returns whether a word is a type by itself, which has no type arguments.
+fn names_basic_type(word: &[u8]) -> bool {
+    matches!(
+        word,
+        b"any"
+            | b"bigint"
+            | b"boolean"
+            | b"never"
+            | b"number"
+            | b"object"
+            | b"string"
+            | b"symbol"
+            | b"undefined"
+            | b"unknown"
+    )
 }

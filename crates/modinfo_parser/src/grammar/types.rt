@@ -36,7 +36,7 @@ impl<'a> Parser<'a> {
         if depth == 0 {
             return Err(self.too_deep());
         }
-        if self.kind().is_identifier() || self.at(TokenKind::This) {
+        if self.kind().is_identifier() {
             let following = self.peek()?;
             if following.kind == TokenKind::Is && !following.is_after_line_end {
                 self.next()?;
@@ -178,7 +178,11 @@ impl<'a> Parser<'a> {
             TokenKind::Arrow,
             "expected `=>` in the type of the function",
         )?;
-        self.return_type(depth - 1)
+        let context = self.context;
+        self.context.allows_conditional_type = true;
+        let result = self.return_type(depth - 1);
+        self.context = context;
+        result
     }
 
     /// Types with `|` and `&` between them, and before the first.
@@ -200,13 +204,11 @@ impl<'a> Parser<'a> {
         Ok(())
     }
 
-    /// Goes on after `|` or `&`. Returns whether one is there.
+    /// Goes on after `|`, `&`, or a `|` with a `&` before the first type of an intersection. Returns whether
+    /// one is there.
     fn skip_union_operator(&mut self) -> Parsed<bool> {
-        let is_there = matches!(self.kind(), TokenKind::Bar | TokenKind::Ampersand);
-        if is_there {
-            self.next()?;
-        }
-        Ok(is_there)
+        let is_union = self.eat(TokenKind::Bar)?;
+        Ok(self.eat(TokenKind::Ampersand)? || is_union)
     }
 
     /// A type with `keyof`, `unique`, `readonly` or `infer` before it, and `[]` or `[..]` after it.
@@ -259,7 +261,14 @@ impl<'a> Parser<'a> {
         }
         self.next()?;
         self.next()?;
-        if !self.at(TokenKind::Extends) || self.has_failed() {
+        if !self.at(TokenKind::Extends) {
+            return Ok(());
+        }
+        if !self.context.allows_conditional_type {
+            self.next()?;
+            return self.constraint_of_conditional(depth - 1);
+        }
+        if self.has_failed() {
             return Ok(());
         }
         let state = self.begin_try()?;
@@ -268,7 +277,8 @@ impl<'a> Parser<'a> {
         Ok(())
     }
 
-    /// `extends` and a type. Returns whether the type is a constraint of `infer`.
+    /// `extends` and a type. Returns whether the type is a constraint of `infer`, and no conditional type
+    /// begins there.
     #[cycle(grammar)]
     fn constraint_of_infer(&mut self, depth: usize) -> Parsed<bool> {
         if depth == 0 {
@@ -276,7 +286,7 @@ impl<'a> Parser<'a> {
         }
         self.next()?;
         self.constraint_of_conditional(depth - 1)?;
-        Ok(!self.context.allows_conditional_type || !self.at(TokenKind::Question))
+        Ok(!self.at(TokenKind::Question))
     }
 }
 

@@ -473,6 +473,9 @@ decreases-type_member l = l.depth
 abbrev pub decreases-primary_type : goal.decreases-primary_type
 decreases-primary_type l = l.depth
 
+abbrev pub decreases-type_after_is : goal.decreases-type_after_is
+decreases-type_after_is l = l.depth
+
 abbrev pub decreases-type_arguments_on_line : goal.decreases-type_arguments_on_line
 decreases-type_arguments_on_line l = l.depth
 
