@@ -136,6 +136,38 @@ test("phases, await using, Babel's imports and methods", () => {
   assert.equal(answerToTree(source, [items[3]]).script, true);
 });
 
+test("calls of an identifier import, as some parsers have it, and of nothing", () => {
+  const source = `f(import("a")); import(); g("b");`;
+  const node = maker(source);
+  /** @param {string} name */
+  const identifier = (name) => node("Identifier", name, { name });
+  /** @param {string} value */
+  const string = (value) => node("Literal", `"${value}"`, { value });
+  /**
+   * @param {string} text
+   * @param {Node | null} callee
+   * @param {Node[]} others
+   */
+  const call = (text, callee, others) => node("CallExpression", text, { callee, arguments: others, optional: false });
+  const inner = call(`import("a")`, identifier("import"), [string("a")]);
+  const last = source.indexOf("import()");
+  const callee = { ...identifier("import"), range: /** @type {[number, number]} */ ([last, last + "import".length]) };
+  const expressions = [
+    call(`f(import("a"))`, identifier("f"), [inner]), call("import()", callee, []), call(`g("b")`, null, [string("b")]),
+  ];
+  const statements = expressions.map((expression) => {
+    return { type: "ExpressionStatement", range: expression.range, expression };
+  });
+  assert.deepEqual(dependencies(source, statements), [{ argument: "a" }]);
+});
+
+test("a class whose decorators are null", () => {
+  const node = maker("class A {}");
+  const members = { id: node("Identifier", "A", { name: "A" }), body: node("ClassBody", "{}", { body: [] }) };
+  const declaration = node("ClassDeclaration", "class A {}", { ...members, decorators: null });
+  assert.deepEqual(answerToTree("class A {}", [declaration]), { script: true });
+});
+
 test("Babel's keys that are numbers are no strings", () => {
   const source = `import("a", { with: { 1n: "b" } }); import("c", { with: { "1": "d" } });`;
   const node = maker(source);

@@ -14,6 +14,9 @@ const PARTS = new Set([
   "TemplateElement", "BinaryExpression", "CallExpression",
 ]);
 
+/** Names of callees whose calls are dependencies; some parsers have `import` as an identifier. */
+const CALLED = new Set(["import", "require"]);
+
 const FUNCTIONS = new Set(["FunctionDeclaration", "FunctionExpression", "ArrowFunctionExpression"]);
 const METHODS = new Set(["ObjectMethod", "ClassMethod", "ClassPrivateMethod"]);
 const OUTSIDE_OF_METHODS = new Set(["decorators", "key"]);
@@ -71,7 +74,7 @@ function isAwait({ type, await: isAwaited, kind }) {
 function isRelevant(node, inFunction) {
   const { type, callee, typeArguments, typeParameters } = node;
   const isCall = type === "CallExpression" &&
-    (callee.type === "Import" || callee.name === "require" || typeArguments || typeParameters);
+    (callee?.type === "Import" || CALLED.has(callee?.name) || typeArguments || typeParameters);
   return RELEVANT.has(type) || isCall || (!inFunction && isAwait(node));
 }
 
@@ -82,13 +85,14 @@ function isRelevant(node, inFunction) {
  * @returns {object}
  */
 function written(node, inFunction) {
-  const { type, decorators = [] } = node;
+  const { type, decorators } = node;
   if (PARTS.has(type) || isRelevant(node, inFunction)) {
     const members = membersOf(node).map(([name, value]) => [name, valueOf(value, inFunction)]);
     return { ...Object.fromEntries(members), ...rangeOf(node) };
   }
   // A statement begins with its decorators.
-  const first = decorators.slice(0, 1).map((/** @type {Node} */ each) => ({ type: "Other", ...rangeOf(each) }));
+  const first = (decorators ?? []).slice(0, 1)
+    .map((/** @type {Node} */ each) => ({ type: "Other", ...rangeOf(each) }));
   return { type: "Other", ...rangeOf(node), decorators: first, body: relevantBelow(node, inFunction) };
 }
 
