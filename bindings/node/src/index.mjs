@@ -180,6 +180,7 @@ export class Modinfo {
       const report = error instanceof ModinfoFault
         ? await this.#report(command, document, signal).catch(() => undefined)
         : undefined;
+      signal?.throwIfAborted();
       throw report?.fault ? faultWith(report) : error;
     }
   }

@@ -5,6 +5,7 @@ import { spawnSync } from "node:child_process";
 import { chmodSync, existsSync, readdirSync, readFileSync, writeFileSync } from "node:fs";
 import { join } from "node:path";
 import { test } from "node:test";
+import { setTimeout } from "node:timers/promises";
 import { fileURLToPath } from "node:url";
 
 import { Modinfo, ModinfoFault, ProgramEnd, moduleInfo } from "../src/index.mjs";
@@ -293,11 +294,11 @@ test("disposing of it closes it", async () => {
 });
 
 /**
- * A program that refuses all documents of `analyze`, and reports this.
- * @param {object} report
+ * A program that refuses all documents, and reports this, or never anything.
+ * @param {object} [report]
  */
 function refusing(report) {
-  const folder = folderOf({ report: `${JSON.stringify(report)}\n` });
+  const folder = folderOf({ report: report ? `${JSON.stringify(report)}\n` : "" });
   const path = join(folder, "modinfo");
   writeFileSync(path, `#!/bin/sh
 while read -r line; do
@@ -331,6 +332,27 @@ test("a fault has its report where the call asks for it", async () => {
     assert.deepEqual(await modinfo.analyze(numbered(1).document, { report: true }), numbered(1).info);
   });
 });
+
+/** @type {[name: string, call: (modinfo: Modinfo, signal: AbortSignal) => Promise<unknown>][]} */
+const REPORTING = [
+  ["analyze", (modinfo, signal) => modinfo.analyze("{}", { report: true, signal })],
+  ["moduleInfo", (modinfo, signal) => modinfo.moduleInfo("(", "file:///a.js", undefined, { signal })],
+];
+
+for (const [name, call] of REPORTING) {
+  test(`${name} is aborted while it waits for the report`, async () => {
+    const { path, starts } = noted(refusing());
+    await using(path, async (modinfo) => {
+      const controller = new AbortController();
+      const aborted = assert.rejects(call(modinfo, controller.signal), { message: "enough" });
+      while (!starts().some(({ command }) => command === "check")) {
+        await setTimeout(10);
+      }
+      controller.abort(new Error("enough"));
+      await aborted;
+    });
+  });
+}
 
 test("the reports of modinfo itself", { skip: isMissing }, async () => {
   await using(MODINFO, async (modinfo) => {
