@@ -60,8 +60,8 @@ export class Modinfo {
    * @param specifier an absolute URL
    * @param mediaType else by the end of the specifier
    * @throws {ModinfoFault} `Syntax`: the text has a syntax error, whose `line` and `column` the fault has.
-   *   `Input`: it has a lone surrogate. `Specifier`: the specifier is no URL. `Tree`: there is no such
-   *   media type. `OutOfMemory`
+   *   `Input`: it has a lone surrogate. `Specifier`: the specifier is no URL, or has a lone surrogate.
+   *   `Tree`: there is no such media type. `OutOfMemory`
    * @throws {ProgramEnd} a process ended twice before the result or can't be started, or `close` was called
    *   before
    * @throws {TypeError} the text is no string, or the specifier neither a string nor a `URL`
@@ -256,7 +256,7 @@ export class ModinfoFault extends Error {
   private constructor();
   readonly name: "ModinfoFault";
   readonly fault: FaultName;
-  /** Where the call asked for it, but for `OutOfMemory`. */
+  /** Where the call asked for it, but for `OutOfMemory`, and a lone surrogate in a text or a specifier. */
   readonly report?: FaultReport;
   /** Of `Syntax`, from one. */
   readonly line?: number;

@@ -10,7 +10,7 @@ import { estreeDocument } from "./document/estree_document.cjs";
 import { readGraphOptions, graphOf } from "./graph/graph_service.mjs";
 import { readResolveOptions, resolveInfo } from "./graph/resolve_service.mjs";
 import { checkKnown, readJobs, readSignal, unlessAborted } from "./runtime/call_options.mjs";
-import { checkedForm, describeReport, jsonOf, utf8Of, withPlace } from "./runtime/check_input.mjs";
+import { checkedForm, describeReport, hasLoneSurrogate, jsonOf, utf8Of, withPlace } from "./runtime/check_input.mjs";
 import { checkCommand, documentCommand, lineOf } from "./runtime/commands.mjs";
 import { ModinfoFault, ProgramEnd } from "./runtime/errors.cjs";
 import { Pool } from "./runtime/pool.mjs";
@@ -232,6 +232,7 @@ function faultWith(report) {
  * @param {any} specifier
  * @returns {string}
  * @throws {TypeError} the text is no string, or the specifier neither a string nor a `URL`
+ * @throws {ModinfoFault} the specifier has a lone surrogate
  */
 function urlText(text, specifier) {
   if (typeof text !== "string") {
@@ -240,6 +241,9 @@ function urlText(text, specifier) {
   const url = specifier?.href ?? specifier;
   if (typeof url !== "string") {
     throw new TypeError(`specifier must be an absolute URL, and is ${String(specifier)}`);
+  }
+  if (hasLoneSurrogate(url)) {
+    throw new ModinfoFault("Specifier", "Specifier: an absolute URL has no lone surrogate");
   }
   return url;
 }

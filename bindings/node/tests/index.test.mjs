@@ -153,6 +153,11 @@ test("texts with a fault", { skip: isMissing }, async () => {
   await refused("a('\ud800')", { fault: "Input", message: "Input: a lone surrogate is no UTF-8" });
   await refused("(".repeat(100_000), { fault: "Syntax", line: 1 });
   await refused("", { fault: "Specifier" }, ["./a.ts"]);
+  const url = "file:///\ud800.ts";
+  await refused("", { fault: "Specifier", message: "Specifier: an absolute URL has no lone surrogate" }, [url]);
+  const tree = { type: "Program", start: 0, end: 0, body: [], comments: [] };
+  await assert.rejects(modinfo.analyzeEstree(tree, "", url, "TypeScript"), { fault: "Specifier" });
+  await assert.rejects(modinfo.analyzeEstree(tree, "\ud800", "file:///a.ts", "TypeScript"), { fault: "Input" });
   await refused("", { fault: "Tree" }, ["file:///a.ts", "TypeScripts"]);
   assert.deepEqual(await modinfo.moduleInfo("<a>{import('b')}</a>", "file:///a.ts", "Tsx"), {
     dependencies: [{ argument: "b", argumentRange: [[0, 11], [0, 14]], type: "dynamic" }], script: true,

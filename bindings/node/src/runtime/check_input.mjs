@@ -26,6 +26,11 @@ export function jsonOf(document) {
   return json;
 }
 
+/** @param {string} text */
+export function hasLoneSurrogate(text) {
+  return LONE_SURROGATE.test(text);
+}
+
 /**
  * @template {string | Uint8Array} T
  * @param {T} text
@@ -33,7 +38,7 @@ export function jsonOf(document) {
  * @throws {ModinfoFault} it has a lone surrogate
  */
 export function utf8Of(text) {
-  if (typeof text === "string" && LONE_SURROGATE.test(text)) {
+  if (typeof text === "string" && hasLoneSurrogate(text)) {
     throw new ModinfoFault("Input", "Input: a lone surrogate is no UTF-8");
   }
   return text;
@@ -49,7 +54,7 @@ export function checkedForm(json) {
   if (typeof json !== "string") {
     return Buffer.from(json);
   }
-  if (!LONE_SURROGATE.test(json)) {
+  if (!hasLoneSurrogate(json)) {
     return json;
   }
   return Buffer.concat([Buffer.from(json.slice(0, json.search(LONE_SURROGATE))), NO_UTF8]);
