@@ -130,8 +130,8 @@ export class Modinfo {
   check(document: object | string | Uint8Array, options?: CheckOptions): Promise<Report>;
 
   /**
-   * What the specifiers of a module resolve to, in a copy of its `ModuleInfo`. Files are looked for
-   * when it is called; each package.json is read once for each `Modinfo`.
+   * What the specifiers of a module resolve to, in a copy of its `ModuleInfo`. Each call looks for files
+   * and reads each package.json anew.
    * @throws {TypeError} an option isn't what it has to be
    */
   resolve(information: ModuleInfo, options: ResolveOptions): Promise<ResolvedModuleInfo>;

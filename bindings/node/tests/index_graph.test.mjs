@@ -132,6 +132,8 @@ test("the specifiers of a ModuleInfo are resolved in a copy", async () => {
   assert.deepEqual((await classes({ root: [join(folder, "node_modules")] }))?.[1], outside);
   const text = await modinfo.resolve(info, { specifier: specifier.href, types: false });
   assert.deepEqual(text.dependencies?.[1].resolved, file);
+  writeFileSync(join(folder, "node_modules/p/package.json"), `{"exports":"./s.js"}`);
+  assert.deepEqual(await classes(), [inPackage("s.js"), file]);
 });
 
 /** @param {Error} reason */
