@@ -4,9 +4,9 @@
 const { ModinfoFault, ProgramEnd } = require("./runtime/errors.cjs");
 const { estreeDocument } = require("./document/estree_document.cjs");
 
-const METHODS = [
-  "analyze", "analyzeEstree", "check", "close", "convert", "graph", "moduleInfo", "reach", "resolve",
-];
+/** Methods whose first argument is a document. */
+const OF_DOCUMENTS = ["analyze", "check", "convert", "reach"];
+const METHODS = [...OF_DOCUMENTS, "analyzeEstree", "close", "graph", "moduleInfo", "resolve"];
 
 class Modinfo {
   #started;
@@ -23,10 +23,23 @@ class Modinfo {
    * @param {any[]} words
    */
   static async call(modinfo, name, words) {
+    const kept = OF_DOCUMENTS.includes(name) ? [documentNow(words[0]), ...words.slice(1)] : words;
     /** @type {any} */
     const started = await modinfo.#started;
-    return started[name](...words);
+    return started[name](...kept);
   }
+}
+
+/**
+ * A document as it is at the call, since the caller may change it before the ES module is there.
+ * @param {unknown} document
+ * @returns {unknown} a copy of bytes, and the JSON of what has one
+ */
+function documentNow(document) {
+  if (typeof document === "string") {
+    return document;
+  }
+  return document instanceof Uint8Array ? Uint8Array.from(document) : JSON.stringify(document) ?? document;
 }
 
 /** @type {any} */

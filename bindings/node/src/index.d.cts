@@ -49,10 +49,15 @@ export interface ModinfoOptions {
  * Processes of `modinfo` for each command, and for the checks of each, started as calls come. Any number of
  * calls may be under way: a small one waits for a large one only where all processes have one. What a
  * process held that ended is tried once more. While nothing is under way, no process keeps node from
- * ending. An option that there isn't is a `TypeError`.
+ * ending. An option that there isn't is a `TypeError`. All arguments are read at the call; by `require`
+ * trees, options and the information for `resolve` later, and may not be changed before the result.
  */
 export class Modinfo {
-  /** @throws {ProgramEnd} no `program` is named, and none is found; by `require` its calls are rejected with it */
+  /**
+   * By `require` it throws nothing: its calls are rejected with the error.
+   * @throws {ProgramEnd} no `program` is named, and none is found
+   * @throws {TypeError} an option isn't what it has to be
+   */
   constructor(options?: ModinfoOptions);
 
   /**

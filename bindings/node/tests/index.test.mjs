@@ -3,6 +3,7 @@
 import assert from "node:assert/strict";
 import { spawnSync } from "node:child_process";
 import { chmodSync, existsSync, readdirSync, readFileSync, writeFileSync } from "node:fs";
+import { createRequire } from "node:module";
 import { join } from "node:path";
 import { test } from "node:test";
 import { setTimeout } from "node:timers/promises";
@@ -210,6 +211,30 @@ test("by require it is the same", { skip: isMissing }, () => {
       await new Modinfo({ program: 1 }).reach("{}").catch(({ name }) => console.log(name));
     });`, []), "./a.js { script: true }\ntrue Syntax\ntrue\nTypeError\n");
 });
+
+/** @type {[command: "analyze" | "check" | "convert" | "reach", document: any, answer: unknown][]} */
+const AT_THE_CALL = [
+  ["analyze", numbered(1).document, numbered(1).info], ["check", numbered(1).document, { valid: true }],
+  ["convert", { a: 1 }, { a: 1 }], ["reach", { root: "a", modules: {} }, []],
+];
+
+/** @type {[string, typeof Modinfo][]} */
+const CLASSES = [["import", Modinfo], ["require", createRequire(import.meta.url)("../src/index.cjs").Modinfo]];
+for (const [name, Class] of CLASSES) {
+  test(`documents are read at the call, by ${name}`, { skip: isMissing }, async () => {
+    const modinfo = new Class({ program: MODINFO });
+    for (const [command, document, answer] of AT_THE_CALL) {
+      const [bytes, object] = [Buffer.from(JSON.stringify(document)), structuredClone(document)];
+      const answers = [modinfo[command](bytes), modinfo[command](object)];
+      bytes.fill(" ");
+      Object.keys(object).forEach((member) => delete object[member]);
+      assert.deepEqual(await Promise.all(answers), [answer, answer], command);
+    }
+    await assert.rejects(modinfo.analyze(unchecked(undefined)), { name: "TypeError", message: /and is undefined$/ });
+    await assert.rejects(modinfo.convert({ a: 1n }), { name: "TypeError" });
+    await modinfo.close();
+  });
+}
 
 test("the plain function", { skip: isMissing }, async () => {
   assert.deepEqual(await moduleInfo(numbered(1).document.source, "file:///a.js"), numbered(1).info);
