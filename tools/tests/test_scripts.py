@@ -73,9 +73,19 @@ def test_mutations(mutations: Repository, words: list[str], status: int, printed
     assert mutations.run("git", "status", "--porcelain") == (0, "", "")
 
 
+# How often the version is in the files of the packages for npm and of the tests of the program.
+VERSIONED = {
+    "bindings/node/package.json": 3,
+    "bindings/node/linux-arm64/package.json": 1,
+    "bindings/node/linux-x64/package.json": 1,
+    "bindings/node/README.md": 3,
+    "crates/test_replay/data/program.rows": 2,
+}
+
+
 def test_a_new_version(repository: Repository) -> None:
     """All but the sources in Rattle get it; what is left with another version is named."""
-    crates = ["crates/modinfo/src", "crates/modinfo_c/src"]
+    crates = ["crates/modinfo/src", "crates/modinfo_c/src", "crates/test_replay/data"]
     copy_tracked(repository, "VERSION", "bindings", "include", "packaging", "tools", "*.md", *crates)
     repository.run("git", "init", "-q")
     command = ["python3", "tools/set_version"]
@@ -86,9 +96,16 @@ def test_a_new_version(repository: Repository) -> None:
     status, output, _ = repository.run(*command)
     assert (status, output.splitlines()) == (1, named)
     assert repository.run(*command, "--check")[1].splitlines() == named
+    texts = [(repository.folder / name).read_text() for name in VERSIONED]
+    assert [text.count("12.3.45") for text in texts] == list(VERSIONED.values())
+    assert not any(VERSION in text for text in texts)
     cargo = (repository.folder / "bindings/rust/Cargo.toml").read_text()
     repository.write("bindings/rust/Cargo.toml", cargo.replace("12.3.45", VERSION))
     old = "bindings/rust/Cargo.toml doesn't have the version 12.3.45: run tools/set_version"
     assert old in repository.run(*command, "--check")[1]
+    repository.write("bench/log/old.md", f"modinfo {VERSION}\n")
+    repository.write("packaging/new.json", f'{{\n  "name": "modinfo-new",\n  "version": "{VERSION}"\n}}\n')
+    new = f"packaging/new.json has the version {VERSION}: change it by hand"
+    assert repository.run(*command, "--check")[1].splitlines() == [old, *named, new]
     repository.write("bindings/rust/Cargo.toml", "")
     assert 'bindings/rust/Cargo.toml doesn\'t have name = "modinfo"' in repository.run(*command, "--check")[1]

@@ -404,7 +404,7 @@ describe("the package and that of its program", { skip: noNpm && "npm isn't ther
     const folder = folderOf();
     /** @type {[words: string[], message: RegExp][]} */
     const refused = [
-      [["--program", executable("echo modinfo 9.9.9")], /prints 'modinfo 9\.9\.9', not 'modinfo \d/],
+      [["--program", executable("echo modinfo 9")], /prints 'modinfo 9', not 'modinfo \d/],
       [["--program", join(folder, "none")], /there is no program .*none: \.\/modinfo --prove makes it/],
       [["--target", "aarch64", "--program", join(folder, "none")], /none: tools\/prove_modinfo --target aarch64 makes it/],
     ];
