@@ -422,6 +422,26 @@ describe("the package and that of its program", { skip: noNpm && "npm isn't ther
   });
 });
 
+test("a package of the program with another version than the package is refused", () => {
+  const { version } = JSON.parse(read("package.json"));
+  const [main, platform] = ["package.json", "linux-x64/package.json"];
+  /** @type {[file: string, place: string, message: string][]} */
+  const refused = [
+    [platform, `"version": "${version}"`, `modinfo-linux-x64 has the version '9', not '${version}'`],
+    [main, `"modinfo-linux-x64": "${version}"`, `modinfo doesn't ask for version ${version} of modinfo-linux-x64`],
+  ];
+  for (const [file, place, message] of refused) {
+    const names = ["tools/help.bash", ...["pack", main, platform].map((name) => `bindings/node/${name}`)];
+    const texts = Object.fromEntries(names.map((name) => [name, read(`../../${name}`)]));
+    const other = read(file).replace(place, place.replace(version, "9"));
+    const folder = folderOf({ ...texts, [`bindings/node/${file}`]: other });
+    const words = [join(folder, "bindings/node/pack"), "--program", standInWithVersion(), join(folder, "packages")];
+    const { stderr, status } = spawnSync("bash", words);
+    assert.deepEqual([String(stderr), status], [`bindings/node/pack: ${message}\n`, 1]);
+    assert.deepEqual(readdirSync(join(folder, "packages")), []);
+  }
+});
+
 describe("the package of the program for aarch64", { skip: noNpm && "npm isn't there" }, () => {
   /** Has node take this machine's processor for another one. */
   const OTHER_PROCESSOR = `data:text/javascript,Object.defineProperty(process, "arch", { value: "arm64" })`;
