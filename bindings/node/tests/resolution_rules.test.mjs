@@ -126,6 +126,40 @@ test("paths, baseUrl and rootDirs, also of what a configuration extends", () => 
   ]);
 });
 
+test("targets of paths are in the baseUrl of all configurations, else in the folder of theirs", () => {
+  const [base, paths] = [{ baseUrl: "./src" }, { paths: { "@/*": ["./lib/*"] } }];
+  const places = ["lib/x.ts", "src/lib/x.ts", "config/lib/x.ts", "config/src/lib/x.ts"];
+  /** @type {[own: object, extended: object, expected: string][]} By TypeScript 4.8. */
+  const rows = [
+    [paths, base, "config/src/lib/x.ts"], [base, paths, "src/lib/x.ts"], [base, { ...base, ...paths }, "src/lib/x.ts"],
+    [{}, paths, "config/lib/x.ts"], [{}, { ...base, ...paths }, "config/src/lib/x.ts"], [paths, paths, "lib/x.ts"],
+  ];
+  for (const [own, extended, expected] of rows) {
+    const folder = folderOf({
+      "tsconfig.json": JSON.stringify({ extends: "./config/base.json", compilerOptions: own }),
+      "config/base.json": JSON.stringify({ compilerOptions: extended }), ...Object.fromEntries(places.map((each) => [each, ""])),
+    });
+    assert.deepEqual(found(folder, "main.ts", ["@/x"]), [`${expected} by tsconfig`], JSON.stringify([own, extended]));
+  }
+});
+
+test("configDir is the folder of the configuration that extends others", () => {
+  const folder = folderOf({
+    "tsconfig.json": `{"files":[],"references":[{"path":"./tsconfig.app.json"},{"path":"./tsconfig.test.json"}]}`,
+    "tsconfig.app.json": `{"extends":"./config/base.json"}`,
+    "tsconfig.test.json": `{"extends":"./config/base.json","files":["test/d.ts"],"include":[],"compilerOptions":{"paths":{"@/*":["./test/*"]}}}`,
+    "config/base.json": JSON.stringify({
+      files: ["${configDir}/one.ts"], include: ["${configDir}/src"], exclude: ["${configDir}/src/out"],
+      compilerOptions: { paths: { "@/*": ["${configDir}/src/*"] } },
+    }),
+    "one.ts": "", "src/a.ts": "", "src/b.ts": "", "src/out/c.ts": "", "test/b.ts": "", "test/d.ts": "",
+  });
+  for (const [from, expected] of [["one.ts", "src/b.ts"], ["src/a.ts", "src/b.ts"], ["test/d.ts", "test/b.ts"]]) {
+    assert.deepEqual(found(folder, from, ["@/b"]), [`${expected} by tsconfig`], from);
+  }
+  assert.deepEqual(found(folder, "src/out/c.ts", ["@/b"]), ["missing"]);
+});
+
 test("packages of a workspace whose files aren't built, or that aren't installed", () => {
   const folder = folderOf({
     "package.json": `{"workspaces":["packages/*","tools/one"]}`, "packages/app/src/main.ts": "", "packages/app/package.json": "{}",

@@ -20,10 +20,14 @@ const HAS_WILDCARD = /[*?]/;
 const HAS_EXTENSION = /\.[^./]+$/;
 const MODULES = "/node_modules/";
 
+/** Stands for the folder of the configuration that extends all others. */
+const CONFIG_DIR = /^\$\{configDir\}/i;
+
 /**
  * @typedef {object} Options those that decide what names lead to, with absolute paths
  * @property {string} [baseUrl]
- * @property {Map<string, string[]>} [paths] absolute patterns by the patterns of names
+ * @property {Map<string, string[]>} [paths] targets by the patterns of names, as they are written
+ * @property {string} [pathsFolder] the folder of the configuration that has `paths`
  * @property {string[]} [rootDirs]
  * @property {string} [rootDir]
  * @property {string[]} [outDirs] those of the JavaScript and of the declarations
@@ -155,6 +159,7 @@ export class Configurations {
   #extended(path, extending) {
     const members = this.#membersOf(path);
     const paths = [...extending, path];
+    const main = dirname(paths[0]);
     /** @type {{ options: Options, members: Record<string, unknown> }} */
     const all = { options: {}, members: {} };
     for (const name of [members.extends ?? []].flat()) {
@@ -168,8 +173,8 @@ export class Configurations {
         Object.assign(all.members, inherited, { references: undefined });
       }
     }
-    Object.assign(all.options, this.#optionsOf(path, members.compilerOptions, paths[0]));
-    Object.assign(all.members, listsOf(members, dirname(path)), { references: members.references });
+    Object.assign(all.options, this.#optionsOf(path, members.compilerOptions, main));
+    Object.assign(all.members, listsOf(members, dirname(path), main), { references: members.references });
     return all;
   }
 
@@ -207,7 +212,7 @@ export class Configurations {
   /**
    * @param {string} path
    * @param {unknown} options
-   * @param {string} main the path of the configuration that extends all
+   * @param {string} main the folder of the configuration that extends all
    * @returns {Options}
    */
   #optionsOf(path, options = {}, main) {
@@ -216,15 +221,15 @@ export class Configurations {
       return {};
     }
     const own = new Members(options, (why) => this.#note(path, why));
-    const at = (/** @type {string} */ name) => {
-      return absolute(dirname(path), name.replace(/^\$\{configDir\}/, dirname(main)));
-    };
+    const folder = dirname(path);
+    const at = (/** @type {string} */ name) => absolute(folder, withFolder(name, main));
     const baseUrl = own.text("baseUrl");
-    const base = baseUrl === undefined ? dirname(path) : at(baseUrl);
+    const paths = own.paths((target) => withFolder(target, main));
     const outDirs = [own.text("outDir"), own.text("declarationDir")].flatMap((each) => each ?? []).map(at);
     return withoutAbsent({
-      baseUrl: baseUrl === undefined ? undefined : base,
-      paths: own.paths((target) => absolute(base, target.replace(/^\$\{configDir\}/, dirname(main)))),
+      baseUrl: baseUrl === undefined ? undefined : at(baseUrl),
+      paths,
+      pathsFolder: paths && folder,
       rootDirs: own.texts("rootDirs")?.map(at),
       rootDir: own.texts("rootDir")?.map(at)[0],
       outDirs: outDirs.length > 0 ? outDirs : undefined,
@@ -285,8 +290,8 @@ class Members {
     return this.#shaped(name, textsOf, "list of texts");
   }
 
-  /** @param {(target: string) => string} absolutePath @returns {Map<string, string[]> | undefined} */
-  paths(absolutePath) {
+  /** @param {(target: string) => string} targetOf @returns {Map<string, string[]> | undefined} */
+  paths(targetOf) {
     const paths = this.#shaped("paths", (value) => (isObject(value) ? value : undefined), "object");
     if (!paths) {
       return undefined;
@@ -295,7 +300,7 @@ class Members {
     for (const [pattern, targets] of Object.entries(paths)) {
       const texts = Array.isArray(targets) ? textsOf(targets) : undefined;
       if (texts) {
-        found.set(pattern, texts.map(absolutePath));
+        found.set(pattern, texts.map(targetOf));
       } else {
         this.#note(`${JSON.stringify(pattern)} of "paths" is passed over: it is no list of texts`);
       }
@@ -354,12 +359,22 @@ function configurationOf(path, options, { files, include, exclude }, references)
 /**
  * @param {Record<string, unknown>} members
  * @param {string} folder
+ * @param {string} main the folder of the configuration that extends all
  */
-function listsOf(members, folder) {
+function listsOf(members, folder, main) {
   return withoutAbsent(Object.fromEntries(["files", "include", "exclude"].map((name) => {
     const texts = Array.isArray(members[name]) ? textsOf(members[name]) : undefined;
-    return [name, texts?.map((each) => absolute(folder, each.replace(/^\$\{configDir\}/, ".")))];
+    return [name, texts?.map((each) => absolute(folder, withFolder(each, main)))];
   })));
+}
+
+/**
+ * @param {string} path
+ * @param {string} folder
+ * @returns {string} the path with the folder in place of `${configDir}`
+ */
+function withFolder(path, folder) {
+  return path.replace(CONFIG_DIR, () => `${folder}/`);
 }
 
 /**

@@ -74,10 +74,10 @@ export class ConfiguredNames {
       return [mapped];
     }
     const { options } = this.#configurations.of(importer) ?? {};
-    const { baseUrl, paths: patterns, rootDirs } = options ?? {};
+    const { baseUrl, rootDirs } = options ?? {};
     const paths = IS_PATH.test(specifier)
       ? inRootDirs(specifier, importer, rootDirs)
-      : [...inPaths(specifier, patterns), ...(baseUrl ? [absolute(baseUrl, specifier)] : [])];
+      : [...inPaths(specifier, options), ...(baseUrl ? [absolute(baseUrl, specifier)] : [])];
     return paths.length > 0 ? [{ by: "tsconfig", paths }] : [];
   }
 
@@ -127,16 +127,13 @@ export class ConfiguredNames {
 /**
  * The paths of a name by `paths`: of the pattern that it is, else of the longest one for it.
  * @param {string} specifier
- * @param {Map<string, string[]>} [paths]
+ * @param {import("./configurations.mjs").Options} [options]
  * @returns {string[]}
  */
-function inPaths(specifier, paths = new Map()) {
-  const own = paths.get(specifier);
-  if (own) {
-    return own;
-  }
-  const best = longestPattern([...paths.keys()], specifier);
-  return best ? (paths.get(best.key) ?? []).map((each) => each.replace("*", () => best.match)) : [];
+function inPaths(specifier, { baseUrl, paths = new Map(), pathsFolder = "" } = {}) {
+  const best = paths.has(specifier) ? undefined : longestPattern([...paths.keys()], specifier);
+  const targets = paths.get(best?.key ?? specifier) ?? [];
+  return targets.map((each) => absolute(baseUrl ?? pathsFolder, best ? each.replace("*", () => best.match) : each));
 }
 
 /**
