@@ -68,6 +68,36 @@ test("in TypeScript a TypeScript file comes first, in JavaScript a file of JavaS
   assert.deepEqual(found(folder, "a.js", names), ["b.js by bundler", "b.js", ...others]);
 });
 
+test("a name that ends as a folder's leads to no file beside the folder", () => {
+  /** @type {[from: string, name: string, expected: string][]} By TypeScript 4.8 and by node's require. */
+  const rows = [
+    ["a", "./utils", "utils"], ["a", "./utils/", "utils/index"], ["a", "./utils/.", "utils/index"],
+    ["a", "./utils/deep/..", "utils/index"], ["utils/y", ".", "utils/index"], ["utils/y", "./", "utils/index"],
+    ["utils/deep/x", "..", "utils/index"], ["utils/deep/x", "../", "utils/index"],
+    ["utils/deep/x", "../.", "utils/index"],
+  ];
+  for (const ending of ["ts", "js"]) {
+    const folder = folderOf({ [`utils.${ending}`]: "", [`utils/index.${ending}`]: "", [`utils/deep/x.${ending}`]: "" });
+    for (const [from, name, expected] of rows) {
+      const module = `${from}.${ending}`;
+      const byBundler = `${expected}.${ending} by bundler`;
+      const required = ending === "js" ? `${expected}.js` : byBundler;
+      assert.deepEqual(found(folder, module, [name]), [byBundler], `${name} in ${module}`);
+      assert.deepEqual(found(folder, module, [name], { kind: "require" }), [required], `${name} in ${module}`);
+    }
+  }
+  const folder = folderOf({
+    "tsconfig.json": `{"compilerOptions":{"baseUrl":".","paths":{"@/*":["./src/*"],"exact":["./src/utils/"]}}}`,
+    "src/utils.ts": "", "src/utils/index.ts": "", "node_modules/p/u.ts": "", "node_modules/p/u/index.ts": "",
+  });
+  const names = ["@/utils", "@/utils/", "exact", "src/utils", "src/utils/", "p/u", "p/u/"];
+  assert.deepEqual(found(folder, "main.ts", names), [
+    "src/utils.ts by tsconfig", "src/utils/index.ts by tsconfig", "src/utils/index.ts by tsconfig",
+    "src/utils.ts by tsconfig", "src/utils/index.ts by tsconfig", "node_modules/p/u.ts by bundler",
+    "node_modules/p/u/index.ts by bundler",
+  ]);
+});
+
 test("what bundlers find of a package: files without endings, module, and other conditions", () => {
   const folder = folderOf({
     "package.json": `{"type":"module"}`, "a.js": "",
@@ -129,15 +159,17 @@ test("paths, baseUrl and rootDirs, also of what a configuration extends", () => 
 test("targets of paths are in the baseUrl of all configurations, else in the folder of theirs", () => {
   const [base, paths] = [{ baseUrl: "./src" }, { paths: { "@/*": ["./lib/*"] } }];
   const places = ["lib/x.ts", "src/lib/x.ts", "config/lib/x.ts", "config/src/lib/x.ts"];
+  const both = { ...base, ...paths };
   /** @type {[own: object, extended: object, expected: string][]} By TypeScript 4.8. */
   const rows = [
-    [paths, base, "config/src/lib/x.ts"], [base, paths, "src/lib/x.ts"], [base, { ...base, ...paths }, "src/lib/x.ts"],
-    [{}, paths, "config/lib/x.ts"], [{}, { ...base, ...paths }, "config/src/lib/x.ts"], [paths, paths, "lib/x.ts"],
+    [paths, base, "config/src/lib/x.ts"], [base, paths, "src/lib/x.ts"], [base, both, "src/lib/x.ts"],
+    [{}, paths, "config/lib/x.ts"], [{}, both, "config/src/lib/x.ts"], [paths, paths, "lib/x.ts"],
   ];
   for (const [own, extended, expected] of rows) {
     const folder = folderOf({
       "tsconfig.json": JSON.stringify({ extends: "./config/base.json", compilerOptions: own }),
-      "config/base.json": JSON.stringify({ compilerOptions: extended }), ...Object.fromEntries(places.map((each) => [each, ""])),
+      "config/base.json": JSON.stringify({ compilerOptions: extended }),
+      ...Object.fromEntries(places.map((each) => [each, ""])),
     });
     assert.deepEqual(found(folder, "main.ts", ["@/x"]), [`${expected} by tsconfig`], JSON.stringify([own, extended]));
   }
@@ -147,7 +179,10 @@ test("configDir is the folder of the configuration that extends others", () => {
   const folder = folderOf({
     "tsconfig.json": `{"files":[],"references":[{"path":"./tsconfig.app.json"},{"path":"./tsconfig.test.json"}]}`,
     "tsconfig.app.json": `{"extends":"./config/base.json"}`,
-    "tsconfig.test.json": `{"extends":"./config/base.json","files":["test/d.ts"],"include":[],"compilerOptions":{"paths":{"@/*":["./test/*"]}}}`,
+    "tsconfig.test.json": JSON.stringify({
+      extends: "./config/base.json", files: ["test/d.ts"], include: [],
+      compilerOptions: { paths: { "@/*": ["./test/*"] } },
+    }),
     "config/base.json": JSON.stringify({
       files: ["${configDir}/one.ts"], include: ["${configDir}/src"], exclude: ["${configDir}/src/out"],
       compilerOptions: { paths: { "@/*": ["${configDir}/src/*"] } },

@@ -10,6 +10,7 @@
 import { join, resolve as absolute } from "node:path";
 
 import { isDeclaration } from "./file_kinds.mjs";
+import { FOLDER } from "./node_rules.mjs";
 import { isObject } from "./package_targets.mjs";
 
 const SCRIPT_ENDINGS = [".js", ".jsx", ".mjs"];
@@ -56,14 +57,16 @@ export class BundlerRules {
 
   /**
    * The module of a path.
-   * @param {string} path absolute and normal
+   * @param {string} path absolute and normal, with a slash at its end if it can't be a file's
    * @param {{ isTypeScript: boolean, suffixes?: string[] }} importer whether TypeScript's files come
    *   first, and what names may have before their endings
    * @returns {Found}
    */
-  atPath(path, { isTypeScript, suffixes = [""] }) {
-    return this.#firstFile(this.#names(path, isTypeScript, suffixes)) ??
-      this.#asFolder(path, { isTypeScript, suffixes }) ?? { kind: "none", wanted: path };
+  atPath(path, importer) {
+    const { isTypeScript, suffixes = [""] } = importer;
+    const wanted = absolute(path);
+    const names = path.endsWith("/") ? [] : this.#names(path, isTypeScript, suffixes);
+    return this.#firstFile(names) ?? this.#asFolder(wanted, importer) ?? { kind: "none", wanted };
   }
 
   /**
@@ -74,7 +77,9 @@ export class BundlerRules {
    * @returns {Found}
    */
   inPackage(folder, rest, importer) {
-    return rest === "" ? this.#asFolder(folder, importer) ?? NONE : this.atPath(join(folder, rest), importer);
+    return rest === ""
+      ? this.#asFolder(folder, importer) ?? NONE
+      : this.atPath(pathOf(`.${rest}`, folder), importer);
   }
 
   /**
@@ -160,6 +165,17 @@ export function plainNames(specifier) {
   const name = specifier.replace(LOADERS, "");
   const plain = name.replace(QUERY, "");
   return [...new Set([name, plain])].filter((each) => each !== "");
+}
+
+/**
+ * The path of a name.
+ * @param {string} name
+ * @param {string} folder from which the name leads
+ * @returns {string} absolute and normal, with a slash at its end if the name can't be a file's
+ */
+export function pathOf(name, folder) {
+  const path = absolute(folder, name);
+  return FOLDER.test(name) ? join(path, "/") : path;
 }
 
 /**

@@ -11,8 +11,9 @@
  * @property {string} [name] another name for it, which no path is
  */
 
-import { dirname, join, relative, resolve as absolute, sep } from "node:path";
+import { dirname, join, relative, sep } from "node:path";
 
+import { pathOf } from "./bundler_rules.mjs";
 import { Configurations } from "./configurations.mjs";
 import { ImportMaps } from "./import_maps.mjs";
 import { longestPattern } from "./package_targets.mjs";
@@ -77,7 +78,7 @@ export class ConfiguredNames {
     const { baseUrl, rootDirs } = options ?? {};
     const paths = IS_PATH.test(specifier)
       ? inRootDirs(specifier, importer, rootDirs)
-      : [...inPaths(specifier, options), ...(baseUrl ? [absolute(baseUrl, specifier)] : [])];
+      : [...inPaths(specifier, options), ...(baseUrl ? [pathOf(specifier, baseUrl)] : [])];
     return paths.length > 0 ? [{ by: "tsconfig", paths }] : [];
   }
 
@@ -133,7 +134,7 @@ export class ConfiguredNames {
 function inPaths(specifier, { baseUrl, paths = new Map(), pathsFolder = "" } = {}) {
   const best = paths.has(specifier) ? undefined : longestPattern([...paths.keys()], specifier);
   const targets = paths.get(best?.key ?? specifier) ?? [];
-  return targets.map((each) => absolute(baseUrl ?? pathsFolder, best ? each.replace("*", () => best.match) : each));
+  return targets.map((each) => pathOf(best ? each.replace("*", () => best.match) : each, baseUrl ?? pathsFolder));
 }
 
 /**
@@ -147,10 +148,10 @@ function inRootDirs(specifier, importer, rootDirs = []) {
   if (rootDirs.length === 0) {
     return [];
   }
-  const path = absolute(dirname(importer), specifier);
+  const path = pathOf(specifier, dirname(importer));
   const inside = rootDirs.filter((each) => path.startsWith(each + sep))
     .sort((one, other) => other.length - one.length)[0];
-  return inside === undefined ? [] : rootDirs.map((each) => join(each, relative(inside, path)));
+  return inside === undefined ? [] : rootDirs.map((each) => join(each, path.slice(inside.length)));
 }
 
 /**

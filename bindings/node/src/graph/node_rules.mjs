@@ -44,7 +44,7 @@ const PLAIN_PATH = /^(?:\.{1,2}\/)+(?:[\w@+~-][\w.@+~-]*\/)*[\w@+~-][\w.@+~-]*$/
 /** What a `require` looks for in the importer's folder. */
 const BESIDE = /^\.(?:[./]|$)/;
 /** The names for which a `require` never takes a file. */
-const FOLDER = /(?:^|\/)\.{0,2}$/;
+export const FOLDER = /(?:^|\/)\.{0,2}$/;
 
 const PACKAGE = /^(@[^/]*\/[^/]*|[^@/][^/]*)(\/.*)?$/s;
 /** What no name of a package has. */

@@ -27,7 +27,7 @@
 import { isBuiltin } from "node:module";
 import { dirname, relative, resolve as absolute } from "node:path";
 
-import { BundlerRules, plainNames } from "./bundler_rules.mjs";
+import { BundlerRules, pathOf, plainNames } from "./bundler_rules.mjs";
 import { isDeclaration, isTypeScript } from "./file_kinds.mjs";
 import { NodeRules, packageName } from "./node_rules.mjs";
 import { PackageFolders } from "./package_folders.mjs";
@@ -197,7 +197,7 @@ export class Search {
     if (!importer.isTypeScript || !RELATIVE.test(specifier)) {
       return undefined;
     }
-    const path = absolute(dirname(importer.path), specifier);
+    const path = pathOf(specifier, dirname(importer.path));
     const found = this.#bundler.atPath(path, importer);
     if (found.kind !== "file" || isDeclaration(found.path) || !isTypeScript(found.path)) {
       return undefined;
@@ -241,11 +241,11 @@ export class Search {
    * @returns {Found}
    */
   #pathByBundler(name, importer) {
-    const found = this.#bundler.atPath(absolute(dirname(importer.path), name), importer);
+    const found = this.#bundler.atPath(pathOf(name, dirname(importer.path)), importer);
     const { folder } = this.#manifests.scopeOf(dirname(importer.path)) ?? {};
     // A server of a bundler has the project's folder as its root.
     return found.kind === "none" && name.startsWith("/") && folder !== undefined
-      ? this.#bundler.atPath(absolute(folder, `.${name}`), importer)
+      ? this.#bundler.atPath(pathOf(`.${name}`, folder), importer)
       : found;
   }
 
