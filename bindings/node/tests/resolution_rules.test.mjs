@@ -142,17 +142,19 @@ test("paths, baseUrl and rootDirs, also of what a configuration extends", () => 
   const folder = folderOf({
     "tsconfig.json": `{ // comments, and commas at the end
       "extends": ["./base.json", "shared"], /* the second one is a package */
-      "compilerOptions": { "rootDirs": ["src", "gen"], }, }`,
+      "compilerOptions": { "rootDirs": ["gen", "src"], }, }`,
     "base.json": JSON.stringify({
       compilerOptions: { baseUrl: "src", paths: { "@/*": ["*"], "@/sub/*": ["none/*", "sub/*"], exact: ["a.ts"], "x*y": ["*"] } },
     }),
     "node_modules/shared/tsconfig.json": `{"compilerOptions":{"outDir":"../../dist"}}`,
     "src/a.ts": "", "src/sub/b.ts": "", "src/lib/index.ts": "", "gen/c.ts": "", "src/m.ts": "", "dist/a.js": "",
+    "src/both.ts": "", "gen/both.ts": "",
   });
-  const names = ["@/a", "@/sub/b", "exact", "xmy", "lib", "./c", "sub/b", "@/none", "../dist/sub/b.js"];
+  const names = ["@/a", "@/sub/b", "exact", "xmy", "lib", "./c", "sub/b", "@/none", "../dist/sub/b.js", "./both"];
   assert.deepEqual(found(folder, "src/a.ts", names), [
     "src/a.ts by tsconfig", "src/sub/b.ts by tsconfig", "src/a.ts by tsconfig", "src/m.ts by tsconfig",
     "src/lib/index.ts by tsconfig", "gen/c.ts by tsconfig", "src/sub/b.ts by tsconfig", "missing", "src/sub/b.ts by tsconfig",
+    "src/both.ts by bundler",
   ]);
 });
 

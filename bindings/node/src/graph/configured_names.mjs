@@ -64,22 +64,28 @@ export class ConfiguredNames {
   }
 
   /**
-   * Where a name may be.
+   * Where a name may be, before other rules are asked.
    * @param {string} specifier
    * @param {string} importer the path of its file
-   * @returns {Configured[]} the first one first
+   * @returns {Configured | undefined}
    */
   find(specifier, importer) {
     const mapped = this.#importMaps.find(specifier, importer);
-    if (mapped) {
-      return [mapped];
+    if (mapped || IS_PATH.test(specifier)) {
+      return mapped;
     }
+    return byTsconfig(inNames(specifier, this.#configurations.of(importer)?.options));
+  }
+
+  /**
+   * Where a name may be that no other rule finds.
+   * @param {string} specifier
+   * @param {string} importer the path of its file
+   * @returns {Configured | undefined}
+   */
+  findElsewhere(specifier, importer) {
     const { options } = this.#configurations.of(importer) ?? {};
-    const { baseUrl, rootDirs } = options ?? {};
-    const paths = IS_PATH.test(specifier)
-      ? inRootDirs(specifier, importer, rootDirs)
-      : [...inPaths(specifier, options), ...(baseUrl ? [pathOf(specifier, baseUrl)] : [])];
-    return paths.length > 0 ? [{ by: "tsconfig", paths }] : [];
+    return IS_PATH.test(specifier) ? byTsconfig(inRootDirs(specifier, importer, options?.rootDirs)) : undefined;
   }
 
   /**
@@ -125,20 +131,36 @@ export class ConfiguredNames {
   }
 }
 
+/** @param {string[]} paths @returns {Configured | undefined} */
+function byTsconfig(paths) {
+  return paths.length > 0 ? { by: "tsconfig", paths } : undefined;
+}
+
 /**
- * The paths of a name by `paths`: of the pattern that it is, else of the longest one for it.
+ * The paths of a name that is none, by `paths` and `baseUrl`.
  * @param {string} specifier
  * @param {import("./configurations.mjs").Options} [options]
  * @returns {string[]}
  */
-function inPaths(specifier, { baseUrl, paths = new Map(), pathsFolder = "" } = {}) {
+function inNames(specifier, options = {}) {
+  const { baseUrl } = options;
+  return [...inPaths(specifier, options), ...(baseUrl === undefined ? [] : [pathOf(specifier, baseUrl)])];
+}
+
+/**
+ * The paths of a name by `paths`: of the pattern that it is, else of the longest one for it.
+ * @param {string} specifier
+ * @param {import("./configurations.mjs").Options} options
+ * @returns {string[]}
+ */
+function inPaths(specifier, { baseUrl, paths = new Map(), pathsFolder = "" }) {
   const best = paths.has(specifier) ? undefined : longestPattern([...paths.keys()], specifier);
   const targets = paths.get(best?.key ?? specifier) ?? [];
   return targets.map((each) => pathOf(best ? each.replace("*", () => best.match) : each, baseUrl ?? pathsFolder));
 }
 
 /**
- * The paths of a relative name in other folders that count as one.
+ * The paths of a relative name in folders that count as one.
  * @param {string} specifier
  * @param {string} importer
  * @param {string[]} [rootDirs]

@@ -163,28 +163,30 @@ export class Search {
    */
   #byRules(named, importer) {
     const { specifier } = named;
-    const first = this.#byConfiguration(specifier, importer) ?? this.#bySource(specifier, importer) ??
-      byScheme(specifier);
-    return first ?? this.#byNodeAndBundlers(named, importer);
+    const run = this.#byConfiguration(this.#names.find(specifier, importer.path), importer) ??
+      this.#bySource(specifier, importer) ?? byScheme(specifier) ?? this.#byNodeAndBundlers(named, importer);
+    return run.found.kind === "none"
+      ? this.#byConfiguration(this.#names.findElsewhere(specifier, importer.path), importer) ?? run
+      : run;
   }
 
   /**
-   * @param {string} specifier
+   * @param {import("./configured_names.mjs").Configured | undefined} configured
    * @param {Importer} importer
    * @returns {Run | undefined}
    */
-  #byConfiguration(specifier, importer) {
-    for (const { by, paths, name } of this.#names.find(specifier, importer.path)) {
-      const found = paths.map((path) => this.#bundler.atPath(path, importer)).find(({ kind }) => kind !== "none");
-      if (found) {
-        return { found, by };
-      }
-      if (name !== undefined) {
-        const scheme = byScheme(name);
-        return scheme ?? { ...this.#byNodeAndBundlers({ specifier: name, syntax: "import" }, importer), by };
-      }
+  #byConfiguration(configured, importer) {
+    if (!configured) {
+      return undefined;
     }
-    return undefined;
+    const { by, paths, name } = configured;
+    const found = paths.map((path) => this.#bundler.atPath(path, importer)).find(({ kind }) => kind !== "none");
+    if (found) {
+      return { found, by };
+    }
+    return name === undefined
+      ? undefined
+      : byScheme(name) ?? { ...this.#byNodeAndBundlers({ specifier: name, syntax: "import" }, importer), by };
   }
 
   /**
