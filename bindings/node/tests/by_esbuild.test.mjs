@@ -61,6 +61,13 @@ const PROJECTS = {
       "src/b.ts": "", "src/c/index.ts": `import "@/d";`, "src/d.ts": "",
     },
   },
+  "names of node's modules for a browser": {
+    entry: "src/main.ts", platform: "browser",
+    files: {
+      "tsconfig.json": `{"compilerOptions":{"baseUrl":"src","paths":{"os":["./shims/os.ts"]}}}`,
+      "src/main.ts": `import "constants"; import "os";`, "src/constants/index.ts": "", "src/shims/os.ts": "",
+    },
+  },
 };
 
 const NAME = /\b(?:import|from|require)\s*\(?\s*"([^"]*)"/g;

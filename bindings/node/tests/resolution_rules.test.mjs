@@ -177,6 +177,29 @@ test("targets of paths are in the baseUrl of all configurations, else in the fol
   }
 });
 
+test("a configuration that doesn't include a file has names for it after node", () => {
+  const folder = folderOf({
+    "tsconfig.json": JSON.stringify({
+      compilerOptions: { baseUrl: ".", paths: { "@/*": ["./src/*"], os: ["./src/os.ts"] } }, include: ["src"],
+    }),
+    "config/index.js": "", "path/index.js": "", "only/index.js": "", "node_modules/config/index.js": "",
+    "src/os.ts": "",
+  });
+  const names = ["config", "only", "@/os", "os", "path"];
+  const [own, ...common] = ["config/index.js", "only/index.js", "src/os.ts"].map((each) => `${each} by tsconfig`);
+  const included = [own, ...common, "src/os.ts by tsconfig", "builtin"];
+  /** @type {[from: string, expected: string[], conditions?: string[]][]} */
+  const rows = [
+    ["src/a.ts", included], ["src/a.js", included],
+    ["scripts/a.js", ["node_modules/config/index.js", ...common, "builtin", "builtin"]],
+    ["scripts/a.ts", ["node_modules/config/index.js", ...common, "builtin", "builtin"]],
+    ["src/a.js", [...included.slice(0, -1), "path/index.js by tsconfig"], ["browser"]],
+  ];
+  for (const [from, expected, conditions] of rows) {
+    assert.deepEqual(found(folder, from, names, { kind: "require", conditions }), expected, from);
+  }
+});
+
 test("configDir is the folder of the configuration that extends others", () => {
   const folder = folderOf({
     "tsconfig.json": `{"files":[],"references":[{"path":"./tsconfig.app.json"},{"path":"./tsconfig.test.json"}]}`,

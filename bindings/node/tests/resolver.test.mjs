@@ -200,6 +200,21 @@ test("the options of the nearest tsconfig.json, and of the project that includes
   assert.deepEqual(resolved(folder, "other/e.ts", names, { by }), expected);
 });
 
+test("types of a file that no configuration includes are those beside what runs", () => {
+  const folder = folderOf({
+    "tsconfig.json": `{"compilerOptions":{"baseUrl":"."},"include":["src"]}`,
+    "lib/index.d.ts": "", "lib/index.js": "", "node_modules/lib/index.d.ts": "", "node_modules/lib/index.js": "",
+  });
+  const names = [imported("lib")];
+  const expected = ["lib/index.js types lib/index.d.ts by tsconfig"];
+  const by = resolverOf({ tsconfig: join(folder, "tsconfig.json") });
+  assert.deepEqual(resolved(folder, "src/a.ts", names), expected);
+  assert.deepEqual(resolved(folder, "scripts/a.ts", names, { by }), expected);
+  assert.deepEqual(resolved(folder, "scripts/a.ts", names), [
+    "package lib node_modules/lib/index.js types node_modules/lib/index.d.ts",
+  ]);
+});
+
 test("what comments name", () => {
   const folder = folderOf({
     "a.js": "", "b.js": "", "t.d.ts": "", "c.ts": "",

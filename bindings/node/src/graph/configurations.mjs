@@ -49,7 +49,7 @@ export class Configurations {
   #fixed;
   /** @type {Map<string, Configuration | undefined>} */
   #byFolder = new Map();
-  /** @type {Map<string, Configuration>} Of files for which there are several. */
+  /** @type {Map<string, { configuration: Configuration, isIncluded: boolean }>} */
   #byFile = new Map();
   /** @type {Map<string, Configuration>} */
   #byPath = new Map();
@@ -74,13 +74,26 @@ export class Configurations {
    * @returns {Configuration | undefined} nothing for the file of an installed package
    */
   of(file) {
+    return this.#entryOf(file)?.configuration;
+  }
+
+  /**
+   * Whether the configuration for a file includes the file, or is for all files.
+   * @param {string} file absolute
+   * @returns {boolean}
+   */
+  isIncluded(file) {
+    return this.#entryOf(file)?.isIncluded ?? false;
+  }
+
+  /** @param {string} file */
+  #entryOf(file) {
     const nearest = file.includes(MODULES) ? undefined : this.#nearestOrFixed(dirname(file));
-    if (!nearest || nearest.references.length === 0) {
-      return nearest;
-    }
     let found = this.#byFile.get(file);
-    if (!found) {
-      found = this.#withReferences(nearest).find((each) => includes(each, file)) ?? nearest;
+    if (nearest && !found) {
+      const including = this.#withReferences(nearest).find((each) => includes(each, file));
+      const isIncluded = including !== undefined || this.#fixed !== undefined;
+      found = { configuration: including ?? nearest, isIncluded };
       this.#byFile.set(file, found);
     }
     return found;

@@ -11,6 +11,7 @@
  * @property {string} [name] another name for it, which no path is
  */
 
+import { isBuiltin } from "node:module";
 import { dirname, join, relative, sep } from "node:path";
 
 import { pathOf } from "./bundler_rules.mjs";
@@ -29,14 +30,18 @@ export class ConfiguredNames {
   #configurations;
   #importMaps;
   #manifests;
+  #isBrowser;
 
   /**
    * @param {import("../files/regular_files.mjs").RegularFiles} files
    * @param {import("./package_manifests.mjs").PackageManifests} manifests
-   * @param {string} [tsconfig] the absolute path of a configuration for all files
+   * @param {object} options
+   * @param {string} [options.tsconfig] the absolute path of a configuration for all files
+   * @param {readonly string[]} [options.conditions] with `browser`, names of node's modules are like others
    */
-  constructor(files, manifests, tsconfig) {
+  constructor(files, manifests, { tsconfig, conditions = [] }) {
     this.#configurations = new Configurations(files, tsconfig);
+    this.#isBrowser = conditions.includes("browser");
     this.#importMaps = new ImportMaps(files);
     this.#manifests = manifests;
   }
@@ -71,10 +76,8 @@ export class ConfiguredNames {
    */
   find(specifier, importer) {
     const mapped = this.#importMaps.find(specifier, importer);
-    if (mapped || IS_PATH.test(specifier)) {
-      return mapped;
-    }
-    return byTsconfig(inNames(specifier, this.#configurations.of(importer)?.options));
+    const isFirst = !mapped && !IS_PATH.test(specifier) && this.#configurations.isIncluded(importer);
+    return isFirst ? byTsconfig(this.#inNames(specifier, importer)) : mapped;
   }
 
   /**
@@ -84,8 +87,27 @@ export class ConfiguredNames {
    * @returns {Configured | undefined}
    */
   findElsewhere(specifier, importer) {
-    const { options } = this.#configurations.of(importer) ?? {};
-    return IS_PATH.test(specifier) ? byTsconfig(inRootDirs(specifier, importer, options?.rootDirs)) : undefined;
+    if (IS_PATH.test(specifier)) {
+      const { rootDirs } = this.#configurations.of(importer)?.options ?? {};
+      return byTsconfig(inRootDirs(specifier, importer, rootDirs));
+    }
+    return this.#configurations.isIncluded(importer) ? undefined : byTsconfig(this.#inNames(specifier, importer));
+  }
+
+  /**
+   * The paths of a name that isn't a path, by `paths` and `baseUrl`.
+   * @param {string} specifier
+   * @param {string} importer
+   * @returns {string[]}
+   */
+  #inNames(specifier, importer) {
+    const { options = {} } = this.#configurations.of(importer) ?? {};
+    const isNode = !this.#isBrowser && isBuiltin(specifier);
+    if (isNode && !options.paths?.has(specifier)) {
+      return [];
+    }
+    const { baseUrl } = options;
+    return [...inPaths(specifier, options), ...(baseUrl === undefined ? [] : [pathOf(specifier, baseUrl)])];
   }
 
   /**
@@ -94,7 +116,9 @@ export class ConfiguredNames {
    * @returns {string} the same for files of a folder of which each name leads to the same
    */
   scopeOf(file) {
-    return this.#importMaps.isDeno(file) ? file : this.#configurations.of(file)?.path ?? "";
+    return this.#importMaps.isDeno(file)
+      ? file
+      : `${this.#configurations.isIncluded(file)} ${this.#configurations.of(file)?.path}`;
   }
 
   /**
@@ -123,6 +147,15 @@ export class ConfiguredNames {
   }
 
   /**
+   * Whether the configuration for a file includes the file.
+   * @param {string} file absolute
+   * @returns {boolean}
+   */
+  isIncluded(file) {
+    return this.#configurations.isIncluded(file);
+  }
+
+  /**
    * What was found wrong since the last call.
    * @returns {string[]}
    */
@@ -134,17 +167,6 @@ export class ConfiguredNames {
 /** @param {string[]} paths @returns {Configured | undefined} */
 function byTsconfig(paths) {
   return paths.length > 0 ? { by: "tsconfig", paths } : undefined;
-}
-
-/**
- * The paths of a name that is none, by `paths` and `baseUrl`.
- * @param {string} specifier
- * @param {import("./configurations.mjs").Options} [options]
- * @returns {string[]}
- */
-function inNames(specifier, options = {}) {
-  const { baseUrl } = options;
-  return [...inPaths(specifier, options), ...(baseUrl === undefined ? [] : [pathOf(specifier, baseUrl)])];
 }
 
 /**

@@ -14,7 +14,9 @@ export interface Url {
  * The rules by which a name was found, where the first that find it count:
  *
  * - `importmap`: a deno.json, or the import map that it names;
- * - `tsconfig`: `paths`, `baseUrl`, `rootDirs` or `outDir` of a tsconfig.json or jsconfig.json;
+ * - `tsconfig`: `paths`, `baseUrl`, `rootDirs` or `outDir` of a tsconfig.json or jsconfig.json. A
+ *   built-in module's name leads to a file only where `paths` has the whole name, or `browser` is one
+ *   of the conditions;
  * - `node`: those of an import, or of a `require`, as node 20.20 has them;
  * - `bundler`: those of TypeScript's compiler and of bundlers, where node as it is finds nothing:
  *   names without an ending, an index, `./a.js` for `./a.ts`, queries, `browser` and `module` of a

@@ -64,7 +64,7 @@ class Resolver {
     this.#hasRoot = root.length > 0;
     this.#hasDeclarations = declarations;
     this.#manifests = new PackageManifests(this.#files);
-    this.#names = new ConfiguredNames(this.#files, this.#manifests, tsconfig);
+    this.#names = new ConfiguredNames(this.#files, this.#manifests, { tsconfig, conditions });
     this.#search = new Search(this.#files, this.#manifests, this.#names, { conditions, globalFolders: globals });
     this.#types = types ? new TypeScriptTypes(this.#files, this.#names, conditions) : undefined;
   }

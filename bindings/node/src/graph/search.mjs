@@ -1,6 +1,7 @@
 /**
  * What runs for a name: `browser` and configurations come first, then node's rules, and then those of
- * compilers and bundlers. In a TypeScript file a relative name leads to a TypeScript file before.
+ * compilers and bundlers. In a TypeScript file a relative name leads to a TypeScript file before. The names
+ * of a configuration that doesn't include the file come last, and other `rootDirs`.
  *
  * @typedef {import("./node_rules.mjs").Found} Found
  * @typedef {import("./package_manifests.mjs").Format} Mode

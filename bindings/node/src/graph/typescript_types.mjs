@@ -15,6 +15,7 @@ const OF_FILES = new Set([5012, 5083, 6053]);
  * @typedef {object} Settings
  * @property {any} options TypeScript's `CompilerOptions`
  * @property {any} cache TypeScript's `ModuleResolutionCache`
+ * @property {Settings} [withoutNames] those without `paths` and `baseUrl`
  */
 
 export class TypeScriptTypes {
@@ -51,9 +52,12 @@ export class TypeScriptTypes {
   find(specifier, importer, { syntax, mode: asked, format }) {
     this.#compiler ??= loadTypeScript();
     const mode = asked ?? modeOf(syntax, format);
-    const settings = this.#settingsOf(importer);
-    const directive = syntax === "types" ? this.#findDirective(specifier, importer, settings, mode) : undefined;
-    const path = directive ?? this.#findModule(specifier, importer, settings, mode);
+    /** @type {string | undefined} */
+    let path;
+    for (const settings of this.#allSettingsOf(importer)) {
+      path ??= syntax === "types" ? this.#findDirective(specifier, importer, settings, mode) : undefined;
+      path ??= this.#findModule(specifier, importer, settings, mode);
+    }
     const entry = path === undefined ? undefined : this.#files.at(absolute(path));
     const isFound = entry?.kind === "file" && isTypeScript(entry.path) && !this.#files.isOutside(entry);
     return isFound ? entry.path : undefined;
@@ -118,6 +122,21 @@ export class TypeScriptTypes {
   #kind(mode) {
     const { CommonJS, ESNext } = this.#compiler.ModuleKind;
     return mode && (mode === "import" ? ESNext : CommonJS);
+  }
+
+  /**
+   * The settings for a file. Names of a configuration that doesn't include the file come last.
+   * @param {string} file
+   * @returns {Settings[]}
+   */
+  #allSettingsOf(file) {
+    const settings = this.#settingsOf(file);
+    const { options } = settings;
+    if (this.#names.isIncluded(file) || (options.paths === undefined && options.baseUrl === undefined)) {
+      return [settings];
+    }
+    settings.withoutNames ??= this.#withCache({ ...options, paths: undefined, baseUrl: undefined });
+    return [settings.withoutNames, settings];
   }
 
   /**
