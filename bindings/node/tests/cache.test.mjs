@@ -147,17 +147,24 @@ test("a line that is whole, but has something else in it, is passed over", async
   await cacheOf(folder);
   const [first, second] = readFileSync(join(folder, "cache"), "utf8").trimEnd().split("\n");
   const kept = `{"script":true,"name":"b"}`;
-  for (const at of [2, 5]) {
-    for (const wrong of ["{", "null", "1", ""]) {
+  const oldVersion = checksumOf(readFileSync(MODINFO));
+  for (const [at, ...texts] of /** @type {[number, ...string[]][]} */ ([
+    [1, oldVersion], ...[2, 5].map((each) => [each, "{", "null", "1", ""]),
+  ])) {
+    for (const wrong of texts) {
       const parts = first.split("\t");
       parts[at] = wrong;
       const rest = parts.slice(1).join("\t");
-      const checksum = createHash("sha256").update(rest).digest("base64url").slice(0, 16);
-      writeFileSync(join(folder, "cache"), `${checksum}\t${rest}\n${second}\n`);
+      writeFileSync(join(folder, "cache"), `${checksumOf(rest)}\t${rest}\n${second}\n`);
       assert.deepEqual(cachedIn(folder), [undefined, kept], `${at} ${wrong}`);
     }
   }
 });
+
+/** @param {string | Uint8Array} content */
+function checksumOf(content) {
+  return createHash("sha256").update(content).digest("base64url").slice(0, 16);
+}
 
 test("a cache that can't be read is an error, one that can't be written a warning", async () => {
   const folder = await project();

@@ -148,6 +148,14 @@ test("paths come from the standard input", () => {
   assert.deepEqual(specifiers(["--", "a.js"], ""), ["a.js"]);
 });
 
+test("a path with a zero byte names no file, and the answers of others are theirs", () => {
+  const names = ["a.js", "b.js", "c.js", "d.js"];
+  const folder = folderOf(Object.fromEntries(names.map((name) => [name, `import "${name}";`])));
+  const stderr = `${NAME}: a.js\\x00b.js: no such file or folder\n`;
+  const [wrong, ...found] = answers(["--jobs", "1", "-"], folder, { input: "a.js\0b.js\nc.js\nd.js\n", stderr, status: 1 });
+  assert.deepEqual([wrong.fault, found.map(({ info }) => info.dependencies[0].specifier)], ["Input", ["c.js", "d.js"]]);
+});
+
 test("a partner that waits for each answer gets it", async (t) => {
   const folder = folderOf({ "a.js": "", "b.js": "" });
   const env = { ...process.env, MODINFO };

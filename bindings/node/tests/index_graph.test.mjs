@@ -99,6 +99,19 @@ test("a hook says what names lead to, and undefined leaves that to the rules", a
   assert.deepEqual(graph.missing().map(({ reference }) => reference.specifier), ["./d"]);
 });
 
+test("a path with a zero byte names no file, whoever names it", async () => {
+  const folder = folderOf({ "a.js": `import "b";`, "b.js": `import "c";`, "c.js": `import "d";`, "d.js": `import "e";` });
+  const [zero, ...others] = ["a.js%00b.js", "c.js", "d.js"].map((name) => urlOf(folder, name).replace("%25", "%"));
+  const named = await modinfo.graph({ paths: [zero, ...others], jobs: 1 });
+  /** @type {import("../src/index.mjs").ResolveHook} */
+  const resolve = (specifier) => (specifier === "d" ? join(folder, "a.js\0b.js") : undefined);
+  const led = await modinfo.graph({ paths: others, entries: [others[0]], resolve, jobs: 1 });
+  for (const { modules } of [named, led]) {
+    const found = modules.map(({ specifier, references, fault }) => [specifier, references[0]?.specifier ?? fault?.fault]);
+    assert.deepEqual(found.sort(), [[zero, "Input"], [others[0], "d"], [others[1], "e"]]);
+  }
+});
+
 test("a cache keeps what is found, and a graph takes globs, packages and pages", async () => {
   const folder = folderOf({ "package.json": `{"main":"./a.js"}`, "a.js": `import "./x/b.js";`, "x/b.js": `import "../c.js";`, "c.js": "" });
   const cache = join(folder, "cache");

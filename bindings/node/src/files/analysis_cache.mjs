@@ -26,6 +26,9 @@ const LONGEST_WAIT = 10_000;
 /** After so long a lock is that of a run that was killed, in milliseconds. */
 const LOCK_AGE = 60_000;
 
+/** Is changed where a cache that was written before may be wrong, whatever the program. */
+const FORMAT = 2;
+
 const CHECKSUM_LENGTH = 16;
 /** Where in a line the checksum of the program begins, and the path. */
 const VERSION_AT = CHECKSUM_LENGTH + 1;
@@ -49,7 +52,7 @@ export class AnalysisCache {
    */
   constructor(path, program) {
     this.#path = path;
-    this.#version = hashOf(readFileSync(program));
+    this.#version = hashOf(`${FORMAT} ${hashOf(readFileSync(program))}`);
     this.#lines = this.#read();
   }
 

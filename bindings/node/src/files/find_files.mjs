@@ -185,8 +185,8 @@ function statusOf(path) {
 function isThere(path) {
   try {
     return statSync(path, { throwIfNoEntry: false }) !== undefined;
-  } catch {
-    return true;
+  } catch (/** @type {any} */ error) {
+    return error.code !== "ERR_INVALID_ARG_VALUE";
   }
 }
 

@@ -75,6 +75,9 @@ function readFile({ path, real, error, isLeft }, pool, cache) {
 async function analyzed({ path, real }, state, pool, cache) {
   try {
     const own = real ?? realPath(path) ?? path;
+    if (own.includes("\0")) {
+      throw new FileFault("Input", "no such file: the path has a zero byte");
+    }
     if (ENDLESS.test(own)) {
       throw new FileFault("Input", "a file of the system");
     }
