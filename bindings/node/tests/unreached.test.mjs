@@ -265,6 +265,24 @@ test("--entry takes a folder with a package.json, whose members name entries", (
   assert.deepEqual(reached(folderOf({ "package.json": "{}", "index.js": "" }), ".").lines, ["index.js"]);
 });
 
+test("a script without an ending that a package.json names is searched, and its relative imports are entries", () => {
+  const files = {
+    "package.json": `{"main":"lib/index.js","bin":{"a":"bin/a","b":"./bin/b"}}`, "lib/index.js": "",
+    "bin/a": `#!/usr/bin/env node\nrequire("./b"); require("../lib/cli")(require("fs"), require("p"), require("../lib/" + x));`,
+    "bin/b": `import "./a"; import "../lib/b";`, "lib/cli.js": `require("./deep");`, "lib/deep.js": "", "lib/b.mjs": "",
+    "lib/x.js": "", "dead.js": "", "node_modules/p/index.js": "",
+  };
+  const folder = folderOf(files);
+  assert.deepEqual(reached(folder, "."), withStatus(["lib/index.js", "lib/cli.js", "lib/b.mjs", "lib/deep.js"]));
+  const { stdout, status } = run("files.mjs", ["--entry", ".", "--unreached", "."], { cwd: folder });
+  assert.deepEqual([stdout, status], ["dead.js\nlib/x.js: may be reached: script of ../lib/${..} at bin/a:2:68\n", 1]);
+  const alone = folderOf({ ...files, "package.json": `{"bin":"bin/a"}`, "bin/b": Buffer.of(0x7f, 0x45, 0x4c, 0x46, 0) });
+  assert.deepEqual(reached(alone, "."), withStatus(["lib/cli.js", "lib/deep.js"]));
+  assert.deepEqual(reached(folderOf({ ...files, "package.json": `{"bin":"bin/a"}`, "bin/a": "#!/bin/sh\n" }), "."), {
+    lines: [], stderr: `${NAME}: package.json: it names no module\n`, status: 2,
+  });
+});
+
 test("an entry of a package.json that isn't there is said, and it is an error where there is no other", () => {
   const some = folderOf({ "package.json": `{"main":"./a.js","bin":"./dist/b.js"}`, "a.js": "" });
   assert.deepEqual(reached(some, "."), {
@@ -272,6 +290,7 @@ test("an entry of a package.json that isn't there is said, and it is an error wh
   });
   for (const [files, message] of /** @type {[Record<string, string>, string][]} */ ([
     [{ "package.json": `{"main":"./dist/b.js"}` }, "package.json: what it names isn't there: ./dist/b.js"],
+    [{ "package.json": `{"main":"a\\u0000.js"}` }, "package.json: what it names isn't there: ./a\\x00.js"],
     [{ "package.json": "[" }, "package.json: Unexpected end of JSON input"],
     [{ "a.js": "" }, "package.json: no such file: an entry is a file, or a folder with a package.json"],
   ])) {

@@ -195,6 +195,11 @@ export function isFolder(path) {
   return statusOf(path)?.isDirectory() ?? false;
 }
 
+/** @param {string} path @returns {boolean} false also where nothing is there, or no regular file */
+export function isFile(path) {
+  return statusOf(path)?.isFile() ?? false;
+}
+
 /**
  * The folders of some paths: a folder itself, and the folder of a file.
  * @param {string[]} paths

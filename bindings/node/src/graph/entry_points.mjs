@@ -1,9 +1,8 @@
 /** The modules with which a program begins, by what names them: a module, a package or a page. */
 
-import { statSync } from "node:fs";
-import { dirname, join, relative } from "node:path";
+import { dirname, extname, join, relative } from "node:path";
 
-import { findFiles, isFolder, isPage } from "../files/find_files.mjs";
+import { findFiles, isFile, isFolder, isPage } from "../files/find_files.mjs";
 import { readRegularFile } from "../files/regular_file.mjs";
 import { looseImports } from "./loose_references.mjs";
 
@@ -14,6 +13,7 @@ export class EntryFault extends Error {}
  * @typedef {object} EntryPoints
  * @property {string[]} files paths
  * @property {string[]} absent what a package.json or a page names that isn't there
+ * @property {string[]} texts the paths of scripts without an ending, which aren't parsed
  *
  * @typedef {(name: string, from: string) => string | undefined} Find returns the path that a name leads to
  *   from a file
@@ -34,15 +34,13 @@ const MEMBERS = ["exports", "main", "module", "bin", "browser"];
  * @throws {EntryFault} a folder or a page names no entry that is there
  */
 export async function entryPoints(paths, find) {
-  /** @type {EntryPoints} */
-  const all = { files: [], absent: [] };
+  /** @type {EntryPoints[]} */
+  const points = [];
   for (const path of paths) {
-    const points = isFolder(path) ? await ofPackage(path, find) : ofFile(path, find);
-    const { files, absent } = points;
-    all.files.push(...files);
-    all.absent.push(...absent);
+    points.push(isFolder(path) ? await ofPackage(path, find) : ofFile(path, find));
   }
-  return { files: [...new Set(all.files)], absent: [...new Set(all.absent)] };
+  const all = (/** @type {keyof EntryPoints} */ member) => [...new Set(points.flatMap((each) => each[member]))];
+  return { files: all("files"), absent: all("absent"), texts: all("texts") };
 }
 
 /**
@@ -52,12 +50,20 @@ export async function entryPoints(paths, find) {
  */
 function ofFile(path, find) {
   if (!isPage(path)) {
-    return { files: [path], absent: [] };
+    return { files: [path], absent: [], texts: [] };
   }
   const text = String(readRegularFile(path)).replace(/<!--.*?-->/gs, "");
-  const names = looseImports(text, "script").filter(({ kind }) => kind === "script")
+  const names = importedIn(text).filter((name) => !/^(?:[a-z][a-z0-9+.-]*:|\/\/)/i.test(name));
+  return found(path, names, find);
+}
+
+/**
+ * @param {string} text that isn't parsed
+ * @returns {string[]} the names of its imports, as far as they are known as a whole
+ */
+function importedIn(text) {
+  return looseImports(text, "script").filter(({ kind }) => kind === "script")
     .flatMap(({ parts: [name, ...others] }) => (name !== undefined && others.length === 0 ? [name] : []));
-  return found(path, names.filter((name) => !/^(?:[a-z][a-z0-9+.-]*:|\/\/)/i.test(name)), find);
 }
 
 /**
@@ -68,17 +74,20 @@ function ofFile(path, find) {
 async function ofPackage(folder, find) {
   const manifest = join(folder, "package.json");
   const values = readManifest(manifest);
-  const names = MEMBERS.flatMap((member) => targetsOf(Object.hasOwn(values, member) ? values[member] : undefined));
-  const modules = [...new Set(names.map((name) => name.replace(/^(?!\.{0,2}\/)/, "./")))]
+  const targets = MEMBERS.filter((member) => Object.hasOwn(values, member))
+    .flatMap((member) => targetsOf(values[member]));
+  const modules = [...new Set(targets.map((name) => name.replace(/^(?!\.{0,2}\/)/, "./")))]
     .filter((name) => !DECLARATION.test(name) && (MODULE.test(name) || !/\.\w+$/.test(name)));
   const patterns = modules.filter((name) => name.includes("*"));
   const files = [];
   for (const pattern of patterns) {
-    files.push(...await filesOfPattern(folder, pattern));
+    files.push(await filesOfPattern(folder, pattern));
   }
+  const matching = files.flat();
   const plain = modules.filter((name) => !name.includes("*"));
-  const direct = found(manifest, plain.length + files.length > 0 ? plain : ["./index"], find, files.length > 0);
-  return { files: [...direct.files, ...files], absent: direct.absent };
+  const names = plain.length + matching.length > 0 ? plain : ["./index"];
+  const direct = found(manifest, names, find, matching.length > 0);
+  return { ...direct, files: [...direct.files, ...matching] };
 }
 
 /** @param {string} path @returns {any} */
@@ -101,12 +110,13 @@ function readManifest(path) {
 function targetsOf(value) {
   const texts = [];
   const todo = [value];
-  for (let next = todo.shift(); todo.length > 0 || next !== undefined; next = todo.shift()) {
+  // What is added meanwhile follows.
+  for (const next of todo) {
     if (typeof next === "string") {
       texts.push(next);
     } else if (typeof next === "object" && next !== null) {
       const members = Object.entries(next).filter(([key]) => !key.startsWith("types"));
-      todo.push(...members.map(([, each]) => each ?? false));
+      members.forEach(([, each]) => todo.push(each));
     }
   }
   return texts;
@@ -132,6 +142,7 @@ async function filesOfPattern(folder, pattern) {
 }
 
 /**
+ * The files that names lead to, and those that scripts without an ending among them import.
  * @param {string} from the path of what names them
  * @param {string[]} names
  * @param {Find} find
@@ -139,23 +150,51 @@ async function filesOfPattern(folder, pattern) {
  * @returns {EntryPoints}
  */
 function found(from, names, find, hasOthers = false) {
-  /** @type {EntryPoints} */
-  const points = { files: [], absent: [] };
-  for (const name of names) {
-    const path = fileAt(join(dirname(from), name)) ?? (name.startsWith("/") ? fileAt(`.${name}`) : undefined) ??
-      find(name, from);
-    if (path !== undefined && MODULE.test(path)) {
-      points.files.push(path);
-    } else if (path === undefined) {
-      points.absent.push(`${from}: ${name}`);
+  /** @type {string[]} */
+  const files = [];
+  /** @type {string[]} */
+  const absent = [];
+  /** @type {Set<string>} */
+  const texts = new Set();
+  const todo = [{ from, names }];
+  for (const each of todo) {
+    for (const name of each.names) {
+      const path = pathOf(name, each.from, find);
+      if (path === undefined) {
+        absent.push(`${each.from}: ${name}`);
+      } else if (MODULE.test(path)) {
+        files.push(path);
+      } else if (extname(path) === "" && !texts.has(path)) {
+        texts.add(path);
+        todo.push({ from: path, names: importedBy(path) });
+      }
     }
   }
-  if (points.files.length === 0 && !hasOthers) {
-    const isAbsent = points.absent.length > 0;
-    const what = isAbsent ? `what it names isn't there: ${names.join(", ")}` : "it names no module";
+  if (files.length === 0 && !hasOthers) {
+    const what = absent.length > 0 ? `what it names isn't there: ${names.join(", ")}` : "it names no module";
     throw new EntryFault(`${from}: ${what}`);
   }
-  return points;
+  return { files, absent, texts: [...texts] };
+}
+
+/**
+ * @param {string} name
+ * @param {string} from the path of the file that has it
+ * @param {Find} find
+ * @returns {string | undefined} nothing where it leads to nothing
+ */
+function pathOf(name, from, find) {
+  return fileAt(join(dirname(from), name)) ?? (name.startsWith("/") ? fileAt(`.${name}`) : undefined) ??
+    find(name, from);
+}
+
+/** @param {string} path of a script @returns {string[]} the relative names that it imports */
+function importedBy(path) {
+  try {
+    return importedIn(String(readRegularFile(path))).filter((name) => /^\.{1,2}(?:\/|$)/.test(name));
+  } catch {
+    return [];
+  }
 }
 
 /**
@@ -164,5 +203,5 @@ function found(from, names, find, hasOthers = false) {
  */
 function fileAt(path) {
   const paths = [path, join(path, "index")].flatMap((each) => ENDINGS.map((ending) => each + ending));
-  return paths.find((each) => statSync(each, { throwIfNoEntry: false })?.isFile());
+  return paths.find(isFile);
 }

@@ -138,7 +138,7 @@ export type ReasonKind =
   /** A call or a name that a search finds in the text of a module. */
   | "new URL" | "new Worker" | "require.resolve" | "import.meta.resolve" | "import.meta.glob" | "require.context"
   | "jest.mock" | "__dirname"
-  /** A script of a page or a component. */
+  /** A script of a page or a component, or one without an ending that a package.json names. */
   | "script"
   /** A file that can't be parsed has its name. */
   | "fault"

@@ -1,5 +1,7 @@
 /** Reads what paths name, and what entries lead to, into a graph: for the commands and for the service. */
 
+import { resolve as absolute } from "node:path";
+
 import { exclusionsOf } from "../files/exclusions.mjs";
 import { findFiles } from "../files/find_files.mjs";
 import { entryPoints } from "./entry_points.mjs";
@@ -43,7 +45,7 @@ export async function readProject(task) {
   const { isExcluded, isIgnored, isKept, isLeftOut } = await exclusionsOf(task, [...roots, ...task.entries]);
   const resolver = createResolver(task.resolver);
   const find = finderOf(resolver);
-  const { files, absent } = await entryPoints(task.entries, find);
+  const { files, absent, texts } = await entryPoints(task.entries, find);
   const search = { all, follow, roots, isExcluded: isLeftOut, ...(pages && { isKept, pages }) };
   const named = new NamedFiles(findFiles(paths, search), findFiles(files, {}));
   const graph = await readGraph(named, {
@@ -51,5 +53,6 @@ export async function readProject(task) {
     onRead: (result) => onRead(result, isExcluded(result.path)),
   });
   const entries = files.map((path) => canonicalUrl(path));
-  return { graph, named: named.keys, pages: named.pages, entries, absent, isIgnored, find, program };
+  const unparsed = [...named.pages, ...texts.map((path) => absolute(path))];
+  return { graph, named: named.keys, pages: unparsed, entries, absent, isIgnored, find, program };
 }

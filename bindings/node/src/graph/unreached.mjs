@@ -17,7 +17,7 @@
  *   a path leads to
  */
 
-import { dirname, resolve as absolute } from "node:path";
+import { dirname, extname, resolve as absolute } from "node:path";
 import { fileURLToPath, pathToFileURL } from "node:url";
 
 import { isPage } from "../files/find_files.mjs";
@@ -310,7 +310,8 @@ function kindOfText(key, fault) {
   if (fault) {
     return "fault";
   }
-  return isPage(fileURLToPath(key)) ? "script" : "ignored";
+  const path = fileURLToPath(key);
+  return isPage(path) || extname(path) === "" ? "script" : "ignored";
 }
 
 /** @param {string} key @returns {string | undefined} nothing where the file can't be read */
