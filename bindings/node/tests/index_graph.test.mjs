@@ -2,7 +2,7 @@
 
 import assert from "node:assert/strict";
 import { spawnSync } from "node:child_process";
-import { chmodSync, existsSync, readFileSync, writeFileSync } from "node:fs";
+import { chmodSync, existsSync, readFileSync, rmSync, symlinkSync, writeFileSync } from "node:fs";
 import { join } from "node:path";
 import { after, test } from "node:test";
 
@@ -110,6 +110,21 @@ test("a path with a zero byte names no file, whoever names it", async () => {
     const found = modules.map(({ specifier, references, fault }) => [specifier, references[0]?.specifier ?? fault?.fault]);
     assert.deepEqual(found.sort(), [[zero, "Input"], [others[0], "d"], [others[1], "e"]]);
   }
+});
+
+test("a link leads each graph where it leads when that is read, and later questions where it led", async () => {
+  const folder = folderOf({ "r1/main.js": `import "./a.js";`, "r1/a.js": "", "r2/main.js": `import "./b.js";`, "r2/b.js": "" });
+  const link = join(folder, "current");
+  const graphs = [];
+  for (const target of ["r1", "r2"]) {
+    rmSync(link, { force: true });
+    symlinkSync(target, link);
+    graphs.push(await modinfo.graph({ entries: [join(link, "main.js")] }));
+  }
+  const expected = [["r1/main.js", "r1/a.js"], ["r2/main.js", "r2/b.js"]].map((paths) => paths.map((path) => urlOf(folder, path)));
+  assert.deepEqual(graphs.map(({ modules }) => modules.map(({ specifier }) => specifier)), expected);
+  assert.deepEqual(graphs.map(({ entries }) => entries), expected.map(([entry]) => [entry]));
+  assert.deepEqual(graphs.map((graph) => graph.why(join(link, "main.js")).map(({ module }) => module)), expected.map(([entry]) => [entry]));
 });
 
 test("a cache keeps what is found, and a graph takes globs, packages and pages", async () => {

@@ -6,6 +6,9 @@ import { pathToFileURL } from "node:url";
 /** A path of which each character stands for itself in a URL. */
 const PLAIN = /^[\w./@+~-]*$/;
 
+/** How many URLs are kept: paths without number must not take memory without end. */
+const MAX_KEPT = 100_000;
+
 /** @type {Map<string, string>} */
 const urls = new Map();
 
@@ -17,6 +20,9 @@ export function urlOfPath(path) {
   let url = urls.get(path);
   if (url === undefined) {
     url = PLAIN.test(path) ? `file://${path}` : pathToFileURL(path).href;
+    if (urls.size === MAX_KEPT) {
+      urls.clear();
+    }
     urls.set(path, url);
   }
   return url;

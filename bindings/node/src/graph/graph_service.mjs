@@ -5,7 +5,6 @@ import { checkKnown, readJobs } from "../runtime/call_options.mjs";
 import { ProgramEnd } from "../runtime/errors.cjs";
 import { checkProgram } from "../runtime/program.mjs";
 import { readProject } from "./project_graph.mjs";
-import { canonicalUrl } from "./reach.mjs";
 import { RESOLVER_OPTIONS, pathOf, readResolverOptions } from "./resolve_service.mjs";
 import { unledOf, unreachedOf } from "./unreached.mjs";
 
@@ -96,7 +95,7 @@ class FileGraph {
   /**
    * @param {ModuleGraph} graph
    * @param {string[]} named the keys of the files of the paths
-   * @param {import("./unreached.mjs").Project} project
+   * @param {import("./unreached.mjs").Project & { keyOf: import("./reach.mjs").KeyOf }} project
    */
   constructor(graph, named, project) {
     this.#graph = graph;
@@ -125,12 +124,12 @@ class FileGraph {
 
   /** @param {string | URL} file */
   why(file) {
-    return this.#graph.chain(this.#project.entries, keyOf(file));
+    return this.#graph.chain(this.#project.entries, this.#keyOf(file));
   }
 
   /** @param {string | URL} file */
   dependents(file) {
-    return this.#graph.dependents(keyOf(file));
+    return this.#graph.dependents(this.#keyOf(file));
   }
 
   missing() {
@@ -141,10 +140,10 @@ class FileGraph {
     const { entries, modules } = this;
     return { ...(entries && { entries }), modules };
   }
-}
 
-/** @param {string | URL} file */
-function keyOf(file) {
-  return canonicalUrl(pathOf(file, "a file"));
+  /** @param {string | URL} file */
+  #keyOf(file) {
+    return this.#project.keyOf(pathOf(file, "a file"));
+  }
 }
 

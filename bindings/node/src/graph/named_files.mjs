@@ -2,8 +2,6 @@
 
 import { resolve as absolute } from "node:path";
 
-import { canonicalUrl } from "./reach.mjs";
-
 /** @typedef {import("../files/find_files.mjs").Found} Found */
 
 /**
@@ -17,14 +15,17 @@ export class NamedFiles {
   pages = [];
   #paths;
   #entries;
+  #keyOf;
 
   /**
    * @param {AsyncIterable<Found>} paths the files of paths
    * @param {AsyncIterable<Found>} entries
+   * @param {import("./reach.mjs").KeyOf} keyOf
    */
-  constructor(paths, entries) {
+  constructor(paths, entries, keyOf) {
     this.#paths = paths;
     this.#entries = entries;
+    this.#keyOf = keyOf;
   }
 
   /** @returns {AsyncGenerator<Found, void>} */
@@ -35,7 +36,7 @@ export class NamedFiles {
         continue;
       }
       if (!file.error && !file.isLeft && !file.isExcluded) {
-        this.keys.push(canonicalUrl(file.path, file.real));
+        this.keys.push(this.#keyOf(file.path, file.real));
       }
       yield file;
     }

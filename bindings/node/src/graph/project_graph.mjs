@@ -6,7 +6,7 @@ import { exclusionsOf } from "../files/exclusions.mjs";
 import { findFiles } from "../files/find_files.mjs";
 import { entryPoints } from "./entry_points.mjs";
 import { NamedFiles } from "./named_files.mjs";
-import { canonicalUrl } from "./reach.mjs";
+import { canonicalUrls } from "./reach.mjs";
 import { readGraph } from "./read_graph.mjs";
 import { createResolver } from "./resolver.mjs";
 import { finderOf } from "./unreached.mjs";
@@ -26,12 +26,14 @@ import { finderOf } from "./unreached.mjs";
  * @property {import("./resolver.mjs").ResolverOptions} resolver
  * @property {(result: import("./read_graph.mjs").ReadFile, isExcluded: boolean) => void} [onRead]
  *
- * @typedef {Words & Omit<GraphOptions, "resolver" | "onRead" | "follow" | "isExcluded" | "isIgnored">} ProjectTask
+ * @typedef {"resolver" | "keyOf" | "onRead" | "follow" | "isExcluded" | "isIgnored"} Given
+ * @typedef {Words & Omit<GraphOptions, Given>} ProjectTask
  *
  * @typedef {object} Read
  * @property {import("./module_graph.mjs").ModuleGraph} graph
  * @property {string[]} named the keys of the files of the paths
  * @property {string[]} absent what names an entry that isn't there
+ * @property {import("./reach.mjs").KeyOf} keyOf
  *
  * @typedef {Read & import("./unreached.mjs").Project} ProjectGraph
  */
@@ -47,12 +49,13 @@ export async function readProject(task) {
   const find = finderOf(resolver);
   const { files, absent, texts } = await entryPoints(task.entries, find);
   const search = { all, follow, roots, isExcluded: isLeftOut, ...(pages && { isKept, pages }) };
-  const named = new NamedFiles(findFiles(paths, search), findFiles(files, {}));
+  const keyOf = canonicalUrls();
+  const named = new NamedFiles(findFiles(paths, search), findFiles(files, {}), keyOf);
   const graph = await readGraph(named, {
-    ...task, resolver, isExcluded, isIgnored, follow: files.length > 0,
+    ...task, keyOf, resolver, isExcluded, isIgnored, follow: files.length > 0,
     onRead: (result) => onRead(result, isExcluded(result.path)),
   });
-  const entries = files.map((path) => canonicalUrl(path));
+  const entries = files.map((path) => keyOf(path));
   const unparsed = [...named.pages, ...texts.map((path) => absolute(path))];
-  return { graph, named: named.keys, pages: unparsed, entries, absent, isIgnored, find, program };
+  return { graph, named: named.keys, pages: unparsed, entries, absent, keyOf, isIgnored, find, program };
 }

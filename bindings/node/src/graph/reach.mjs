@@ -11,8 +11,7 @@ import { realPath, urlOfPath } from "../files/urls.mjs";
 /** The key of a module that names the entries; no file has it. */
 const ROOT = "";
 
-/** @type {Map<string, string>} */
-const canonical = new Map();
+/** @typedef {(path: string, real?: string) => string} KeyOf like `canonicalUrl` */
 
 /**
  * The URL of a file without symbolic links in it.
@@ -21,16 +20,23 @@ const canonical = new Map();
  * @returns {string}
  */
 export function canonicalUrl(path, real) {
-  if (real !== undefined) {
-    return urlOfPath(real);
-  }
   const own = absolute(path);
-  let url = canonical.get(own);
-  if (url === undefined) {
-    url = urlOfPath(realPath(own) ?? own);
-    canonical.set(own, url);
-  }
-  return url;
+  return urlOfPath(real ?? realPath(own) ?? own);
+}
+
+/** @returns {KeyOf} for one graph: a link leads where it led when it was first asked for */
+export function canonicalUrls() {
+  /** @type {Map<string, string>} */
+  const known = new Map();
+  return (path, real) => {
+    if (real !== undefined) {
+      return urlOfPath(real);
+    }
+    const own = absolute(path);
+    const url = known.get(own) ?? canonicalUrl(own);
+    known.set(own, url);
+    return url;
+  };
 }
 
 /**

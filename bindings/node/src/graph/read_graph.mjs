@@ -6,7 +6,6 @@ import { fileURLToPath } from "node:url";
 import { readFiles } from "../runtime/read_files.mjs";
 import { isDeclaration, isModule } from "./file_kinds.mjs";
 import { ModuleGraph } from "./module_graph.mjs";
-import { canonicalUrl } from "./reach.mjs";
 import { isRunKind, referencesOf } from "./references.mjs";
 import { Walk } from "./walk.mjs";
 
@@ -29,6 +28,7 @@ import { Walk } from "./walk.mjs";
  *
  * @typedef {object} GraphWords
  * @property {import("./resolver.mjs").Resolver} resolver
+ * @property {import("./reach.mjs").KeyOf} keyOf
  * @property {boolean} [types] whether edges of types, JSDoc and references count
  * @property {boolean} [dynamic] whether edges of `import(..)` count; true where it is missing
  * @property {boolean} [follow] whether files are read that the named ones lead to
@@ -47,13 +47,13 @@ import { Walk } from "./walk.mjs";
  * @returns {Promise<ModuleGraph>}
  */
 export async function readGraph(named, options) {
-  const { types, dynamic, resolve } = options;
+  const { types, dynamic, resolve, keyOf } = options;
   const graph = new ModuleGraph({ types, dynamic });
-  const walk = new Walk(named);
+  const walk = new Walk(named, keyOf);
   for await (const file of readFiles(options.ahead?.(walk) ?? walk, options)) {
     const module = moduleOf(file, options);
     if (module && resolve) {
-      await resolveBy(resolve, module);
+      await resolveBy(resolve, module, keyOf);
     }
     if (module) {
       graph.add(module);
@@ -68,40 +68,41 @@ export async function readGraph(named, options) {
  * @param {GraphOptions} options
  * @returns {GraphModule | undefined} nothing for a link that isn't followed
  */
-function moduleOf({ path, real, info, value, isLeft, fault }, { resolver, isExcluded, onRead }) {
+function moduleOf({ path, real, info, value, isLeft, fault }, { resolver, keyOf, isExcluded, onRead }) {
   const json = info && (value ?? JSON.parse(String(info)));
-  const read = json && resolved({ path, real }, json, resolver);
+  const read = json && resolved({ path, real }, json, { resolver, keyOf });
   onRead?.({ path, isLeft, fault, info: json, module: read?.module, notices: read?.notices });
   if (isLeft) {
     return undefined;
   }
-  const module = read?.module ?? { specifier: canonicalUrl(path), references: [], ...(fault && { fault }) };
+  const module = read?.module ?? { specifier: keyOf(path), references: [], ...(fault && { fault }) };
   return isExcluded?.(path) ? { ...module, isExcluded: true } : module;
 }
 
 /**
  * @param {Pick<FileResult, "path" | "real">} file
  * @param {any} info a `ModuleInfo`
- * @param {import("./resolver.mjs").Resolver} resolver
+ * @param {Pick<GraphOptions, "resolver" | "keyOf">} options
  * @returns {{ module: GraphModule, notices: string[] }}
  */
-function resolved({ path, real }, info, resolver) {
+function resolved({ path, real }, info, { resolver, keyOf }) {
   const file = path === real ? path : absolute(path);
   const references = referencesOf(resolver.resolveInfo(info, file, real), { isDeclaration: isDeclaration(file) });
-  return { module: { specifier: canonicalUrl(file, real), references }, notices: resolver.takeNotices() };
+  return { module: { specifier: keyOf(file, real), references }, notices: resolver.takeNotices() };
 }
 
 /**
  * Replaces what the names of a module lead to by what a hook returns.
  * @param {ResolveHook} resolve
  * @param {GraphModule} module
+ * @param {GraphOptions["keyOf"]} keyOf
  */
-async function resolveBy(resolve, { specifier: from, references }) {
+async function resolveBy(resolve, { specifier: from, references }, keyOf) {
   for (const reference of references) {
     const { specifier, kind } = reference;
     const found = specifier === undefined ? undefined : await resolve(specifier, from, { kind });
     if (found !== undefined) {
-      const file = found && canonicalUrl(pathOf(found));
+      const file = found && keyOf(pathOf(found));
       reference.resolved = file ? { class: "file", file } : { class: "missing" };
     }
   }

@@ -1,7 +1,6 @@
 /** Which files a graph is made of: those that are named, then those that these lead to. */
 
 import { Queue } from "../runtime/queue.mjs";
-import { canonicalUrl } from "./reach.mjs";
 
 /** @typedef {import("../files/find_files.mjs").Found} Found */
 
@@ -12,15 +11,20 @@ import { canonicalUrl } from "./reach.mjs";
  */
 export class Walk {
   #named;
+  #keyOf;
   /** @type {Queue<string>} */
   #found = new Queue();
   #passed = new Set();
   #underWay = 0;
   #wake = () => {};
 
-  /** @param {AsyncIterable<Found>} named */
-  constructor(named) {
+  /**
+   * @param {AsyncIterable<Found>} named
+   * @param {import("./reach.mjs").KeyOf} keyOf
+   */
+  constructor(named, keyOf) {
     this.#named = named;
+    this.#keyOf = keyOf;
   }
 
   /** @returns {AsyncGenerator<Found, void>} */
@@ -57,7 +61,7 @@ export class Walk {
   /** @param {Found} file that is under way from now on, if it is the first one */
   #isFirst(file) {
     // A link that isn't followed is reported, and its file may have another path.
-    const key = file.isLeft ? undefined : canonicalUrl(file.path, file.real);
+    const key = file.isLeft ? undefined : this.#keyOf(file.path, file.real);
     const isFirst = !this.#passed.has(key);
     if (isFirst) {
       this.#underWay++;
