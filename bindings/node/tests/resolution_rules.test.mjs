@@ -2,7 +2,7 @@
 
 import assert from "node:assert/strict";
 import { symlinkSync } from "node:fs";
-import { join, relative } from "node:path";
+import { dirname, join, relative } from "node:path";
 import { test } from "node:test";
 import { fileURLToPath } from "node:url";
 
@@ -243,6 +243,26 @@ test("packages of a workspace whose files aren't built, or that aren't installed
   });
   symlinkSync("../../a", join(linked, "libs/b/node_modules/a"));
   assert.deepEqual(found(linked, "libs/b/main.ts", ["a", "c"]), ["libs/a/src/index.ts by bundler", "tools/c/index.js by bundler"]);
+});
+
+test("a workspace's ** is any folders, its ! leaves some out, and its lines may end as on Windows", () => {
+  const packages = Object.fromEntries([
+    "packages", "packages/a", "packages/group/b", "packages/group/deep/c", "packages/group/node_modules/d", "packages/.e/f",
+    "packages/a/test/g", "tools/h", "tools/x/i", "other/j", "other/x/k/lib", "other/x/lib", "other/lib",
+  ].flatMap((path) => [[`${path}/package.json`, `{"name":"n-${path.replaceAll("/", "-")}"}`], [`${path}/index.js`, ""]]));
+  const patterns = ["packages/**", "!**/test/**", "tools/*", "other/**/lib"];
+  const yaml = `packages:\n${patterns.map((each) => `  - '${each}'\n`).join("")}  - packages/group\nother: 1\n`;
+  for (const [file, text] of [
+    ["package.json", JSON.stringify({ workspaces: patterns })], ["pnpm-workspace.yaml", yaml],
+    ["pnpm-workspace.yaml", yaml.replaceAll("\n", "\r\n")], ["pnpm-workspace.yaml", yaml.replace(/'([^!'][^']*)'/g, "$1")],
+  ]) {
+    const folder = folderOf({ ...packages, [file]: text, "main.js": "" });
+    const names = Object.keys(packages).filter((path) => path.endsWith(".json")).map((path) => dirname(path));
+    const isFound = (/** @type {string} */ path) => found(folder, "main.js", [`n-${path.replaceAll("/", "-")}`])[0] !== "package";
+    assert.deepEqual(names.filter(isFound), [
+      "packages", "packages/a", "packages/group/b", "packages/group/deep/c", "tools/h", "other/x/k/lib", "other/x/lib", "other/lib",
+    ], text);
+  }
 });
 
 test("references between projects lead to sources", () => {

@@ -3,14 +3,14 @@
  * the `packages` of a pnpm-workspace.yaml. They are found where nothing is installed, too.
  */
 
-import { dirname, join } from "node:path";
+import { dirname, join, relative } from "node:path";
 
-import { matchesName } from "../files/wildcards.mjs";
+import { matchesName, matchesPath } from "../files/wildcards.mjs";
 import { isObject } from "./package_targets.mjs";
 
 const PNPM = "pnpm-workspace.yaml";
 /** The list of packages in YAML, and an item of it. */
-const PACKAGES = /^packages:[^\S\n]*\n((?:[^\S\n]*(?:-.*|#.*)?\n)*)/m;
+const PACKAGES = /^packages:[^\S\n]*\n((?:[^\S\n]*(?:-.*|#.*)?\r?\n)*)/m;
 const ITEM = /^[^\S\n]*-[^\S\n]*["']?([^"'\n#]+)/gm;
 
 const MODULES = "/node_modules/";
@@ -49,7 +49,7 @@ export class Workspaces {
       const patterns = this.#patternsOf(folder);
       const parent = dirname(folder);
       packages = patterns.length > 0
-        ? this.#named(patterns.flatMap((pattern) => this.#folders(folder, pattern.split("/"))))
+        ? this.#named(this.#foldersOf(folder, patterns))
         : parent === folder ? new Map() : this.#packages(parent);
       this.#byFolder.set(folder, packages);
     }
@@ -78,22 +78,50 @@ export class Workspaces {
   }
 
   /**
+   * The folders of patterns, without those of patterns that begin with `!`.
+   * @param {string} folder
+   * @param {string[]} patterns
+   * @returns {string[]}
+   */
+  #foldersOf(folder, patterns) {
+    const isOut = (/** @type {string} */ path) => patterns.some((pattern) => {
+      return pattern.startsWith("!") && matchesFolder(partsOf(pattern.slice(1)), relative(folder, path));
+    });
+    const taken = new Set(patterns.filter((pattern) => !pattern.startsWith("!")));
+    return [...taken].flatMap((pattern) => this.#folders(folder, partsOf(pattern))).filter((path) => !isOut(path));
+  }
+
+  /**
    * The folders of a pattern, of which each part is a name, has wildcards, or is `**`.
    * @param {string} folder
    * @param {string[]} parts
    * @returns {string[]}
    */
-  #folders(folder, [part, ...rest]) {
+  #folders(folder, parts) {
+    const [part, ...rest] = parts;
     if (part === undefined) {
       return [folder];
     }
-    if (part === "" || part === ".") {
-      return this.#folders(folder, rest);
+    if (part === "**") {
+      return this.#below(folder).filter((path) => matchesFolder(parts, relative(folder, path)));
     }
-    const names = /[*?]/.test(part)
-      ? this.#files.foldersIn(folder).filter((name) => isTaken(name) && matchesName(part.replace("**", "*"), name))
-      : [part];
+    const names = /[*?]/.test(part) ? this.#namesIn(folder).filter((name) => matchesName(part, name)) : [part];
     return names.flatMap((name) => this.#folders(join(folder, name), rest));
+  }
+
+  /** @param {string} folder @returns {string[]} the folder and those below it, without installed packages */
+  #below(folder) {
+    const all = [folder];
+    // What is added meanwhile follows.
+    for (const each of all) {
+      this.#namesIn(each).forEach((name) => all.push(join(each, name)));
+    }
+    return all;
+  }
+
+  /** @param {string} folder */
+  #namesIn(folder) {
+    return this.#files.foldersIn(folder).filter((name) => name !== "node_modules" && !name.startsWith("."));
   }
 
   /** @param {string[]} folders @returns {Map<string, string>} */
@@ -109,7 +137,16 @@ export class Workspaces {
   }
 }
 
-/** @param {string} name of a folder */
-function isTaken(name) {
-  return name !== "node_modules" && !name.startsWith(".");
+/** @param {string} pattern @returns {string[]} */
+function partsOf(pattern) {
+  return pattern.split("/").filter((part) => part !== "" && part !== ".");
+}
+
+/**
+ * @param {string[]} parts of a pattern
+ * @param {string} path of a folder
+ * @returns {boolean} whether a file in it has the path that the pattern and a name make
+ */
+function matchesFolder(parts, path) {
+  return matchesPath([...parts, "name"].join("/"), join(path, "name"));
 }
