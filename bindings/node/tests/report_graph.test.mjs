@@ -155,6 +155,22 @@ test("packages have the version that is installed, else the range of the nearest
   assert.deepEqual(builtins.map(({ name, users }) => [name, users]), [["fs", [0, 4, 4, 0, 5, 5]]]);
 });
 
+test("a version is a text of a package.json, whatever else is in its place", () => {
+  const folder = folderOf({
+    "package.json": `{"name":"app","dependencies":{"b":{"toString":null},"c":1},"peerDependencies":"d","devDependencies":{"b":"^1.0.0"}}`,
+    "node_modules/a/package.json": `{"name":"a","version":{"toString":null,"valueOf":null}}`, "node_modules/a/x.js": "",
+    "src/m.js": "",
+  });
+  const names = ["a", "b", "c", "constructor", "toString", "__proto__", "length", "0"];
+  const modules = [moduleWith(folder, "src/m.js", rowsWith(...names.map((name) => {
+    const file = name === "a" ? { file: `file://${folder}/node_modules/a/x.js` } : {};
+    return { name, resolved: { class: "package", package: name, ...file } };
+  })))];
+  const { packages } = outsideOf(modules, new Links(folder, modules));
+  assert.deepEqual(packages.flatMap(({ name, version }) => (version === undefined ? [] : [[name, version]])), [["b", "^1.0.0"]]);
+  assert.equal(packages.length, names.length);
+});
+
 test("a cycle has the lines that make it, those that run rather than those of types", () => {
   const [a, b] = ["a.ts", "b.ts"].map((path) => ({ class: "file", file: `file:///project/${path}` }));
   const { modules, links } = projectWith([{ kind: "type", name: "./b.js", resolved: b }, { name: "./b.js", resolved: b }]);
