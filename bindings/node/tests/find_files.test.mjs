@@ -1,7 +1,8 @@
 /** Which files paths name. */
 
 import assert from "node:assert/strict";
-import { chmodSync, realpathSync, symlinkSync } from "node:fs";
+import fs, { chmodSync, realpathSync, symlinkSync } from "node:fs";
+import { syncBuiltinESMExports } from "node:module";
 import { join, relative } from "node:path";
 import { Readable } from "node:stream";
 import { test } from "node:test";
@@ -97,6 +98,17 @@ async function asNobody(run) {
     seteuid?.(0);
   }
 }
+
+test("a folder may have more files than a call takes arguments", async (t) => {
+  const names = Array.from({ length: 130_000 }, (_, at) => `${at + 1_000_000}.js`);
+  const kind = { isFile: () => true, isDirectory: () => false, isSymbolicLink: () => false };
+  t.mock.method(fs, "readdirSync", () => names.map((name) => ({ name, ...kind })));
+  syncBuiltinESMExports();
+  const found = await filesOf(folderOf());
+  t.mock.restoreAll();
+  syncBuiltinESMExports();
+  assert.deepEqual(found, names);
+});
 
 test("paths are read one a line, or ended by zero bytes", async () => {
   const bytes = Buffer.from("a b\n\né\r\nlast");

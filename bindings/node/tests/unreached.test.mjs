@@ -263,6 +263,9 @@ test("--entry takes a folder with a package.json, whose members name entries", (
     "bin/tool.js", "old/index.js", "src/browser.js", "src/deep.mjs", "src/index.cjs", "src/index.mjs", "src/x/a.js", "src/x/b.js",
   ], "", 0]);
   assert.deepEqual(reached(folderOf({ "package.json": "{}", "index.js": "" }), ".").lines, ["index.js"]);
+  const many = Object.fromEntries(Array.from({ length: 130_000 }, (_, at) => [`c${at}`, "./a.js"]));
+  const large = folderOf({ "package.json": JSON.stringify({ exports: many }), "a.js": "" });
+  assert.deepEqual(reached(large, "."), withStatus(["a.js"]));
 });
 
 test("a script without an ending that a package.json names is searched, and its relative imports are entries", () => {

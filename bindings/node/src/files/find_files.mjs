@@ -101,7 +101,7 @@ function* filesBelow(folder, options, roots) {
       continue;
     }
     try {
-      todo.push(...entriesOf(next, options, roots));
+      entriesOf(next, options, roots).forEach((entry) => todo.push(entry));
     } catch (/** @type {any} */ error) {
       yield { path: next, error };
     }
