@@ -7,6 +7,7 @@ import { join } from "node:path";
 import { test } from "node:test";
 import { fileURLToPath } from "node:url";
 
+import { entryPoints } from "../src/graph/entry_points.mjs";
 import { looseImports } from "../src/graph/loose_references.mjs";
 import { folderOf, run, urlOf } from "./run_commands.mjs";
 
@@ -312,6 +313,18 @@ test("the scripts of a page are entries", () => {
   ]);
 });
 
+test("a script of a page has a URL that is relative to the page, in any spelling that HTML has", () => {
+  for (const script of [
+    "<script src='js/app.js?v=3'></script>", `<script src="./js/app.js?v=3#x"></script>`, "<script src=js/app.js?v=3></script>",
+    "<SCRIPT defer src = ./js/app.js#x async>", `<script type=module>import "./js/app.js?v=3"</script>`,
+    `<!--><script src="js/app.js"></script><!-- <script src="old.js"></script> -->`, `<script src="js/app.js"></script><!--`,
+    `<!-- <!-- --><script src="js/app.js"></script><!-- a -- > <script src="old.js"></script> -->`,
+  ]) {
+    const folder = folderOf({ "index.html": script, "js/app.js": "", "old.js": "", "index.js": "" });
+    assert.deepEqual(reached(folder, "index.html"), withStatus(["js/app.js"]), script);
+  }
+});
+
 /**
  * Projects whose every module is in use, by names that node itself doesn't find; each with its entry.
  * @type {Record<string, { files: Record<string, string>, words?: string[] }>}
@@ -408,12 +421,14 @@ test("a cycle of TypeScript files may be of types alone, and the last line says 
   assert.deepEqual([stdout, status], ["", 0]);
 });
 
-test("texts that are made to take long are searched in a moment", () => {
-  const parts = ["new ", "import . meta", "import.meta.glob<", "jest.mock<", "`${", "<script ", "require ", "__dirname,\"a\"", "from "];
+test("texts that are made to take long are searched in a moment", async () => {
+  const parts = ["<script src=", "new ", "import . meta", "import.meta.glob<", "jest.mock<", "`${", "<script ", "require ", "__dirname,\"a\"", "from "];
   const begun = performance.now();
   for (const part of parts) {
     looseImports(part.repeat(200_000 / part.length), "script");
     looseImports(`${part}${" ".repeat(200_000)}`, "script");
   }
+  const page = join(folderOf({ "a.html": `<script src=/a.js></script>${"<!--".repeat(200_000)}` }), "a.html");
+  assert.deepEqual(await entryPoints([page], () => "/a.js"), { files: ["/a.js"], absent: [], texts: [] });
   assert.ok(performance.now() - begun < 20_000);
 });

@@ -52,9 +52,25 @@ function ofFile(path, find) {
   if (!isPage(path)) {
     return { files: [path], absent: [], texts: [] };
   }
-  const text = String(readRegularFile(path)).replace(/<!--.*?-->/gs, "");
-  const names = importedIn(text).filter((name) => !/^(?:[a-z][a-z0-9+.-]*:|\/\/)/i.test(name));
-  return found(path, names, find);
+  const names = importedIn(withoutComments(String(readRegularFile(path))))
+    .filter((name) => !/^(?:[a-z][a-z0-9+.-]*:|\/\/)/i.test(name));
+  return found(path, names.map((name) => name.replace(/(?<=.)[?#].*/s, "")), find);
+}
+
+/** @param {string} page @returns {string} the page; a comment without an end stays */
+function withoutComments(page) {
+  const parts = [];
+  let from = 0;
+  for (let start = page.indexOf("<!--"); start >= 0; start = page.indexOf("<!--", from)) {
+    // `<!-->` is a comment too.
+    const end = page.indexOf("-->", start + 2);
+    if (end < 0) {
+      break;
+    }
+    parts.push(page.slice(from, start));
+    from = end + 3;
+  }
+  return [...parts, page.slice(from)].join("");
 }
 
 /**

@@ -40,10 +40,10 @@ const CALLS = [
   { call: pattern(String.raw`(?:\b__dirname|`, META, String.raw`dirname)\s*[,+]`), kind: "__dirname" },
 ];
 
-/** What leads to a module in a text that isn't parsed. */
+/** What leads to a module in a text that isn't parsed. A group is a name without quotes. */
 const IMPORTS = [
   /\bfrom\s*(?=["'])/g, /\bimport\s*(?=["'])/g, /\b(?:import|require)\s*\(/g,
-  /<script\b[^>]{0,100}?\bsrc\s*=\s*(?=["'])/gi,
+  /<script\b[^>]{0,100}?\bsrc\s*=\s*(?:(?=["'])|([^\s"'>][^\s>]{0,300}))/gi,
 ];
 
 /** Whether a text may have any of the calls: most have none. */
@@ -79,8 +79,9 @@ export function looseImports(text, kind) {
  * @returns {LooseReference[]}
  */
 function referencesAfter(text, call, { kind, form }) {
-  return [...text.matchAll(call)].flatMap(({ 0: { length }, index: offset = 0 }) => {
-    const names = form === "glob" ? listAt(text, offset + length) : [partsAt(text, offset + length)];
+  return [...text.matchAll(call)].flatMap(({ 0: { length }, 1: unquoted, index: offset = 0 }) => {
+    const end = offset + length;
+    const names = form === "glob" ? listAt(text, end) : [unquoted === undefined ? partsAt(text, end) : [unquoted]];
     const isKnown = (/** @type {(string | undefined)[]} */ parts) => parts.some((each) => each !== undefined);
     return names.filter(isKnown).map((parts) => ({ kind, parts, form, offset }));
   });
