@@ -240,6 +240,20 @@ test("a full disk is an error, a reader that ends isn't", () => {
   }
 });
 
+test("no more files are read once the reader of the output has ended", () => {
+  const files = Array.from({ length: 300 }, (_, at) => [`src/${at}.js`, ""]);
+  const folder = folderOf({ ...Object.fromEntries(files), modinfo: `#!/bin/bash
+while IFS= read -r -d '' path; do
+  echo "$path" >> counted
+  sleep 0.01
+  echo '{"specifier":"file:///a","info":{}}'
+done
+` });
+  chmodSync(join(folder, "modinfo"), 0o755);
+  const { stdout } = shell("MODINFO=./modinfo $node $cli/files.mjs --jobs 1 src | head -1; wc -l < counted", folder);
+  assert.ok(Number(stdout.split("\n")[1]) < 100, stdout);
+});
+
 test("a program that doesn't read files is named", () => {
   const folder = folderOf({ "a.js": "", old: "#!/bin/sh\necho usage >&2\nexit 2\n" });
   const old = join(folder, "old");

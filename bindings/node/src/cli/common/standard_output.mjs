@@ -20,12 +20,17 @@ export class OutputLines {
   #waiting = "";
   /** @type {Promise<void>} */
   #written = Promise.resolve();
+  #hasFailed = false;
 
   /**
    * @param {string} line with its end
-   * @returns {Promise<void> | undefined} where it has to be waited for: rejected with an `OutputFault`
+   * @returns {Promise<void> | undefined} where it has to be waited for, or an earlier line wasn't written:
+   *   rejected with an `OutputFault`
    */
   write(line) {
+    if (this.#hasFailed) {
+      return this.#written;
+    }
     if (this.#waiting === "") {
       setImmediate(() => this.#flush());
     }
@@ -44,7 +49,9 @@ export class OutputLines {
     this.#waiting = "";
     if (text !== "") {
       this.#written = Promise.all([this.#written, writeOutput(text)]).then(() => {});
-      this.#written.catch(() => {});
+      this.#written.catch(() => {
+        this.#hasFailed = true;
+      });
     }
   }
 }
