@@ -139,10 +139,12 @@ test("scripts of pages and components are reasons", () => {
     "main.js": `import "./App.vue";`, "App.vue": `<script setup>\nimport A from "./a";\n</script>`, "a.ts": "",
     "B.svelte": `<script>import("./b.js")</script>`, "b.js": "", "c.astro": `---\nimport "./c.js";\n---\n`, "c.js": "",
     "d.html": `<script type="module" src="/d.js"></script>`, "d.js": "", "e.js": "",
+    "f/g.html": `<script src=h/i.js?j></script>`, "f/h/i.js": "",
   };
   assert.deepEqual(unreached(files), withStatus([
     "e.js", "a.ts: may be reached: script of ./a at App.vue:2:10", "b.js: may be reached: script of ./b.js at B.svelte:1:9",
     "c.js: may be reached: script of ./c.js at c.astro:2:1", "d.js: may be reached: script of /d.js at d.html:1:1",
+    "f/h/i.js: may be reached: script of h/i.js?j at f/g.html:1:1",
   ], 1));
 });
 

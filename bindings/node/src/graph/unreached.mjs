@@ -249,11 +249,15 @@ class Search {
       return folders.flatMap((folder) => this.#candidates.matching(pattern, folder));
     }
     const whole = parts.join("");
-    if (/^[./]/.test(whole) || isOfFile(kind)) {
-      return folders.flatMap((folder) => this.#candidates.named(whole.replace(/^\/+/, ""), folder));
+    const isPath = /^[./]/.test(whole) || isOfFile(kind);
+    const path = isPath ? undefined : this.#project.find(whole, from);
+    if (path !== undefined) {
+      return [path];
     }
-    const path = this.#project.find(whole, from);
-    return path === undefined ? [] : [path];
+    // The `src` of a page is a URL: without a slash it leads to a file beside the page.
+    return isPath || isPage(from)
+      ? folders.flatMap((folder) => this.#candidates.named(whole.replace(/^\/+/, ""), folder))
+      : [];
   }
 
   /**
