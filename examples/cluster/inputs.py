@@ -4,6 +4,7 @@ import json
 import os
 import sys
 from collections.abc import Iterable, Iterator
+from typing import Any
 
 import modinfo
 from work import Module, Source
@@ -32,14 +33,22 @@ def of_path(path: str) -> Source:
 
 def of_texts(path: str) -> Iterator[Source | Module]:
     """A source for each line of a file, a document of `modinfo analyze --source`. A line that is none has a fault."""
+    name = os.fsencode(path).decode(errors="backslashreplace")
     with open(path, "rb") as file:
         for number, line in enumerate(file, 1):
             try:
-                document = json.loads(line)
-                text = document["source"].encode(errors="surrogatepass")
-                yield Source(str(document["specifier"]), text, document.get("mediaType"))
+                yield of_document(json.loads(line))
             except (ValueError, KeyError, TypeError, AttributeError, RecursionError):
-                yield Module(f"{path}:{number}", None, "Json: no document with a specifier and a source", [])
+                yield Module(f"{name}:{number}", None, "Json: no document of `modinfo analyze --source`", [])
+
+
+def of_document(document: Any) -> Source:
+    specifier, media_type = str(document["specifier"]), document.get("mediaType")
+    if not isinstance(media_type, str | None):
+        raise TypeError("a media type is a text")
+    # SQLite and the hash take no lone surrogate.
+    f"{specifier}{media_type}".encode()
+    return Source(specifier, document["source"].encode(errors="surrogatepass"), media_type)
 
 
 def batches(sources: Iterable[tuple[Source, int]], most: int) -> Iterator[list[Source]]:

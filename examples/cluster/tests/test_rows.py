@@ -1,6 +1,7 @@
 """The rows of sources, sources with faults, and words of the command line."""
 
 import json
+import os
 import subprocess
 import sys
 from pathlib import Path
@@ -54,18 +55,19 @@ def test_a_bad_line_among_texts(example: Example) -> None:
         {"specifier": "d", "source": ""},
         {"specifier": "https://a/e.ts"},
         {"specifier": "https://a/f.ts", "source": "", "mediaType": "ts"},
+        {"specifier": "https://a/\ud800.ts", "source": ""},
+        {"specifier": "https://a/h.ts", "source": "", "mediaType": "\ud800"},
+        {"specifier": "https://a/i.ts", "source": "", "mediaType": ["TypeScript"]},
         {"specifier": "https://a/g.ts", "source": 'import "g";'},
     ]
-    texts = example.folder / "texts.jsonl"
-    texts.write_bytes(b"".join(json.dumps(line).encode() + b"\n" for line in lines) + b"{\n\xff\n")
-    wanted = "5: Json:|8: Json:|9: Json:|d: Specifier|https://a/b.ts: Syntax|https://a/c.ts: Input:"
-    for counts in "9 analyzed, 0 known", "4 analyzed, 5 known":
+    texts, shown = example.folder / os.fsdecode(b"texts\xff.jsonl"), example.folder / "texts\\xff.jsonl"
+    texts.write_bytes(b"{\n\xff\n" + b"".join(json.dumps(line).encode() + b"\n" for line in lines))
+    wanted = "1: Json:|2: Json:|7: Json:|9: Json:|10: Json:|11: Json:".split("|")
+    wanted += "d: Specifier|https://a/b.ts: Syntax|https://a/c.ts: Input:|https://a/f.ts: ValueError:".split("|")
+    for counts in "12 analyzed, 0 known", "7 analyzed, 5 known":
         status, output, errors = example.run("--texts", texts)
-        assert (status, output) == (1, f"{counts}, 7 faults\n")
-        assert sorted(" ".join(line.removeprefix(f"{texts}:").split()[:2]) for line in errors) == [
-            *wanted.split("|"),
-            "https://a/f.ts: ValueError:",
-        ]
+        assert (status, output) == (1, f"{counts}, 10 faults\n")
+        assert sorted(" ".join(line.removeprefix(f"{shown}:").split()[:2]) for line in errors) == sorted(wanted)
         found = example.rows("SELECT module, specifier FROM dependencies WHERE specifier IS NOT NULL")
         assert found == [("https://a/a", "./\u00e9"), ("https://a/g.ts", "g")]
 
