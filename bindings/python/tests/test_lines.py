@@ -166,3 +166,22 @@ def test_keyed_documents(jobs: int) -> None:
     assert keyed == [("file:///a", "Tree"), ("a:b", "Json"), ("", "Json"), ("", "Tree"), ("", "Tree"), ("", "Input")]
     with pytest.raises(TypeError, match="^a document is a mapping, a str or bytes, not int$"):
         list(modinfo.analyze_many([1], jobs))  # type: ignore[list-item]
+
+
+@pytest.mark.parametrize(
+    "members, wanted",
+    [
+        ('"specifier":"a:b"', "a:b"),
+        (r'"specifie\u0072" : "a:b"', "a:b"),
+        (r'"\u0073\u0070\u0065\u0063\u0069\u0066\u0069\u0065\u0072":"a:b"', "a:b"),
+        ('"specifier":"a:b","other":[{"specifier":"c:d"}]', "a:b"),
+        ('"other":{"specifier":"a:b"}', "first"),
+        (r'"other":"\"specifier\":\"a:b\""', "first"),
+        (r'"\"specifier":"a:b"', "first"),
+    ],
+)
+def test_the_key_where_a_document_has_more_than_one_specifier(members: str, wanted: str) -> None:
+    """By docs/FORMATS.md the last one counts. The first one is no URL, so that its document has a fault."""
+    rest = '"mediaType":"Json","source":"","program":{"range":[0,0],"body":[]}'
+    [(key, info)] = modinfo.analyze_many([f'{{"specifier":"first",{rest},{members}}}'])
+    assert (key, isinstance(info, modinfo.ModuleInfo)) == (wanted, wanted == "a:b")

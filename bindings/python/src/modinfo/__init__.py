@@ -85,7 +85,9 @@ __all__ = [
 
 Command = Literal["analyze", "analyze_estree", "analyze_source", "convert", "reach"]
 # A specifier at the front of a document's JSON, where most writers put it.
-_SPECIFIER = re.compile(rb'\s*\{\s*"specifier"\s*:\s*("(?:[^"\\]|\\.)*")')
+_FIRST_SPECIFIER = re.compile(rb'\s*\{\s*"specifier"\s*:\s*("(?:[^"\\]|\\.)*+")')
+# The name of a member `specifier`, each letter of which may be escaped.
+_SPECIFIER_NAME = re.compile(b'"%b"\\s*:' % b"".join(rb"(?:%c|\\u00%02x)" % (each, each) for each in b"specifier"))
 
 
 def analyze(document: Document) -> ModuleInfoDict:
@@ -229,10 +231,13 @@ def _keyed(document: Document) -> tuple[str, ModuleInfo | Fault]:
 
 
 def _specifier(document: Document, read: Buffer) -> str:
-    """The specifier of a document, of which nothing else is read where it comes first."""
+    """The specifier of a document: of several the last, as the library reads it."""
     try:
         if not isinstance(document, Mapping):
-            found = _SPECIFIER.match(read)
+            # Most documents have one, at the front: then nothing else is parsed.
+            found = _FIRST_SPECIFIER.match(read)
+            if found and _SPECIFIER_NAME.search(read, found.end()):
+                found = None
             document = {"specifier": json.loads(found[1])} if found else json.loads(bytes(read))
         specifier = document.get("specifier")
     except (ValueError, AttributeError, RecursionError):
