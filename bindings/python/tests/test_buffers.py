@@ -1,4 +1,4 @@
-"""Documents in memory that isn't a bytes object, of which nothing is copied."""
+"""Documents in memory that isn't a bytes object, of which nothing is copied if its bytes are one after the other."""
 
 import array
 import json
@@ -14,6 +14,7 @@ import modinfo
 from modinfo import _buffers, _library
 
 DOCUMENT = (EXAMPLES / "page.json").read_bytes()
+SPECIFIER = json.loads(DOCUMENT)["specifier"]
 ANSWER = json.loads((EXAMPLES / "page.out.json").read_text())
 
 
@@ -27,6 +28,7 @@ MAKERS: dict[str, Callable[[bytes, Path], Any]] = {
     "bytes": lambda document, _: document,
     "bytearray": lambda document, _: bytearray(document),
     "memoryview": lambda document, _: memoryview(document),
+    "each second byte": lambda document, _: memoryview(bytes(byte for byte in document for _ in "ab"))[::2],
     "a part": lambda document, _: memoryview(b"[[" + document + b"]]")[2:-2],
     "array": lambda document, _: array.array("B", document),
     "subclass": lambda document, _: type("Sub", (bytes,), {})(document),
@@ -40,7 +42,10 @@ def test_a_document_in_a_buffer(make: Callable[[bytes, Path], Any], tmp_path: Pa
     buffer = make(DOCUMENT, tmp_path)
     assert modinfo.analyze(buffer) == ANSWER
     assert modinfo.check(buffer) == {"valid": True}
-    assert [json.loads(line) for line in modinfo.analyze_lines([buffer, buffer])] == [{"answer": ANSWER}] * 2
+    for jobs in 1, 2:
+        lines = modinfo.analyze_lines([buffer, buffer], jobs)
+        assert [json.loads(line) for line in lines] == [{"answer": ANSWER}] * 2
+    assert list(modinfo.analyze_many([buffer])) == [(SPECIFIER, modinfo.ModuleInfo.from_dict(ANSWER))]
     assert bytes(memoryview(buffer)) == DOCUMENT
 
 
@@ -56,9 +61,10 @@ def test_an_empty_buffer(empty: Any) -> None:
         modinfo.analyze(empty)
 
 
-def test_bytes_that_are_not_one_after_the_other() -> None:
-    with pytest.raises(BufferError):
-        modinfo.analyze(memoryview(DOCUMENT)[::2])
+@pytest.mark.parametrize("make", MAKERS.values(), ids=MAKERS)
+def test_a_text_in_a_buffer(make: Callable[[bytes, Path], Any], tmp_path: Path) -> None:
+    [dependency] = modinfo.module_info(make(b'import "a";', tmp_path), "file:///b.js").dependencies
+    assert isinstance(dependency, modinfo.StaticDependency) and dependency.specifier == "a"
 
 
 @pytest.mark.parametrize("make", [MAKERS["bytearray"], MAKERS["mmap for reading"]])

@@ -65,3 +65,11 @@ def is_buffer(value: object) -> bool:
             return True
     except TypeError:
         return False
+
+
+def contiguous(buffer: Buffer) -> Buffer:
+    """The buffer, or a copy of its bytes if they aren't one after the other."""
+    if type(buffer) is bytes:
+        return buffer
+    with memoryview(buffer) as view:
+        return buffer if view.c_contiguous else view.tobytes()

@@ -4,7 +4,7 @@ import json
 from collections.abc import Mapping
 from typing import Any, cast
 
-from ._buffers import Buffer, is_buffer
+from ._buffers import Buffer, contiguous, is_buffer
 
 Document = Mapping[str, object] | str | Buffer
 
@@ -20,7 +20,7 @@ def bytes_of(document: Document) -> Buffer:
     if isinstance(document, str):
         return document.encode(errors="surrogatepass")
     if isinstance(document, bytes) or is_buffer(document):
-        return cast(Buffer, document)
+        return contiguous(cast(Buffer, document))
     raise TypeError(f"a document is a mapping, a str or bytes, not {type(document).__name__}")
 
 

@@ -5,7 +5,7 @@ from collections.abc import Callable, Iterable, Iterator
 from concurrent.futures import Future, ThreadPoolExecutor
 from typing import TypeVar
 
-from ._buffers import Buffer, is_buffer
+from ._buffers import Buffer, contiguous, is_buffer
 from ._errors import Fault
 from ._library import Call, room
 
@@ -89,7 +89,7 @@ def _batches(lines: Iterator[Buffer]) -> Iterator[list[Buffer]]:
 
 def _answer(call: Call, frame: Frame, line: Buffer) -> bytes:
     try:
-        return frame(room().call(call.one, line))
+        return frame(room().call(call.one, contiguous(line)))
     except Fault as fault:
         name = fault.name
     except MemoryError:

@@ -8,7 +8,7 @@ from typing import cast, get_args
 from urllib.parse import quote
 
 from . import _library
-from ._buffers import Buffer, is_buffer
+from ._buffers import Buffer, contiguous, is_buffer
 from ._errors import Fault, alone
 from ._lines import in_threads
 from .document import MediaType
@@ -43,7 +43,7 @@ def module_info(text: str | Buffer, specifier: str, media_type: MediaType | None
         url = specifier.encode()
     except UnicodeEncodeError:
         raise Fault("Specifier", message="an absolute URL has no lone surrogate") from None
-    arguments = source, url, len(url), _NUMBERS[media_type]
+    arguments = contiguous(source), url, len(url), _NUMBERS[media_type]
     try:
         answer = _library.room().call(_library.ANALYZE_SOURCE, *arguments)
     except Fault as fault:
