@@ -1,7 +1,8 @@
-"""Out of memory in this package: a process that may have little more memory than it has."""
+"""Memory in this package: what is kept of it, and a process that may have little more than it has."""
 
 import subprocess
 import sys
+import tracemalloc
 from typing import get_args
 
 import pytest
@@ -54,6 +55,17 @@ except modinfo.Fault as fault:
     print(fault)
 """
     assert printed(program) == "OutOfMemory: an allocation failed\n"
+
+
+@pytest.mark.parametrize("end, wanted", [(b"1", b'{"answer":1}\n'), (b"", b'{"fault":"Json"}\n')])
+def test_that_at_most_a_mebibyte_is_kept_after_a_call(end: bytes, wanted: bytes) -> None:
+    tracemalloc.start()
+    try:
+        assert list(modinfo.convert_lines([b" " * 10_000_000 + end])) == [wanted]
+        kept, most = tracemalloc.get_traced_memory()
+    finally:
+        tracemalloc.stop()
+    assert kept < 1 << 20 and most > 10_000_000
 
 
 def test_that_the_fault_has_a_name() -> None:

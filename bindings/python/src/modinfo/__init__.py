@@ -1,8 +1,8 @@
 """What one JavaScript or TypeScript module depends on, from its source text.
 
 `module_info` reads a text, `files` reads files. The other functions read documents: mappings, their JSON as a str, or
-as bytes in UTF-8. docs/FORMATS.md of the repository has all formats, docs/ESTREE.md that of trees of parsers. Nothing
-is kept between calls, and calls may run in many threads at once.
+as bytes in UTF-8. docs/FORMATS.md of the repository has all formats, docs/ESTREE.md that of trees of parsers. Calls
+may run in many threads at once. Each thread keeps at most 1 MiB of memory between calls.
 """
 
 import json

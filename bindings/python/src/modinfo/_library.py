@@ -17,6 +17,8 @@ ANSWERED, FAULT, TOO_SMALL = 0, 1, 2
 
 # Most answers are not longer than their document and a line feed, and most reports not longer than this.
 LEAST_ROOM = 4096
+# What a room has at most between calls.
+MOST_KEPT = 1 << 20
 
 
 def _load() -> ctypes.CDLL:
@@ -115,6 +117,9 @@ class Room:
                 return self._call(function, length, address or b"", length, *arguments)
         except MemoryError:
             raise Fault("OutOfMemory") from None
+        finally:
+            if len(self._bytes) > MOST_KEPT:
+                self._resize(LEAST_ROOM)
 
     def _call(self, function: Function, least: int, *arguments: object) -> bytes:
         if len(self._bytes) <= least:
