@@ -90,4 +90,4 @@ def test_a_reader_that_ends(tmp_path: Path) -> None:
     (tmp_path / "lines").write_bytes(b"{\n" * 20_000)
     words = f"{sys.executable} -m modinfo analyze --lines < {tmp_path}/lines | head -n 1; exit ${{PIPESTATUS[0]}}"
     done = subprocess.run(["bash", "-c", words], capture_output=True, check=False)
-    assert (done.returncode, done.stdout, done.stderr) == (0, b'{"fault":"Json"}\n', b"")
+    assert (done.returncode, done.stdout, done.stderr) == (1, b'{"fault":"Json"}\n', b"")

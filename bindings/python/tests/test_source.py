@@ -114,9 +114,24 @@ def test_the_url_of_a_file(tmp_path: Path, monkeypatch: pytest.MonkeyPatch) -> N
 def test_the_bytes_of_a_file(tmp_path: Path) -> None:
     (tmp_path / "a").write_bytes(b"\xff\r\n")
     assert modinfo.read_file(tmp_path / "a") == b"\xff\r\n"
-    for path, message in (tmp_path, "a folder: name the files in it"), ("/dev/zero", "no regular file"):
+    assert modinfo.read_file(f"/proc/self/root{tmp_path}/a") == b"\xff\r\n"
+
+
+@pytest.mark.parametrize(
+    "path, message",
+    [
+        ("/dev", "a folder: name the files in it"),
+        ("/dev/zero", "no regular file"),
+        ("/proc/self/status", "in /proc or /sys"),
+        ("/dev/../sys/devices/system/cpu/online", "in /proc or /sys"),
+    ],
+)
+def test_a_file_that_is_not_read(path: str, message: str, tmp_path: Path) -> None:
+    """Nor through a link."""
+    (tmp_path / "link").symlink_to(path)
+    for each in path, tmp_path / "link":
         with pytest.raises(modinfo.Fault, match=f"^Input: {message}$"):
-            modinfo.read_file(path)
+            modinfo.read_file(each)
 
 
 @pytest.mark.parametrize("paths", ["a.ts", b"a.ts", Path("a.ts")], ids=repr)

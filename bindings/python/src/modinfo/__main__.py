@@ -137,7 +137,7 @@ def main(arguments: Sequence[str] | None = None) -> int:
     except BrokenPipeError:
         # The reader of the output has ended. Nothing more is written, not even at the exit.
         os.dup2(os.open(os.devnull, os.O_WRONLY), sys.stdout.fileno())
-        return 0
+        return 1
     except (modinfo.Fault, OSError) as error:
         print(f"modinfo: {error}", file=sys.stderr)
         return 1

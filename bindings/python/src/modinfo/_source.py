@@ -19,6 +19,8 @@ from .values import ModuleInfo
 _NUMBERS: dict[str | None, int] = {None: 0, **{name: number for number, name in enumerate(get_args(MediaType), 1)}}
 # The most bytes of a file.
 _LIMIT = 64 << 20
+# The folders of files that the system makes up as they are read. They count as regular, but some have no end.
+_OF_SYSTEM = (b"/proc/", b"/sys/")
 # The characters that a path has in a URL too.
 _PLAIN = "/!$&'()*+,;=:@"
 
@@ -60,8 +62,9 @@ def files(paths: Iterable[Path], jobs: int = 1) -> Iterator[tuple[str, ModuleInf
     """Returns for each file its `file:` URL and what it depends on, in the order of the paths.
 
     Where a file has a fault, the Fault is returned, and the next file is read: Input, where the file can't be read,
-    isn't UTF-8, isn't a regular file or has more than 64 MiB; Syntax; OutOfMemory. Only regular files are read, and
-    no folder is walked. `jobs` threads work side by side; with more than one, some files are read ahead.
+    isn't UTF-8, isn't a regular file, is in /proc or /sys or has more than 64 MiB; Syntax; OutOfMemory. Only regular
+    files are read, and no folder is walked. `jobs` threads work side by side; with more than one, some files are read
+    ahead.
 
     Raises TypeError where `paths` is one path, or has something else.
     """
@@ -76,15 +79,19 @@ def file_url(path: Path) -> str:
 
 
 def read_file(path: Path) -> bytes:
-    """Returns the bytes of a regular file of at most 64 MiB. Nothing else is opened.
+    """Returns the bytes of a regular file of at most 64 MiB, outside of /proc and /sys. Nothing else is opened.
 
     Raises Fault, Input, where there is none or it can't be read.
     """
     try:
         _check_kind(os.stat(path))
+        if os.fsencode(os.path.realpath(path, strict=True)).startswith(_OF_SYSTEM):
+            raise Fault("Input", message="in /proc or /sys")
         # Where the file was replaced meanwhile, by a pipe for example, nothing is waited for.
         with open(os.open(path, os.O_RDONLY | os.O_NONBLOCK | os.O_CLOEXEC), "rb") as file:
             _check_kind(os.fstat(file.fileno()))
+            # A read that doesn't wait may return a part of the file, or None.
+            os.set_blocking(file.fileno(), True)
             content = file.read(_LIMIT + 1)
     except (OSError, ValueError) as error:
         raise Fault("Input", message=getattr(error, "strerror", None) or str(error)) from None
@@ -98,6 +105,8 @@ def _check_kind(found: os.stat_result) -> None:
         raise Fault("Input", message="a folder: name the files in it")
     if not stat.S_ISREG(found.st_mode):
         raise Fault("Input", message="no regular file")
+    if found.st_size > _LIMIT:
+        raise Fault("Input", message="larger than 64 MiB")
 
 
 def _file(path: Path) -> tuple[str, ModuleInfo | Fault]:
