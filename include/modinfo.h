@@ -23,7 +23,7 @@
  *                        line feed.
  *     MODINFO_FAULT      The document is refused, or an allocation failed. The fault's name is at the
  *                        front of `answer`, in ASCII and without a line feed. A check refuses no
- *                        document: its only fault is OutOfMemory.
+ *                        document: its only fault is OutOfMemory, but for modinfo_check_source.
  *     MODINFO_TOO_SMALL  `room` is too small for the answer or the name. Nothing is written to
  *                        `answer`: call again with room for `*length` bytes.
  *     MODINFO_NO_COMMAND modinfo_run and modinfo_run_lines alone: `command` is none of the numbers below.
@@ -191,7 +191,7 @@ uint8_t modinfo_analyze_source(const uint8_t *text, size_t text_length,
                                const uint8_t *specifier, size_t specifier_length, uint8_t media_type,
                                uint8_t *answer, size_t room, size_t *length) MODINFO_NONNULL;
 
-/* Like modinfo_analyze_source, but writes a report on the text. The only other faults are Input and Tree. */
+/* Like modinfo_analyze_source, but writes a report on the text. Its only faults are Input, Tree and OutOfMemory. */
 uint8_t modinfo_check_source(const uint8_t *text, size_t text_length,
                              const uint8_t *specifier, size_t specifier_length, uint8_t media_type,
                              uint8_t *answer, size_t room, size_t *length) MODINFO_NONNULL;

@@ -1,8 +1,8 @@
 /* modinfo for C++17 and later: the functions of modinfo.h, over std::string_view and std::string.
  *
  * An answer is returned without its line feed. A fault is thrown as modinfo::fault, and std::bad_alloc where an
- * allocation fails. A check throws no fault: a text or a document with one has a report. Calls may run side by side
- * in many threads.
+ * allocation fails. The check of a document throws no fault: the report has it. Calls may run side by side in many
+ * threads.
  */
 #ifndef MODINFO_HPP
 #define MODINFO_HPP
@@ -138,7 +138,8 @@ inline std::string module_info(std::string_view text, std::string_view specifier
                           [&] { return detail::call(modinfo_check_source, text, specifier, media); });
 }
 
-/* The report on a source text: {"valid":true}, or where its error is. Its only faults are Input and Tree. */
+/* The report on a source text: {"valid":true}, or where its error is. Throws the fault Input for a text or a specifier
+ * that isn't UTF-8, and Tree for a number that is no media type. */
 inline std::string check_source(std::string_view text, std::string_view specifier,
                                 media_type media = media_type::of_specifier)
 {

@@ -48,6 +48,8 @@ void texts()
     expect_fault([] { return modinfo::module_info("let a = ;", "file:///b.ts"); }, "Syntax", place);
     expect_fault([] { return modinfo::module_info("", ""); }, "Specifier", R"({"fault":"Specifier")");
     expect_fault([] { return modinfo::module_info("\xff", "file:///b.ts"); }, "Input", "");
+    expect_fault([] { return modinfo::check_source("\xff", "file:///b.ts"); }, "Input", "");
+    expect_fault([] { return modinfo::check_source("", "\xff"); }, "Input", "");
     expect_fault([] { return modinfo::check_source("", "a:", modinfo::media_type{99}); }, "Tree", "");
 }
 
