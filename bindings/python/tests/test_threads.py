@@ -5,6 +5,7 @@ import time
 from concurrent.futures import ThreadPoolExecutor
 from typing import Any
 
+import pytest
 from repository import CASES, answer, examples, program_cases
 
 import modinfo
@@ -36,6 +37,20 @@ def test_eight_threads_at_once() -> None:
 
     with ThreadPoolExecutor(THREADS) as threads:
         assert list(threads.map(wrong, range(THREADS))) == [[]] * THREADS
+
+
+def test_a_call_inside_another(monkeypatch: pytest.MonkeyPatch) -> None:
+    """As a handler of signals makes it, after the library has written its answer and before that is taken."""
+    command = _library.COMMANDS["convert"]
+
+    def interrupted(*arguments: Any) -> int:
+        status = command.answer.one(*arguments)
+        assert modinfo.check("[22]", "convert") == {"valid": True}
+        return status
+
+    call = _library.Call(interrupted, command.answer.lines)
+    monkeypatch.setitem(_library.COMMANDS, "convert", _library.Command(call, command.check))
+    assert modinfo.convert("[1]") == [1]
 
 
 def test_that_python_s_lock_is_free_during_a_call() -> None:

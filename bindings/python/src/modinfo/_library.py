@@ -96,6 +96,7 @@ class Room:
     """Memory that functions write to. One thread uses it at a time, for any number of calls."""
 
     def __init__(self) -> None:
+        self.is_in_use = False
         self._resize(LEAST_ROOM)
         self._length = ctypes.c_size_t()
         self._length_address = ctypes.addressof(self._length)
@@ -110,6 +111,7 @@ class Room:
 
         Raises Fault without a report. Its name is OutOfMemory where an allocation fails here too.
         """
+        self.is_in_use = True
         try:
             if type(text) is bytes:
                 return self._call(function, len(text), text, len(text), *arguments)
@@ -120,6 +122,7 @@ class Room:
         finally:
             if len(self._bytes) > MOST_KEPT:
                 self._resize(LEAST_ROOM)
+            self.is_in_use = False
 
     def _call(self, function: Function, least: int, *arguments: object) -> bytes:
         if len(self._bytes) <= least:
@@ -138,7 +141,9 @@ _OF_THREAD = threading.local()
 
 
 def room() -> Room:
-    """The thread's room, since new memory costs more than the analysis of a small document."""
+    """The thread's room, since new memory costs more than the analysis of a small document. Another one inside a call,
+    for example in a handler of signals."""
     if not hasattr(_OF_THREAD, "room"):
         _OF_THREAD.room = Room()
-    return cast(Room, _OF_THREAD.room)
+    found = cast(Room, _OF_THREAD.room)
+    return Room() if found.is_in_use else found
