@@ -73,6 +73,12 @@ def test_a_text_of_another_type(text: Any) -> None:
         modinfo.module_info(text, "file:///a.ts")
 
 
+@pytest.mark.parametrize("specifier", [None, b"file:///a.ts"], ids=repr)
+def test_a_specifier_of_another_type(specifier: Any) -> None:
+    with pytest.raises(TypeError, match=f"^a specifier is a str, not {type(specifier).__name__}$"):
+        modinfo.module_info("", specifier)
+
+
 @pytest.mark.parametrize("jobs", [1, 3])
 def test_files(jobs: int, tmp_path: Path) -> None:
     """Neither a pipe nor a socket is waited for."""

@@ -12,7 +12,7 @@ from typing import Any, Literal, cast
 
 from . import _library
 from ._buffers import Buffer
-from ._errors import Error, Fault, FaultName, alone
+from ._errors import Error, Fault, FaultName, alone, with_memory_fault
 from ._estree import Comments, Offsets, estree_json
 from ._json import Document, bytes_of
 from ._lines import answer_lines, in_threads
@@ -90,6 +90,7 @@ _FIRST_SPECIFIER = re.compile(rb'\s*\{\s*"specifier"\s*:\s*("(?:[^"\\]|\\.)*+")'
 _SPECIFIER_NAME = re.compile(b'"%b"\\s*:' % b"".join(rb"(?:%c|\\u00%02x)" % (each, each) for each in b"specifier"))
 
 
+@with_memory_fault
 def analyze(document: Document) -> ModuleInfoDict:
     """Returns what a module depends on, from its source, tree and comments.
 
@@ -101,6 +102,7 @@ def analyze(document: Document) -> ModuleInfoDict:
     return information
 
 
+@with_memory_fault
 def analyze_estree(
     specifier: str,
     media_type: MediaType,
@@ -124,6 +126,7 @@ def analyze_estree(
     return information
 
 
+@with_memory_fault
 def convert(document: Document) -> Any:
     """Returns the information of one module in version 2, from that which version 1 stored.
 
@@ -132,6 +135,7 @@ def convert(document: Document) -> Any:
     return _answer("convert", document)
 
 
+@with_memory_fault
 def reach(document: Document) -> list[str]:
     """Returns the keys that a root reaches among modules, ascending: `{"root": KEY, "modules": {KEY: INFO}}`.
 
@@ -141,6 +145,7 @@ def reach(document: Document) -> list[str]:
     return keys
 
 
+@with_memory_fault
 def check(document: Document, command: Command = "analyze") -> Report:
     """Returns a report on a document of a command: what is wrong with it and where, or that it is valid.
 
@@ -151,6 +156,7 @@ def check(document: Document, command: Command = "analyze") -> Report:
     return cast(Report, json.loads(_library.room().call(_command(command).check.one, bytes_of(document))))
 
 
+@with_memory_fault
 def check_estree(
     specifier: str,
     media_type: MediaType,
@@ -223,11 +229,15 @@ def _lines(command: Command, lines: Iterable[Buffer], jobs: int) -> Iterator[byt
 
 
 def _keyed(document: Document) -> tuple[str, ModuleInfo | Fault]:
+    specifier = ""
     try:
         read = bytes_of(document)
-        return _specifier(document, read), ModuleInfo.from_dict(_answer("analyze", read))
+        specifier = _specifier(document, read)
+        return specifier, ModuleInfo.from_dict(_answer("analyze", read))
     except Fault as fault:
-        return _specifier(document, read), alone(fault)
+        return specifier, alone(fault)
+    except MemoryError:
+        return specifier, Fault("OutOfMemory")
 
 
 def _specifier(document: Document, read: Buffer) -> str:

@@ -1,10 +1,14 @@
 """The errors of this package."""
 
-from typing import Literal
+from collections.abc import Callable
+from functools import wraps
+from typing import Literal, ParamSpec, TypeVar
 
 from .report import DocumentFault, FaultReport
 
 FaultName = Literal[DocumentFault, "OutOfMemory"]
+Arguments = ParamSpec("Arguments")
+Result = TypeVar("Result")
 
 
 class Error(Exception):
@@ -36,6 +40,19 @@ class Fault(Error):
         # The message of a parser is a sentence of its own.
         expected = "" if self.name == "Syntax" else "expected "
         return f"{self.name}{_position(self.name, self.report)}: {expected}{shown(self.message)}"
+
+
+def with_memory_fault(function: Callable[Arguments, Result]) -> Callable[Arguments, Result]:
+    """The function, which raises Fault where an allocation fails in Python."""
+
+    @wraps(function)
+    def call(*arguments: Arguments.args, **named: Arguments.kwargs) -> Result:
+        try:
+            return function(*arguments, **named)
+        except MemoryError:
+            raise Fault("OutOfMemory") from None
+
+    return call
 
 
 def alone(fault: Fault) -> Fault:

@@ -9,7 +9,7 @@ from urllib.parse import quote
 
 from . import _library
 from ._buffers import Buffer, contiguous, is_buffer
-from ._errors import Fault, alone
+from ._errors import Fault, alone, with_memory_fault
 from ._lines import in_threads
 from .document import MediaType
 from .report import FaultReport
@@ -27,6 +27,7 @@ _PLAIN = "/!$&'()*+,;=:@"
 Path = str | os.PathLike[str]
 
 
+@with_memory_fault
 def module_info(text: str | Buffer, specifier: str, media_type: MediaType | None = None) -> ModuleInfo:
     """Returns what a module depends on, from its source text, a str or the bytes of its UTF-8.
 
@@ -41,6 +42,8 @@ def module_info(text: str | Buffer, specifier: str, media_type: MediaType | None
     source = text.encode(errors="surrogatepass") if isinstance(text, str) else text
     if not is_buffer(source):
         raise TypeError(f"a text is a str or bytes, not {type(text).__name__}")
+    if not isinstance(specifier, str):
+        raise TypeError(f"a specifier is a str, not {type(specifier).__name__}")
     try:
         url = specifier.encode()
     except UnicodeEncodeError:
@@ -78,6 +81,7 @@ def file_url(path: Path) -> str:
     return "file://" + quote(os.fsencode(os.path.abspath(path)), safe=_PLAIN)
 
 
+@with_memory_fault
 def read_file(path: Path) -> bytes:
     """Returns the bytes of a regular file of at most 64 MiB, outside of /proc and /sys. Nothing else is opened.
 
@@ -115,5 +119,3 @@ def _file(path: Path) -> tuple[str, ModuleInfo | Fault]:
         return specifier, module_info(read_file(path), specifier)
     except Fault as fault:
         return specifier, alone(fault)
-    except MemoryError:
-        return specifier, Fault("OutOfMemory")
