@@ -91,3 +91,12 @@ def test_a_reader_that_ends(tmp_path: Path) -> None:
     words = f"{sys.executable} -m modinfo analyze --lines < {tmp_path}/lines | head -n 1; exit ${{PIPESTATUS[0]}}"
     done = subprocess.run(["bash", "-c", words], capture_output=True, check=False)
     assert (done.returncode, done.stdout, done.stderr) == (1, b'{"fault":"Json"}\n', b"")
+
+
+@pytest.mark.parametrize("closed", ["<&-", ">&-"])
+@pytest.mark.parametrize("words", ["convert", "check convert", "convert --lines", "check --lines"])
+def test_a_closed_input_or_output(words: str, closed: str) -> None:
+    command = f"exec {sys.executable} -m modinfo {words} {closed}"
+    done = subprocess.run(["bash", "-c", command], input=b"{}", capture_output=True, check=False)
+    wanted = b"modinfo: the standard input or output is closed\n"
+    assert (done.returncode, done.stdout, done.stderr) == (1, b"", wanted)

@@ -5,6 +5,7 @@ import json
 import os
 import sys
 from collections.abc import Iterable, Iterator, Sequence
+from typing import BinaryIO, TextIO
 
 import modinfo
 
@@ -71,22 +72,29 @@ def command_of(words: argparse.Namespace) -> modinfo.Command:
     return getattr(words, "form", None) or command
 
 
+def buffer_of(stream: TextIO | None) -> BinaryIO:
+    """The bytes of the standard input or output. Raises OSError where that is closed, as by `<&-` in a shell."""
+    if stream is None:
+        raise OSError("the standard input or output is closed")
+    return stream.buffer
+
+
 def print_one(words: argparse.Namespace) -> int:
-    document = sys.stdin.buffer.read()
+    document = buffer_of(sys.stdin).read()
     command = command_of(words)
     if words.command == "check":
         function = _library.COMMANDS[command].check.one
         return print_reports([_library.room().call(function, document)], words.strict)
-    sys.stdout.buffer.write(modinfo._answer_line(command, document))
+    buffer_of(sys.stdout).write(modinfo._answer_line(command, document))
     return 0
 
 
 def print_lines(words: argparse.Namespace) -> int:
-    lines = sys.stdin.buffer
+    lines = buffer_of(sys.stdin)
     command = command_of(words)
     if words.command == "check":
         return print_reports(modinfo.check_lines(lines, command, words.jobs), words.strict)
-    sys.stdout.buffer.writelines(modinfo._lines(command, lines, words.jobs))
+    buffer_of(sys.stdout).writelines(modinfo._lines(command, lines, words.jobs))
     return 0
 
 
@@ -101,7 +109,7 @@ def print_files(words: argparse.Namespace) -> int:
             members: dict[str, object] = {"specifier": specifier, "fault": fault}
         else:
             members = {"specifier": specifier, "info": found.to_dict()}
-        sys.stdout.buffer.write(json_of(members).encode() + b"\n")
+        buffer_of(sys.stdout).write(json_of(members).encode() + b"\n")
     return status
 
 
@@ -114,7 +122,7 @@ def print_reports(reports: Iterable[bytes], is_strict: bool) -> int:
             failed |= not passes(json.loads(line), is_strict)
             yield line
 
-    sys.stdout.buffer.writelines(looked_at())
+    buffer_of(sys.stdout).writelines(looked_at())
     return 1 if failed else 0
 
 
@@ -132,7 +140,7 @@ def main(arguments: Sequence[str] | None = None) -> int:
             status = print_files(words)
         else:
             status = print_lines(words) if words.lines else print_one(words)
-        sys.stdout.buffer.flush()
+        buffer_of(sys.stdout).flush()
         return status
     except BrokenPipeError:
         # The reader of the output has ended. Nothing more is written, not even at the exit.
