@@ -38,11 +38,6 @@ export const KNOWN_FIXTURES = [
     count: 1,
   },
   {
-    reason: "A conditional type after `extends () =>`, which TypeScript refuses",
-    path: /^typescript\/regression\/nested-extends-in-arrow-type-return-babel-7\//,
-    count: 1,
-  },
-  {
     reason: "A text is read as a module first, Babel's option says script",
     path: /^es2022\/top-level-await-unambiguous\/ambiguous-script\//,
     count: 1,
