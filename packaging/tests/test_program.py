@@ -3,6 +3,7 @@ belongs. The program is the one that MODINFO names, else that in build/."""
 
 import json
 import os
+import resource
 import subprocess
 from pathlib import Path
 
@@ -56,6 +57,57 @@ def test_files_that_the_system_makes_up(tmp_path: Path) -> None:
     found = [json.loads(line) for line in ended.stdout.splitlines()]
     assert [each.get("fault", {}).get("message") for each in found] == ["in /proc or /sys"] * 2 + [None] * 2
     assert (ended.returncode, ended.stderr) == (1, b"")
+
+
+def files(names: list[str], folder: Path | bytes, memory: int = resource.RLIM_INFINITY) -> tuple[list[str], str, int]:
+    """What `files` prints for each name, what it prints on the error output, and the status."""
+
+    def limit() -> None:
+        resource.setrlimit(resource.RLIMIT_AS, (memory, resource.RLIM_INFINITY))
+
+    ended = subprocess.run(
+        [PROGRAM, "files", *names], cwd=folder, capture_output=True, preexec_fn=limit, timeout=SECONDS, check=False
+    )
+    return ended.stdout.decode().splitlines(), ended.stderr.decode(), ended.returncode
+
+
+def test_a_file_that_runs_out_of_memory(tmp_path: Path) -> None:
+    """It has the fault alone, whatever the memory: the files before and after it have their lines."""
+    (tmp_path / "a.js").write_text('import "./b.js";')
+    (tmp_path / "many.js").write_text('import"";' * 12_000)
+    names, step = ["a.js", "many.js", "a.js"], 1 << 19
+    whole = files(names, tmp_path)
+    assert whole[1:] == ("", 0)
+    fault = '/many.js","fault":{"name":"OutOfMemory","message":"an allocation failed"}}'
+    least = next(size for size in range(step, 1 << 30, step) if files(["a.js"], tmp_path, size)[2] == 0)
+    count = 0
+    while (run := files(names, tmp_path, least + (count + 2) * step)) != whole:
+        lines, errors, status = run
+        assert (lines[0], lines[2], errors, status) == (whole[0][0], whole[0][2], "", 1)
+        assert lines[1].endswith(fault)
+        count += 1
+    assert count > 0
+
+
+def test_a_step_up_from_a_link(tmp_path: Path) -> None:
+    """It takes away the link, as in the URL, so that the URL is that of the file that is read."""
+    (tmp_path / "real/sub").mkdir(parents=True)
+    (tmp_path / "link").symlink_to("real/sub")
+    (tmp_path / "real/a.js").write_text('import "./real.js";')
+    (tmp_path / "a.js").write_text('import "./here.js";')
+    lines, errors, status = files(["link/../a.js", "a.js", "./real/../link/../a.js"], tmp_path)
+    assert len(set(lines)) == 1 and './here.js' in lines[0] and (errors, status) == ("", 0)
+
+
+def test_a_folder_whose_path_is_not_known(tmp_path: Path) -> None:
+    """A relative name has no URL there, and an absolute one does."""
+    folder = os.fsencode(tmp_path) + b"/\xff"
+    os.mkdir(folder)
+    (tmp_path / "a.js").write_text("f();")
+    lines, errors, status = files(["../a.js", str(tmp_path / "a.js")], folder)
+    message = "the path of the current folder isn't known, or isn't UTF-8"
+    assert [json.loads(line).get("fault") for line in lines] == [{"name": "Input", "message": message}, None]
+    assert (errors, status) == ("", 1)
 
 
 def test_second_document_on_a_line_of_its_own() -> None:

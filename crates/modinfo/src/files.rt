@@ -20,8 +20,10 @@ use deno_graph_source::tree::{MediaType, ParseError};
 use deno_graph_source::values::Text;
 use memchr::memchr;
 use modinfo_source::parse_module;
+use percent_encoding::{DecodeError, percent_decode_str};
 use simdutf8::basic;
 use std::alloc::{AllocError, AllocFailed, Global};
+use std::borrow::CowStr;
 use std::fs::OpenFile;
 use std::io::{BufRead, ErrorKind, Read, Write};
 use std::rc::RcStr;
@@ -82,59 +84,63 @@ where
     I: Drop,
 {
     let folder = current_folder(rt)?;
-    let folder = folder.as_str();
-    match names {
-        Names::Arguments => print_named(rt, folder, words, output),
-        Names::Lines => print_listed(rt, folder, b'\n', input, output),
-        Names::Zeros => print_listed(rt, folder, 0, input, output),
-    }
+    let folder = folder.as_ref().map(|folder| folder.as_str());
+    let mut waiting = Vec::new(rt.alloc());
+    let result = match names {
+        Names::Arguments => print_named(rt, folder, words, output, &mut waiting),
+        Names::Lines => print_listed(rt, folder, b'\n', input, output, &mut waiting),
+        Names::Zeros => print_listed(rt, folder, 0, input, output, &mut waiting),
+    };
+    // After a fault of the run, too, the lines before it are printed.
+    write_waiting(output, &mut waiting, 0)?;
+    result
 }
 
-/// The path of the current folder, without a slash at its end. Empty if the system doesn't say it.
-fn current_folder<R: Env + AllocGlobal>(rt: &R) -> Result<String, Fault> {
+/// The path of the current folder, without a slash at its end. None if the system doesn't say it, or it isn't
+/// UTF-8.
+fn current_folder<R: Env + AllocGlobal>(rt: &R) -> Result<Option<String>, Fault> {
     let alloc = rt.alloc();
     match env::current_dir(rt) {
-        Ok(folder) => Ok(String::from_str(alloc, folder.as_str().trim_end_matches('/'))?),
+        Ok(folder) => Ok(Some(String::from_str(alloc, folder.as_str().trim_end_matches('/'))?)),
         Err(error) if error.kind() == ErrorKind::OutOfMemory => Err(Fault::OutOfMemory),
-        Err(_) => Ok(String::new(alloc)),
+        Err(_) => Ok(None),
     }
 }
 
-/// Prints a line for each of the named files. Returns whether each has information.
+/// Prints a line for each of the named files, but for those that wait. Returns whether each has information.
 fn print_named<R: Files + AllocGlobal, W: Write>(
     rt: &R,
-    folder: &str,
+    folder: Option<&str>,
     names: &[&str],
     output: &mut W,
+    waiting: &mut Vec<u8>,
 ) -> Result<bool, Fault> {
-    let mut waiting = Vec::new(rt.alloc());
     let mut is_whole = true;
     for name in names {
-        is_whole &= put_file(rt, folder, name.as_bytes(), &mut waiting)?;
-        write_waiting(output, &mut waiting, CHUNK)?;
+        is_whole &= put_file(rt, folder, name.as_bytes(), waiting)?;
+        write_waiting(output, waiting, CHUNK)?;
     }
-    write_waiting(output, &mut waiting, 0)?;
     Ok(is_whole)
 }
 
-/// Prints a line for each of the files whose names are in the input, each ended by a byte. Returns
-/// whether each has information. Writes before each read that may wait for input.
+/// Prints a line for each of the files whose names are in the input, each ended by a byte, but for those that
+/// wait. Returns whether each has information. Writes before each read that may wait for input.
 fn print_listed<R: Files + AllocGlobal, I: Read, W: Write>(
     rt: &R,
-    folder: &str,
+    folder: Option<&str>,
     end: u8,
     input: &mut I,
     output: &mut W,
+    waiting: &mut Vec<u8>,
 ) -> Result<bool, Fault>
 where
     I: Drop,
 {
     let mut input = buffered(rt.alloc(), input)?;
-    let mut waiting = Vec::new(rt.alloc());
     let mut is_whole = true;
     for _ in 0..u64::MAX {
         let is_due = memchr(end, input.buffer()).is_none();
-        write_waiting(output, &mut waiting, if is_due { 0 } else { CHUNK })?;
+        write_waiting(output, waiting, if is_due { 0 } else { CHUNK })?;
         let mut name = Vec::new(rt.alloc());
         match input.read_until(end, &mut name) {
             Ok(0) => break,
@@ -145,13 +151,12 @@ where
         if name.last() == Some(&end) {
             name.pop();
         }
-        is_whole &= put_file(rt, folder, name.as_slice(), &mut waiting)?;
+        is_whole &= put_file(rt, folder, name.as_slice(), waiting)?;
     }
-    write_waiting(output, &mut waiting, 0)?;
     Ok(is_whole)
 }
 
-/// Writes the waiting bytes if there are more than `most`.
+/// Writes the waiting bytes if there are more than `most`. After that none wait, even if the write failed.
 fn write_waiting<W: Write>(
     output: &mut W,
     waiting: &mut Vec<u8>,
@@ -160,30 +165,54 @@ fn write_waiting<W: Write>(
     if waiting.len() <= most {
         return Ok(());
     }
-    print(output, waiting.as_slice())?;
+    let result = print(output, waiting.as_slice());
     waiting.clear();
-    Ok(())
+    result
 }
 
-/// Appends the line of a file. Returns whether the file has information.
+/// Appends the line of a file, or that with the fault `OutOfMemory` where it finds no memory. Returns whether the
+/// file has information.
 fn put_file<R: Files + AllocGlobal>(
     rt: &R,
-    folder: &str,
+    folder: Option<&str>,
     name: &[u8],
     waiting: &mut Vec<u8>,
 ) -> Result<bool, Fault> {
     let alloc = rt.alloc();
     let lossy = String::from_utf8_lossy(alloc, name)?;
-    let specifier = file_url(alloc, folder, lossy.as_str())?;
-    let is_text = basic::from_utf8(name).is_ok();
-    let found = if is_text {
-        info_of_file(rt, lossy.as_str(), &specifier)
-    } else {
+    let specifier = file_url(alloc, folder.unwrap_or(""), lossy.as_str())?;
+    let found = if basic::from_utf8(name).is_err() {
         Err(FileFault::input("the name isn't UTF-8"))
+    } else if folder.is_none() && !lossy.as_str().starts_with('/') {
+        Err(FileFault::input("the path of the current folder isn't known, or isn't UTF-8"))
+    } else {
+        info_of_file(rt, lossy.as_str(), &specifier)
     };
-    let line = line_of(alloc, specifier.as_str(), &found)?;
-    waiting.extend_from_slice(line.as_bytes())?;
-    Ok(found.is_ok())
+    let is_whole = found.is_ok();
+    match put_line(alloc, specifier.as_str(), found, waiting) {
+        Ok(()) => Ok(is_whole),
+        Err(_) => {
+            put_line(
+                alloc,
+                specifier.as_str(),
+                Err(FileFault::out_of_memory()),
+                waiting,
+            )?;
+            Ok(false)
+        }
+    }
+}
+
+/// Appends the line of a file, or nothing if an allocation fails.
+fn put_line(
+    alloc: Global,
+    specifier: &str,
+    found: Result<ModuleInfo, FileFault>,
+    waiting: &mut Vec<u8>,
+) -> Result<(), AllocError> {
+    let line = line_of(alloc, specifier, &found)?;
+    drop(found);
+    Ok(waiting.extend_from_slice(line.as_bytes())?)
 }
 
 /// Why a file has no information.
@@ -247,6 +276,9 @@ impl From<io::Error> for FileFault {
             ErrorKind::OutOfMemory => FileFault::out_of_memory(),
             ErrorKind::NotFound => FileFault::input("no such file"),
             ErrorKind::PermissionDenied => FileFault::input("permission denied"),
+            ErrorKind::InvalidFilename => FileFault::input(
+                "a path that isn't UTF-8, or is too long",
+            ),
             _ => FileFault::input("the file can't be read"),
         }
     }
@@ -281,7 +313,8 @@ fn info_of_file<R: Files + AllocGlobal>(
     specifier: &Url,
 ) -> Result<ModuleInfo, FileFault> {
     let alloc = rt.alloc();
-    let bytes = read_file(rt, name)?;
+    let path = path_of(alloc, name, specifier)?;
+    let bytes = read_file(rt, path.as_str())?;
     let Ok(text) = basic::from_utf8(bytes.as_slice()) else {
         return Err(FileFault::input("the file isn't UTF-8"));
     };
@@ -290,6 +323,23 @@ fn info_of_file<R: Files + AllocGlobal>(
     let media_type = MediaType::from_specifier(specifier);
     let parsed = parse_module(alloc, specifier.clone()?, source, media_type)?;
     Ok(module_info(alloc, &parsed)?)
+}
+
+/// The path of a file with a name. Where the name has `..`, it is that of the URL, in which a `..` takes away the
+/// step before it, be that a link or not.
+fn path_of<'a>(
+    alloc: Global,
+    name: &'a str,
+    specifier: &'a Url,
+) -> Result<CowStr<'a, Global>, FileFault> {
+    if !name.contains("..") {
+        return Ok(CowStr::Borrowed(name));
+    }
+    match percent_decode_str(specifier.path()).decode_utf8(alloc) {
+        Ok(path) => Ok(path),
+        Err(DecodeError::OutOfMemory) => Err(FileFault::out_of_memory()),
+        Err(DecodeError::Utf8(_)) => Err(FileFault::input("the name isn't UTF-8")),
+    }
 }
 
 /// Reads a regular file of at most `LIMIT` bytes. Asks what the path leads to, opens it, and asks again what was
