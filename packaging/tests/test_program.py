@@ -96,7 +96,7 @@ def test_a_step_up_from_a_link(tmp_path: Path) -> None:
     (tmp_path / "real/a.js").write_text('import "./real.js";')
     (tmp_path / "a.js").write_text('import "./here.js";')
     lines, errors, status = files(["link/../a.js", "a.js", "./real/../link/../a.js"], tmp_path)
-    assert len(set(lines)) == 1 and './here.js' in lines[0] and (errors, status) == ("", 0)
+    assert len(set(lines)) == 1 and "./here.js" in lines[0] and (errors, status) == ("", 0)
 
 
 def test_a_folder_whose_path_is_not_known(tmp_path: Path) -> None:
