@@ -57,6 +57,15 @@ test("a mark on several lines is kept whole, and so are those inside of it", () 
   assert.ok(excerpt.source?.endsWith("\n33\n"));
 });
 
+test("a text may have any number of marks", () => {
+  const source = "a\n".repeat(200_000);
+  /** @type {Mark[]} */
+  const marks = Array.from({ length: 200_000 }, (_, row) => ({ from: 2 * row, to: 2 * row + 1, row, kind: "static" }));
+  const excerpt = excerptOf(source, marks);
+  assert.equal(excerpt.source, source);
+  assert.equal(excerpt.marks.length, marks.length);
+});
+
 test("of a text without a mark its head is kept", () => {
   assert.deepEqual(excerptOf("0\n1\n2\n3\n4\n5\n", []), {
     source: "0\n1\n2\n3\n", marks: [], pieces: [[0, 0]], lines: 7,

@@ -142,7 +142,7 @@ test("paths, baseUrl and rootDirs, also of what a configuration extends", () => 
   const folder = folderOf({
     "tsconfig.json": `{ // comments, and commas at the end
       "extends": ["./base.json", "shared"], /* the second one is a package */
-      "compilerOptions": { "rootDirs": ["gen", "src"], }, }`,
+      "compilerOptions": { "rootDirs": ["gen", "src"], "declarationDir": "types", }, }`,
     "base.json": JSON.stringify({
       compilerOptions: { baseUrl: "src", paths: { "@/*": ["*"], "@/sub/*": ["none/*", "sub/*"], exact: ["a.ts"], "x*y": ["*"] } },
     }),
@@ -166,6 +166,7 @@ test("targets of paths are in the baseUrl of all configurations, else in the fol
   const rows = [
     [paths, base, "config/src/lib/x.ts"], [base, paths, "src/lib/x.ts"], [base, both, "src/lib/x.ts"],
     [{}, paths, "config/lib/x.ts"], [{}, both, "config/src/lib/x.ts"], [paths, paths, "lib/x.ts"],
+    [{ baseUrl: null }, both, "config/lib/x.ts"], [{ ...paths, baseUrl: null }, base, "lib/x.ts"],
   ];
   for (const [own, extended, expected] of rows) {
     const folder = folderOf({

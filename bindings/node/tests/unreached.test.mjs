@@ -321,6 +321,7 @@ test("a script of a page has a URL that is relative to the page, in any spelling
     "<SCRIPT defer src = ./js/app.js#x async>", `<script type=module>import "./js/app.js?v=3"</script>`,
     `<!--><script src="js/app.js"></script><!-- <script src="old.js"></script> -->`, `<script src="js/app.js"></script><!--`,
     `<!-- <!-- --><script src="js/app.js"></script><!-- a -- > <script src="old.js"></script> -->`,
+    `<script integrity="sha512-${"A".repeat(86)}==" crossorigin src="js/app.js"></script>`,
   ]) {
     const folder = folderOf({ "index.html": script, "js/app.js": "", "old.js": "", "index.js": "" });
     assert.deepEqual(reached(folder, "index.html"), withStatus(["js/app.js"]), script);

@@ -30,9 +30,13 @@ const CONFIG_DIR = /^\$\{configDir\}/i;
  * @property {string} [pathsFolder] the folder of the configuration that has `paths`
  * @property {string[]} [rootDirs]
  * @property {string} [rootDir]
- * @property {string[]} [outDirs] those of the JavaScript and of the declarations
+ * @property {string} [outDir]
+ * @property {string} [declarationDir]
  * @property {string} [module] in lower case
  * @property {string[]} [moduleSuffixes]
+ *
+ * @typedef {{ [Name in keyof Options]: Options[Name] | null }} OwnOptions those that a configuration has itself:
+ *   null for one that it doesn't inherit
  *
  * @typedef {object} Configuration
  * @property {string} path of its file
@@ -156,7 +160,8 @@ export class Configurations {
     let configuration = this.#byPath.get(path);
     if (!configuration) {
       const { options, members } = this.#extended(path, []);
-      configuration = configurationOf(path, options, members, this.#referencesOf(path, members.references));
+      const references = this.#referencesOf(path, members.references);
+      configuration = configurationOf(path, without(null, options), members, references);
       this.#byPath.set(path, configuration);
     }
     return configuration;
@@ -166,14 +171,14 @@ export class Configurations {
    * The options and other members of a configuration, together with those that it extends.
    * @param {string} path
    * @param {string[]} extending the paths of those that lead to it
-   * @returns {{ options: Options, members: Record<string, unknown> }} of `files`, `include` and
+   * @returns {{ options: OwnOptions, members: Record<string, unknown> }} of `files`, `include` and
    *   `exclude` absolute patterns
    */
   #extended(path, extending) {
     const members = this.#membersOf(path);
     const paths = [...extending, path];
     const main = dirname(paths[0]);
-    /** @type {{ options: Options, members: Record<string, unknown> }} */
+    /** @type {{ options: OwnOptions, members: Record<string, unknown> }} */
     const all = { options: {}, members: {} };
     for (const name of [members.extends ?? []].flat()) {
       const other = this.#extendedPath(name, path);
@@ -226,7 +231,7 @@ export class Configurations {
    * @param {string} path
    * @param {unknown} options
    * @param {string} main the folder of the configuration that extends all
-   * @returns {Options}
+   * @returns {OwnOptions}
    */
   #optionsOf(path, options = {}, main) {
     if (!isObject(options)) {
@@ -236,17 +241,17 @@ export class Configurations {
     const own = new Members(options, (why) => this.#note(path, why));
     const folder = dirname(path);
     const at = (/** @type {string} */ name) => absolute(folder, withFolder(name, main));
-    const baseUrl = own.text("baseUrl");
+    const placed = (/** @type {string} */ name) => mapped(own.text(name), at);
     const paths = own.paths((target) => withFolder(target, main));
-    const outDirs = [own.text("outDir"), own.text("declarationDir")].flatMap((each) => each ?? []).map(at);
-    return withoutAbsent({
-      baseUrl: baseUrl === undefined ? undefined : at(baseUrl),
+    return without(undefined, {
+      baseUrl: placed("baseUrl"),
       paths,
-      pathsFolder: paths && folder,
-      rootDirs: own.texts("rootDirs")?.map(at),
-      rootDir: own.texts("rootDir")?.map(at)[0],
-      outDirs: outDirs.length > 0 ? outDirs : undefined,
-      module: own.text("module")?.toLowerCase(),
+      pathsFolder: mapped(paths, () => folder),
+      rootDirs: mapped(own.texts("rootDirs"), (names) => names.map(at)),
+      rootDir: placed("rootDir"),
+      outDir: placed("outDir"),
+      declarationDir: placed("declarationDir"),
+      module: mapped(own.text("module"), (word) => word.toLowerCase()),
       moduleSuffixes: own.texts("moduleSuffixes"),
     });
   }
@@ -279,7 +284,7 @@ export class Configurations {
   }
 }
 
-/** The members of an object of which each has to have a shape. */
+/** The members of an object of which each has to be null or have a shape; undefined without the member. */
 class Members {
   #members;
   #note;
@@ -293,21 +298,21 @@ class Members {
     this.#note = note;
   }
 
-  /** @param {string} name @returns {string | undefined} */
+  /** @param {string} name @returns {string | null | undefined} */
   text(name) {
     return this.#shaped(name, (value) => (typeof value === "string" ? value : undefined), "text");
   }
 
-  /** @param {string} name @returns {string[] | undefined} also where it is one text */
+  /** @param {string} name @returns {string[] | null | undefined} also where it is one text */
   texts(name) {
     return this.#shaped(name, textsOf, "list of texts");
   }
 
-  /** @param {(target: string) => string} targetOf @returns {Map<string, string[]> | undefined} */
+  /** @param {(target: string) => string} targetOf @returns {Map<string, string[]> | null | undefined} */
   paths(targetOf) {
     const paths = this.#shaped("paths", (value) => (isObject(value) ? value : undefined), "object");
     if (!paths) {
-      return undefined;
+      return paths;
     }
     const found = new Map();
     for (const [pattern, targets] of Object.entries(paths)) {
@@ -326,13 +331,14 @@ class Members {
    * @param {string} name
    * @param {(value: unknown) => Shape | undefined} shaped
    * @param {string} shape
-   * @returns {Shape | undefined}
+   * @returns {Shape | null | undefined}
    */
   #shaped(name, shaped, shape) {
-    if (!Object.hasOwn(this.#members, name) || this.#members[name] === null) {
-      return undefined;
+    const member = Object.hasOwn(this.#members, name) ? this.#members[name] : undefined;
+    if (member === undefined || member === null) {
+      return member;
     }
-    const value = shaped(this.#members[name]);
+    const value = shaped(member);
     if (value === undefined) {
       this.#note(`${JSON.stringify(name)} is passed over: it is no ${shape}`);
     }
@@ -352,6 +358,14 @@ function isThere({ kind }) {
 }
 
 /**
+ * @param {Options} options
+ * @returns {string[]} the folders of the JavaScript and of the declarations
+ */
+export function outDirsOf({ outDir, declarationDir }) {
+  return [outDir, declarationDir].flatMap((each) => each ?? []);
+}
+
+/**
  * @param {string} path
  * @param {Options} options
  * @param {Record<string, any>} lists
@@ -365,7 +379,7 @@ function configurationOf(path, options, { files, include, exclude }, references)
     path, folder, options, references,
     files: files ?? [],
     include: include ?? (files ? [] : inFolder(ALL)),
-    exclude: exclude ?? [...inFolder(NEVER), ...options.outDirs ?? []],
+    exclude: exclude ?? [...inFolder(NEVER), ...outDirsOf(options)],
   };
 }
 
@@ -375,7 +389,7 @@ function configurationOf(path, options, { files, include, exclude }, references)
  * @param {string} main the folder of the configuration that extends all
  */
 function listsOf(members, folder, main) {
-  return withoutAbsent(Object.fromEntries(["files", "include", "exclude"].map((name) => {
+  return without(undefined, Object.fromEntries(["files", "include", "exclude"].map((name) => {
     const texts = Array.isArray(members[name]) ? textsOf(members[name]) : undefined;
     return [name, texts?.map((each) => absolute(folder, withFolder(each, main)))];
   })));
@@ -391,13 +405,22 @@ function withFolder(path, folder) {
 }
 
 /**
- * @template {object} T
- * @param {T} members
- * @returns {Partial<T>}
+ * @template From, To
+ * @param {From | null | undefined} value
+ * @param {(value: From) => To} change
+ * @returns {To | null | undefined}
  */
-function withoutAbsent(members) {
-  const there = Object.entries(members).filter(([, value]) => value !== undefined);
-  return /** @type {Partial<T>} */ (Object.fromEntries(there));
+function mapped(value, change) {
+  return value === null || value === undefined ? /** @type {null | undefined} */ (value) : change(value);
+}
+
+/**
+ * @param {null | undefined} absent
+ * @param {Record<string, any>} members
+ * @returns {Record<string, any>} those with another value
+ */
+function without(absent, members) {
+  return Object.fromEntries(Object.entries(members).filter(([, value]) => value !== absent));
 }
 
 /**

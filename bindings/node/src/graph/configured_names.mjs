@@ -15,7 +15,7 @@ import { isBuiltin } from "node:module";
 import { dirname, join, relative, sep } from "node:path";
 
 import { pathOf } from "./bundler_rules.mjs";
-import { Configurations } from "./configurations.mjs";
+import { Configurations, outDirsOf } from "./configurations.mjs";
 import { ImportMaps } from "./import_maps.mjs";
 import { longestPattern } from "./package_targets.mjs";
 
@@ -128,7 +128,7 @@ export class ConfiguredNames {
    */
   sourcesOf(path) {
     return this.#configurations.allOf(dirname(path)).flatMap((configuration) => {
-      const { outDirs = [] } = configuration.options;
+      const outDirs = outDirsOf(configuration.options);
       const inside = outDirs.filter((each) => path.startsWith(each + sep)).map((each) => relative(each, path));
       return inside.flatMap((each) => {
         const name = each.replace(JAVASCRIPT, "");

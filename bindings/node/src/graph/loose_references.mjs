@@ -43,7 +43,7 @@ const CALLS = [
 /** What leads to a module in a text that isn't parsed. A group is a name without quotes. */
 const IMPORTS = [
   /\bfrom\s*(?=["'])/g, /\bimport\s*(?=["'])/g, /\b(?:import|require)\s*\(/g,
-  /<script\b[^>]{0,100}?\bsrc\s*=\s*(?:(?=["'])|([^\s"'>][^\s>]{0,300}))/gi,
+  /<script\b[^<>]{0,1000}?\bsrc\s*=\s*(?:(?=["'])|([^\s"'>][^\s>]{0,300}))/gi,
 ];
 
 /** Whether a text may have any of the calls: most have none. */

@@ -62,10 +62,9 @@ export function excerptOf(source, marks) {
   for (const [first, last] of rangesOf(starts, marks)) {
     const from = starts[first];
     const to = starts[last + 1] ?? source.length;
-    const inside = marks.filter((mark) => mark.from >= from && mark.to <= to);
-    moved.push(...inside.map((mark) => {
-      return { ...mark, from: mark.from - from + length, to: mark.to - from + length };
-    }));
+    for (const mark of marks.filter((each) => each.from >= from && each.to <= to)) {
+      moved.push({ ...mark, from: mark.from - from + length, to: mark.to - from + length });
+    }
     pieces.push([count, first]);
     texts.push(source.slice(from, to));
     count += last + 1 - first;
