@@ -35,8 +35,8 @@ const CONFIG_DIR = /^\$\{configDir\}/i;
  * @property {string} [module] in lower case
  * @property {string[]} [moduleSuffixes]
  *
- * @typedef {{ [Name in keyof Options]: Options[Name] | null }} OwnOptions those that a configuration has itself:
- *   null for one that it doesn't inherit
+ * @typedef {{ [Name in keyof Options]: Options[Name] | null }} OwnOptions before all are merged:
+ *   null takes an inherited option away
  *
  * @typedef {object} Configuration
  * @property {string} path of its file
