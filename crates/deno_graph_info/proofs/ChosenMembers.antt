@@ -1,7 +1,6 @@
 -- Members around a name in ascending members, and members without a name.
-use Rattle.std.proofs.Common.{◌≡◌, ℕ, List, Bool, true, false, not, None, Some, Option}
-use Rattle.std.proofs.Common.{if◌then◌else◌, bytes_eq, refl, sym, ap, subst, ◌∙◌, Ordering, Less, Equal}
-use Rattle.std.proofs.Common.{Greater}
+use Rattle.std.proofs.Common.{◌≡◌, ℕ, List, Bool, true, false, not, None, Some, Option, if◌then◌else◌}
+use Rattle.std.proofs.Common.{bytes_eq, refl, sym, ap, subst, ◌∙◌, Ordering, Less, Equal, Greater}
 use Rattle.std.proofs.lemmas.Cmp.{nat_list_cmp_total, tied_itself}
 use Rattle.std.proofs.lemmas.Map.Text.{is_eq-slice_cmp}
 use Rattle.std.proofs.lemmas.Slice.Eq.{bytes_eq-Decides}

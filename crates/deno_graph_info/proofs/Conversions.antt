@@ -9,19 +9,8 @@ use Rattle.std.proofs.lemmas.Result.{err_from_is_err_and}
 use Rattle.std.specs.BTreeMap.{insert_entry}
 use Rattle.std.specs.Map.{lookup}
 use Rattle.serde_json.proofs.Views.{get_member-put, members_view-insert_entry, view-lookup}
-use Rattle.serde_json.specs.Data.{
-  Data,
-  null,
-  boolean,
-  number,
-  string,
-  array,
-  object,
-  Items,
-  no_items,
-  item,
-  put,
-}
+use Rattle.serde_json.specs.Data.{Data, null, boolean, number, string, array, object, Items, no_items, item}
+use Rattle.serde_json.specs.Data.{put}
 use Rattle.serde_json.specs.Find.{as_array, get, get_member}
 use Rattle.serde_json.specs.View.{view, items_of, items_view, members_view}
 use Rattle.serde_json.specs.Written.{has_float}
@@ -31,27 +20,14 @@ use Rattle.deno_graph_info.specs.declared.analysis.specifier_with_range.Specifie
 use Rattle.deno_graph_info.proofs.MembersLemmas.{TextEntry, has_key, get_member-without, put_again}
 use Rattle.deno_graph_info.proofs.NamedMembers.{dependencies_named}
 use Rattle.deno_graph_info.specs.Comment.{reads_stored_comment}
-use Rattle.deno_graph_info.specs.Conversion.{
-  with_value_at,
-  without_value_at,
-  with_types,
-  comments_in,
-  dependencies_in,
-  IsConvertedDependency,
-  DependencyOverflows,
-  AreConverted,
-  IsConverted,
-  IsConvertFault,
-  AnyOverflows,
-}
+use Rattle.deno_graph_info.specs.Conversion.{with_value_at, without_value_at, with_types, comments_in}
+use Rattle.deno_graph_info.specs.Conversion.{dependencies_in, IsConvertedDependency, DependencyOverflows}
+use Rattle.deno_graph_info.specs.Conversion.{AreConverted, IsConverted, IsConvertFault, AnyOverflows}
 use Rattle.deno_graph_info.specs.Types.{AreTypes}
 use Rattle.deno_graph_info.specs.declared.conversion.comment.Comment.{Comment}
 use Rattle.deno_graph_info.specs.declared.conversion.fault.ConvertFault.{ConvertFault}
-use Rattle.deno_graph_info.specs.declared.conversion.fault.ConvertFault.TheVariants.{
-  ColumnOverflow,
-  Float,
-  OutOfMemory,
-}
+use Rattle.deno_graph_info.specs.declared.conversion.fault.ConvertFault.TheVariants.{ColumnOverflow, Float}
+use Rattle.deno_graph_info.specs.declared.conversion.fault.ConvertFault.TheVariants.{OutOfMemory}
 use Rattle.deno_graph_info.specs.internal.ConvertFault.{IsColumnFault}
 
 -- ---- one by one

@@ -5,12 +5,8 @@ use Rattle.json.specs.Json as json
 use Rattle.json.specs.Token.{Token, begin_array, end_array}
 use Rattle.serde_json.specs.Data.{Data, Items, array, no_items, item}
 use Rattle.deno_graph_info.proofs.WrittenText.{item_tokens, with_nothing}
-use Rattle.deno_graph_info.specs.Conversion.{
-  AnyOverflows,
-  AreConverted,
-  DependencyOverflows,
-  IsConvertedDependency,
-}
+use Rattle.deno_graph_info.specs.Conversion.{AnyOverflows, AreConverted, DependencyOverflows}
+use Rattle.deno_graph_info.specs.Conversion.{IsConvertedDependency}
 use Rattle.deno_graph_info.specs.internal.Written.{AreFloatlessItems, IsFloatless, IsWritten}
 use Rattle.deno_graph_json.proofs.Texts.{with_tokens-twice}
 use Rattle.deno_graph_json.specs.Text.{Text, text_tokens, with_tokens}

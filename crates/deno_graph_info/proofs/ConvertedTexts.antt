@@ -7,14 +7,8 @@ use Rattle.serde_json.specs.Data.{Data, Items, Members, array, object, put}
 use Rattle.serde_json.specs.Written.{compact_text, outline, IsInOrder}
 use Rattle.deno_graph_json.proofs.Texts.{value_text}
 use Rattle.deno_graph_json.specs.Text.{text_in, text_tokens, with_tokens}
-use Rattle.deno_graph_info.specs.Conversion.{
-  AnyOverflows,
-  AreConverted,
-  IsConverted,
-  Overflows,
-  dependencies_in,
-  with_value_at,
-}
+use Rattle.deno_graph_info.specs.Conversion.{AnyOverflows, AreConverted, IsConverted, Overflows}
+use Rattle.deno_graph_info.specs.Conversion.{dependencies_in, with_value_at}
 use Rattle.deno_graph_info.specs.internal.Written.{IsWritten}
 
 -- a value without dependencies is unchanged

@@ -8,6 +8,8 @@ pub mod OneOutcome
 pub mod OrderedMembers
 pub mod Outcomes
 pub mod Reaching
+pub mod ResolutionModes
 pub mod SomeConverted
 pub mod Written
+pub mod WrittenInfo
 pub mod WrittenText

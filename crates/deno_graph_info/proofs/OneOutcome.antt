@@ -1,38 +1,13 @@
 -- A value is converted to at most one value, and to none if a column overflows.
-use Rattle.std.proofs.Common.{
-  ◌≡◌,
-  ℕ,
-  List,
-  Option,
-  Some,
-  None,
-  codes,
-  arith,
-  inl,
-  inr,
-  refl,
-  sym,
-  ap,
-  subst,
-  ◌∙◌,
-}
+use Rattle.std.proofs.Common.{◌≡◌, ℕ, List, Option, Some, None, codes, arith, inl, inr, refl, sym, ap, subst}
+use Rattle.std.proofs.Common.{◌∙◌}
 use Rattle.serde_json.specs.Data.{Data, array, Items, no_items, item}
 use Rattle.deno_graph_info.specs.declared.analysis.specifier_with_range.SpecifierWithRange.{SpecifierWithRange}
 use Rattle.deno_graph_pragmas.specs.Finders.{deno_types_pattern, quoteless_deno_types_pattern}
 use Rattle.deno_graph_pragmas.specs.Split.{TextPart, HasOnePart}
-use Rattle.deno_graph_info.specs.Conversion.{
-  with_value_at,
-  without_value_at,
-  with_types,
-  comments_in,
-  dependencies_in,
-  IsConvertedDependency,
-  DependencyOverflows,
-  AreConverted,
-  IsConverted,
-  AnyOverflows,
-  Overflows,
-}
+use Rattle.deno_graph_info.specs.Conversion.{with_value_at, without_value_at, with_types, comments_in}
+use Rattle.deno_graph_info.specs.Conversion.{dependencies_in, IsConvertedDependency, DependencyOverflows}
+use Rattle.deno_graph_info.specs.Conversion.{AreConverted, IsConverted, AnyOverflows, Overflows}
 use Rattle.deno_graph_info.specs.Types.{NamesTypesAt, LastNames, AreTypes, HasNoColumn, types_in, end_column}
 use Rattle.deno_graph_info.specs.declared.conversion.comment.Comment.{Comment}
 

@@ -1,6 +1,6 @@
 -- Members whose names ascend: they are put in the order in which they stand.
-use Rattle.std.proofs.Common.{◌≡◌, ℕ, List, true, Option, Some, None, true≢false}
-use Rattle.std.proofs.Common.{refl, sym, ap, subst, ◌∙◌, Ordering, Less, Equal, Greater}
+use Rattle.std.proofs.Common.{◌≡◌, ℕ, List, true, Option, Some, None, true≢false, refl, sym, ap, subst, ◌∙◌}
+use Rattle.std.proofs.Common.{Ordering, Less, Equal, Greater}
 use Rattle.std.proofs.lemmas.Cmp.{nat_list_cmp_total}
 use Rattle.std.specs.Borrow.{Bor}
 use Rattle.std.specs.Cmp.Lexicographic.{slice_cmp}

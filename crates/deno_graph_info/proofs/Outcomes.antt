@@ -1,28 +1,6 @@
 -- Results of the parts of the conversion.
-use Rattle.std.proofs.Common.{
-  ◌≡◌,
-  ◌+◌,
-  ◌-◌,
-  ◌<◌,
-  ◌≤◌,
-  ◌^◌,
-  ℕ,
-  length,
-  Bool,
-  true,
-  false,
-  slice_get,
-  Some,
-  Result,
-  Ok,
-  Err,
-  IfErr,
-  IsErrAnd,
-  inl,
-  inr,
-  refl,
-  subst,
-}
+use Rattle.std.proofs.Common.{◌≡◌, ◌+◌, ◌-◌, ◌<◌, ◌≤◌, ◌^◌, ℕ, length, Bool, true, false, slice_get, Some}
+use Rattle.std.proofs.Common.{Result, Ok, Err, IfErr, IsErrAnd, inl, inr, refl, subst}
 use Rattle.std.proofs.lemmas.Result.{err_from_is_err_and}
 use Rattle.std.specs.Prelude.{List}
 use Rattle.deno_graph_info.specs.internal.ConvertFault.{IsColumnFault}
@@ -34,11 +12,8 @@ use Rattle.deno_graph_pragmas.specs.declared.finders.matches.DenoTypesPragmaMatc
 use Rattle.deno_graph_info.specs.Types.{NamesTypesAt, LastNames, AreTypes, HasNoColumn}
 use Rattle.deno_graph_info.specs.declared.conversion.comment.Comment.{Comment}
 use Rattle.deno_graph_info.specs.declared.conversion.fault.ConvertFault.{ConvertFault}
-use Rattle.deno_graph_info.specs.declared.conversion.fault.ConvertFault.TheVariants.{
-  ColumnOverflow,
-  Float,
-  OutOfMemory,
-}
+use Rattle.deno_graph_info.specs.declared.conversion.fault.ConvertFault.TheVariants.{ColumnOverflow, Float}
+use Rattle.deno_graph_info.specs.declared.conversion.fault.ConvertFault.TheVariants.{OutOfMemory}
 
 -- a fault of a part is a fault of the whole
 pub column_fault-on : (P Q : Type 0) (fault : ConvertFault) → (P → Q) → IsColumnFault P fault

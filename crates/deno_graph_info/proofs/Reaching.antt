@@ -1,78 +1,21 @@
 -- The search of `reach`: each step, and the result.
-use Rattle.std.proofs.Common.{
-  ◌≡◌,
-  ◌⊎◌,
-  ℕ,
-  ◌+◌,
-  ◌≤◌,
-  ◌<◌,
-  suc,
-  List,
-  [],
-  ◌∷◌,
-  ◌++◌,
-  map,
-  length,
-  take,
-  get_or,
-  Bool,
-  true,
-  false,
-  cond,
-  bytes_eq,
-  Option,
-  Some,
-  None,
-  is_some,
-  option_copied,
-  IsSome,
-  IsTrue,
-  Contains,
-  inl,
-  inr,
-  arith,
-  refl,
-  sym,
-  ap,
-  subst,
-  ◌∙◌,
-  length-append,
-  append_assoc,
-  true≢false,
-  String,
-  Vec,
-  Global,
-  string_bytes,
-  Result,
-  Ok,
-  Err,
-  IfOk,
-  OnOk,
-}
+use Rattle.std.proofs.Common.{◌≡◌, ◌⊎◌, ℕ, ◌+◌, ◌≤◌, ◌<◌, suc, List, [], ◌∷◌, ◌++◌, map, length, take, get_or}
+use Rattle.std.proofs.Common.{Bool, true, false, cond, bytes_eq, Option, Some, None, is_some, option_copied}
+use Rattle.std.proofs.Common.{IsSome, IsTrue, Contains, inl, inr, arith, refl, sym, ap, subst, ◌∙◌}
+use Rattle.std.proofs.Common.{length-append, append_assoc, true≢false, String, Vec, Global, string_bytes}
+use Rattle.std.proofs.Common.{Result, Ok, Err, IfOk, OnOk}
 use Rattle.std.proofs.lemmas.List.{take_more, map-append}
-use Rattle.std.proofs.lemmas.List.Elements.{
-  All-weaker,
-  All-contains_itself,
-  Contains-append_left,
-  Contains-append_right,
-  Contains-append_cases,
-  Contains-push,
-  Contains-push_cases,
-}
+use Rattle.std.proofs.lemmas.List.Elements.{All-weaker, All-contains_itself, Contains-append_left}
+use Rattle.std.proofs.lemmas.List.Elements.{Contains-append_right, Contains-append_cases, Contains-push}
+use Rattle.std.proofs.lemmas.List.Elements.{Contains-push_cases}
 use Rattle.std.proofs.lemmas.Slice.Eq.{bytes_eq-Decides}
 use Rattle.std.specs.Borrow.{Bor}
 use Rattle.std.specs.Map.{keys_of}
 use Rattle.deno_graph_base.specs.TextMap.{value_at, IsAscending}
 use Rattle.deno_graph_info.specs.declared.analysis.dependency.DependencyDescriptor.{DependencyDescriptor}
 use Rattle.deno_graph_info.specs.Reach.{IsModuleKey, IsClosedUnderDependencies, IsReach, named_specifier}
-use Rattle.deno_graph_info.specs.internal.ReachSteps.{
-  infos_of,
-  NamesIn,
-  IsReached,
-  one_unless,
-  unreached,
-  Grows,
-}
+use Rattle.deno_graph_info.specs.internal.ReachSteps.{infos_of, NamesIn, IsReached, one_unless, unreached}
+use Rattle.deno_graph_info.specs.internal.ReachSteps.{Grows}
 use Rattle.deno_graph_info.specs.declared.analysis.module_info.ModuleInfo.{ModuleInfo}
 
 abbrev pub Modules : Type 0

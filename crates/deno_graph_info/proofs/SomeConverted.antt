@@ -1,25 +1,6 @@
 -- Every value is converted, or a column of it overflows.
-use Rattle.std.proofs.Common.{
-  ◌≡◌,
-  ◌⊎◌,
-  inl,
-  inr,
-  ⊎_elim,
-  ◌-◌,
-  ◌^◌,
-  ℕ,
-  List,
-  length,
-  codes,
-  Option,
-  Some,
-  None,
-  slice_get,
-  refl,
-  sym,
-  subst,
-  ◌∙◌,
-}
+use Rattle.std.proofs.Common.{◌≡◌, ◌⊎◌, inl, inr, ⊎_elim, ◌-◌, ◌^◌, ℕ, List, length, codes, Option, Some}
+use Rattle.std.proofs.Common.{None, slice_get, refl, sym, subst, ◌∙◌}
 use Rattle.std.specs.Prelude.{MatchOption}
 use Rattle.std.proofs.lemmas.Bool.{cases_lt}
 use Rattle.std.proofs.lemmas.Option.{none-some, same_Some}
@@ -28,19 +9,10 @@ use Rattle.deno_graph_pragmas.specs.Finders.{deno_types_pattern, quoteless_deno_
 use Rattle.deno_graph_pragmas.specs.Split.{TextPart, HasSplit, IsCaptured}
 use Rattle.deno_graph_pragmas.proofs.SomeSplit.{some_part}
 use Rattle.deno_graph_info.specs.declared.analysis.specifier_with_range.SpecifierWithRange.{SpecifierWithRange}
-use Rattle.deno_graph_info.specs.Conversion.{
-  comments_in,
-  dependencies_in,
-  with_value_at,
-  with_types,
-  without_value_at,
-  AnyOverflows,
-  AreConverted,
-  DependencyOverflows,
-  IsConverted,
-  IsConvertedDependency,
-  Overflows,
-}
+use Rattle.deno_graph_info.specs.Conversion.{comments_in, dependencies_in, with_value_at, with_types}
+use Rattle.deno_graph_info.specs.Conversion.{without_value_at, AnyOverflows, AreConverted}
+use Rattle.deno_graph_info.specs.Conversion.{DependencyOverflows, IsConverted, IsConvertedDependency}
+use Rattle.deno_graph_info.specs.Conversion.{Overflows}
 use Rattle.deno_graph_info.specs.Types.{end_column, types_in, AreTypes, HasNoColumn, LastNames, NamesTypesAt}
 use Rattle.deno_graph_info.specs.declared.conversion.comment.Comment.{Comment}
 

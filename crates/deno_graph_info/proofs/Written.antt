@@ -2,10 +2,10 @@
 pub mod Dependency
 pub mod DynamicArgument
 pub mod DynamicDependency
+pub mod DynamicTemplatePart
 pub mod ImportAttributes
 pub mod JsDocImportInfo
 pub mod ModuleInfo
-pub mod SpecifierWithMode
 pub mod SpecifierWithRange
 pub mod StaticDependency
 pub mod TypeScriptReference

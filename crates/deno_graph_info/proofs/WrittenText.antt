@@ -1,8 +1,7 @@
 -- Values and members that are written, one after another.
-use Rattle.std.proofs.Common.{◌≡◌, ℕ, ◌^◌, ◌<◌, ◌≤◌, ◌++◌, List, [], ◌∷◌, None, Bool, true, ℤ, pos}
-use Rattle.std.proofs.Common.{negsuc, SFits, w64}
-use Rattle.std.proofs.Common.{codes, decimal, refl, sym, ap, ap₂, subst, ◌∙◌, append_assoc, append-nil}
-use Rattle.std.proofs.Common.{arith, if◌then◌else◌}
+use Rattle.std.proofs.Common.{◌≡◌, ℕ, ◌^◌, ◌<◌, ◌≤◌, ◌++◌, List, [], ◌∷◌, None, Bool, true, ℤ, pos, negsuc}
+use Rattle.std.proofs.Common.{SFits, w64, codes, decimal, refl, sym, ap, ap₂, subst, ◌∙◌, append_assoc}
+use Rattle.std.proofs.Common.{append-nil, arith, if◌then◌else◌}
 use Rattle.std.specs.Fmt.{signed_decimal}
 use Rattle.json.specs.Token.{Token, begin_array, begin_object, end_array, end_object, key}
 use Rattle.json.specs.Json as json
@@ -19,14 +18,8 @@ use Rattle.deno_graph_info.specs.Json.SpecifierWithRange.{IsHeldSpecifier, json_
 use Rattle.deno_graph_info.specs.declared.analysis.specifier_with_range.SpecifierWithRange.{SpecifierWithRange}
 use Rattle.deno_graph_info.proofs.OrderedMembers.{followed_by}
 use Rattle.deno_graph_info.specs.internal.Chosen.{Test, chosen, passes}
-use Rattle.deno_graph_info.specs.internal.Written.{
-  AreFloatless,
-  AreFloatlessItems,
-  AreWritten,
-  IsFloatless,
-  IsWritten,
-  member_tokens,
-}
+use Rattle.deno_graph_info.specs.internal.Written.{AreFloatless, AreFloatlessItems, AreWritten, IsFloatless}
+use Rattle.deno_graph_info.specs.internal.Written.{IsWritten, member_tokens}
 
 -- ---- numbers
 

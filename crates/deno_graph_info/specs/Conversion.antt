@@ -1,35 +1,8 @@
 -- The conversion from version 1 to version 2, as a relation of a value and the converted value.
-use Rattle.std.specs.Prelude.{
-  ◌≡◌,
-  ◌⊎◌,
-  ℕ,
-  List,
-  bytes_eq,
-  codes,
-  Option,
-  Some,
-  None,
-  true,
-  false,
-  MatchOption,
-  if◌then◌else◌,
-}
-use Rattle.serde_json.specs.Data.{
-  Data,
-  null,
-  boolean,
-  number,
-  string,
-  array,
-  object,
-  Items,
-  no_items,
-  item,
-  Members,
-  no_members,
-  member,
-  put,
-}
+use Rattle.std.specs.Prelude.{◌≡◌, ◌⊎◌, ℕ, List, bytes_eq, codes, Option, Some, None, true, false}
+use Rattle.std.specs.Prelude.{MatchOption, if◌then◌else◌}
+use Rattle.serde_json.specs.Data.{Data, null, boolean, number, string, array, object, Items, no_items, item}
+use Rattle.serde_json.specs.Data.{Members, no_members, member, put}
 use Rattle.serde_json.specs.Find.{as_array, as_object}
 use Rattle.serde_json.specs.Written.{has_float}
 use Rattle.deno_graph_json.specs.Read.Partial.{◌>>=◌, member_at, reads_array}
@@ -39,11 +12,8 @@ use Rattle.deno_graph_info.specs.Comment.{reads_stored_comment}
 use Rattle.deno_graph_info.specs.Types.{AreTypes, HasNoColumn}
 use Rattle.deno_graph_info.specs.declared.conversion.comment.Comment.{Comment}
 use Rattle.deno_graph_info.specs.declared.conversion.fault.ConvertFault.{ConvertFault}
-use Rattle.deno_graph_info.specs.declared.conversion.fault.ConvertFault.TheVariants.{
-  ColumnOverflow,
-  Float,
-  OutOfMemory,
-}
+use Rattle.deno_graph_info.specs.declared.conversion.fault.ConvertFault.TheVariants.{ColumnOverflow, Float}
+use Rattle.deno_graph_info.specs.declared.conversion.fault.ConvertFault.TheVariants.{OutOfMemory}
 
 -- ---- members of an object
 

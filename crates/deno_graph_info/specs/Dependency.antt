@@ -1,17 +1,11 @@
 -- The kind of a dependency, and its import attributes.
 use Rattle.std.specs.Prelude.{Option, Some, None}
 use Rattle.deno_graph_info.specs.declared.analysis.dependency.DependencyDescriptor.{DependencyDescriptor}
-use Rattle.deno_graph_info.specs.declared.analysis.dependency.DependencyDescriptor.TheVariants.{
-  Static,
-  Dynamic,
-}
-use Rattle.deno_graph_info.specs.declared.analysis.dynamic_dependency.DynamicDependencyDescriptor.{
-  DynamicDependencyDescriptor,
-}
+use Rattle.deno_graph_info.specs.declared.analysis.dependency.DependencyDescriptor.TheVariants.{Static}
+use Rattle.deno_graph_info.specs.declared.analysis.dependency.DependencyDescriptor.TheVariants.{Dynamic}
+use Rattle.deno_graph_info.specs.declared.analysis.dynamic_dependency.DynamicDependencyDescriptor.{DynamicDependencyDescriptor}
 use Rattle.deno_graph_info.specs.declared.analysis.import_attributes.ImportAttributes.{ImportAttributes}
-use Rattle.deno_graph_info.specs.declared.analysis.static_dependency.StaticDependencyDescriptor.{
-  StaticDependencyDescriptor,
-}
+use Rattle.deno_graph_info.specs.declared.analysis.static_dependency.StaticDependencyDescriptor.{StaticDependencyDescriptor}
 
 -- the static dependency, or none for a dynamic one
 abbrev pub static_of : DependencyDescriptor → Option StaticDependencyDescriptor

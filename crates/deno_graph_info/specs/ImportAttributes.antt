@@ -1,30 +1,14 @@
 -- Import attributes, as far as they are known.
-use Rattle.std.specs.Prelude.{
-  ◌≡◌,
-  ◌⊎◌,
-  ℕ,
-  List,
-  Bool,
-  true,
-  false,
-  codes,
-  Option,
-  Some,
-  None,
-  option_and_then,
-}
+use Rattle.std.specs.Prelude.{◌≡◌, ◌⊎◌, ℕ, List, Bool, true, false, codes, Option, Some, None}
+use Rattle.std.specs.Prelude.{option_and_then}
 use Rattle.deno_graph_base.specs.TextMap.{value_at}
 use Rattle.deno_graph_info.specs.declared.analysis.import_attributes.ImportAttribute.{ImportAttribute}
-use Rattle.deno_graph_info.specs.declared.analysis.import_attributes.ImportAttribute.TheVariants.{
-  Unknown as UnknownValue,
-  Known as KnownValue,
-}
+use Rattle.deno_graph_info.specs.declared.analysis.import_attributes.ImportAttribute.TheVariants.{Unknown as UnknownValue}
+use Rattle.deno_graph_info.specs.declared.analysis.import_attributes.ImportAttribute.TheVariants.{Known as KnownValue}
 use Rattle.deno_graph_info.specs.declared.analysis.import_attributes.ImportAttributes.{ImportAttributes}
-use Rattle.deno_graph_info.specs.declared.analysis.import_attributes.ImportAttributes.TheVariants.{
-  None as NoAttributes,
-  Unknown,
-  Known,
-}
+use Rattle.deno_graph_info.specs.declared.analysis.import_attributes.ImportAttributes.TheVariants.{None as NoAttributes}
+use Rattle.deno_graph_info.specs.declared.analysis.import_attributes.ImportAttributes.TheVariants.{Unknown}
+use Rattle.deno_graph_info.specs.declared.analysis.import_attributes.ImportAttributes.TheVariants.{Known}
 
 -- whether the dependency has none
 abbrev pub is_none : ImportAttributes → Bool

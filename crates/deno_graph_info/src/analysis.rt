@@ -7,7 +7,6 @@ pub mod fault;
 pub mod import_attributes;
 pub mod js_doc_import_info;
 pub mod module_info;
-pub(crate) mod specifier_with_mode;
 pub mod specifier_with_range;
 pub mod static_dependency;
 pub mod type_script_reference;

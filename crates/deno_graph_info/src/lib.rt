@@ -3,5 +3,6 @@
 #![tactic(auto)]
 
 pub mod analysis;
+pub mod codec;
 pub mod conversion;
 pub mod reach;

@@ -5,11 +5,10 @@ use Rattle.serde_json.specs.Data.{Num}
 use Rattle.deno_graph_json.specs.Data.{data_of, value_data, view_data, elements_data, members_data}
 use Rattle.deno_graph_json.specs.Flat.{PlainNode, plain, IsFlatText}
 use Rattle.deno_graph_json.specs.Flat as flat
-use Rattle.deno_graph_json.specs.Value.{Value, null, boolean, number, string, array, object}
-use Rattle.deno_graph_json.specs.Value.{ValueItems, no_items, item, ValueMembers}
-use Rattle.deno_graph_json.specs.Value.{item_count, flat_value, flat_items, flat_members, value_within}
-use Rattle.deno_graph_json.specs.Value.{value_in, items_in, members_in, AreOfValue, AreOfItems, AreOfMembers}
-use Rattle.deno_graph_json.specs.Value.{plain_value}
+use Rattle.deno_graph_json.specs.Value.{Value, null, boolean, number, string, array, object, ValueItems}
+use Rattle.deno_graph_json.specs.Value.{no_items, item, ValueMembers, item_count, flat_value, flat_items}
+use Rattle.deno_graph_json.specs.Value.{flat_members, value_within, value_in, items_in, members_in}
+use Rattle.deno_graph_json.specs.Value.{AreOfValue, AreOfItems, AreOfMembers, plain_value}
 use Rattle.deno_graph_json.specs.View.{value_of, view_value, IsValueOf}
 use Rattle.deno_graph_json.specs.declared.flat.Element.{Element}
 use Rattle.deno_graph_json.specs.declared.flat.FlatNode.{FlatNode}

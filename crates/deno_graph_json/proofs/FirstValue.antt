@@ -5,28 +5,19 @@ use Rattle.std.proofs.lemmas.List.{take_at, length-map, map-append}
 use Rattle.std.specs.Borrow.{Bor}
 use Rattle.deno_graph_json.specs.Flat.{PlainNode, plain}
 use Rattle.deno_graph_json.specs.Flat as flat
-use Rattle.deno_graph_json.specs.Value.{Value, null, boolean, number, string, array, object}
-use Rattle.deno_graph_json.specs.Value.{ValueItems, no_items, item, ValueMembers, no_members, member}
-use Rattle.deno_graph_json.specs.Value.{item_count, flat_value, flat_items, flat_members, plain_inside}
-use Rattle.deno_graph_json.specs.Value.{value_in, items_in, members_in}
-use Rattle.deno_graph_json.specs.Value.{AreOfValue, AreOfItems, AreOfMembers, value_within}
+use Rattle.deno_graph_json.specs.Value.{Value, null, boolean, number, string, array, object, ValueItems}
+use Rattle.deno_graph_json.specs.Value.{no_items, item, ValueMembers, no_members, member, item_count}
+use Rattle.deno_graph_json.specs.Value.{flat_value, flat_items, flat_members, plain_inside, value_in}
+use Rattle.deno_graph_json.specs.Value.{items_in, members_in, AreOfValue, AreOfItems, AreOfMembers}
+use Rattle.deno_graph_json.specs.Value.{value_within}
 use Rattle.deno_graph_json.specs.internal.Nodes.{BeginsValue}
 use Rattle.deno_graph_json.specs.View.{items_left, items_with, members_of, members_with}
 use Rattle.deno_graph_json.specs.declared.flat.Element.{Element}
 use Rattle.deno_graph_json.specs.declared.flat.Elements.{Elements}
 use Rattle.deno_graph_json.specs.declared.flat.Members.{Members as ElementMembers}
 use Rattle.deno_graph_json.specs.declared.flat.FlatNode.{FlatNode}
-use Rattle.deno_graph_json.specs.declared.flat.FlatNode.TheVariants.{
-  Null,
-  Bool as TheBool,
-  Whole,
-  Negative,
-  Float,
-  String,
-  Key,
-  Array,
-  Object,
-}
+use Rattle.deno_graph_json.specs.declared.flat.FlatNode.TheVariants.{Null, Bool as TheBool, Whole, Negative}
+use Rattle.deno_graph_json.specs.declared.flat.FlatNode.TheVariants.{Float, String, Key, Array, Object}
 use Rattle.deno_graph_json.proofs.Values.{some_value, same_front, is_items, is_members, of_value, of_items}
 use Rattle.deno_graph_json.proofs.Values.{of_members}
 

@@ -1,7 +1,6 @@
 -- A value without the node of a float has no float.
-use Rattle.std.proofs.Common.{◌≡◌, ℕ, Bool, true, false, ◌||◌, List, [], ◌∷◌, ◌++◌, refl, ap, ◌∙◌}
-use Rattle.std.proofs.Common.{true≢false, map, drop, get_or, length}
-use Rattle.std.proofs.Common.{◌<◌, ◌+◌, Float}
+use Rattle.std.proofs.Common.{◌≡◌, ℕ, Bool, true, false, ◌||◌, List, [], ◌∷◌, ◌++◌, refl, ap, ◌∙◌, true≢false}
+use Rattle.std.proofs.Common.{map, drop, get_or, length, ◌<◌, ◌+◌, Float}
 use Rattle.std.proofs.lemmas.List.{at_drop_more}
 use Rattle.serde_json.specs.Data.{Data, put}
 use Rattle.serde_json.specs.Data as serde

@@ -1,9 +1,7 @@
 -- Finding the last member of each of several names.
-use Rattle.std.proofs.Common.{◌≡◌, ℕ, zero, suc, ◌+◌, ◌<◌, ◌≤◌, true}
-use Rattle.std.proofs.Common.{false, List, [], ◌∷◌, ◌++◌, length}
-use Rattle.std.proofs.Common.{take, drop, replicate, get_or, set, Option}
-use Rattle.std.proofs.Common.{Some, None, Bor, add-one}
-use Rattle.std.proofs.Common.{drop-cons, take-suc, append_assoc, arith, refl, sym, ap, ◌∙◌}
+use Rattle.std.proofs.Common.{◌≡◌, ℕ, zero, suc, ◌+◌, ◌<◌, ◌≤◌, true, false, List, [], ◌∷◌, ◌++◌, length}
+use Rattle.std.proofs.Common.{take, drop, replicate, get_or, set, Option, Some, None, Bor, add-one, drop-cons}
+use Rattle.std.proofs.Common.{take-suc, append_assoc, arith, refl, sym, ap, ◌∙◌}
 use Rattle.std.specs.Str.{bytes_eq}
 use Rattle.std.proofs.lemmas.List.{drop_all, drop-set-lt, take-append-drop, take_more_set}
 use Rattle.serde_json.specs.Data.{Members, no_members, put}

@@ -1,6 +1,6 @@
 -- The nodes of an array or object, after all its items or members were read.
-use Rattle.std.proofs.Common.{◌≡◌, ℕ, ◌+◌, ◌<◌, List, [], ◌∷◌, ◌++◌, length, map, slice_set, arith, refl}
-use Rattle.std.proofs.Common.{sym, ap, ◌∙◌, append_assoc}
+use Rattle.std.proofs.Common.{◌≡◌, ℕ, ◌+◌, ◌<◌, List, [], ◌∷◌, ◌++◌, length, map, slice_set, arith, refl, sym}
+use Rattle.std.proofs.Common.{ap, ◌∙◌, append_assoc}
 use Rattle.std.proofs.lemmas.List.{map-set, length-map, length-append, map-append}
 use Rattle.std.proofs.Math.Seq.{set-append_seam}
 use Rattle.std.specs.Result.{OnOk}

@@ -1,21 +1,6 @@
 -- What is written has no float.
-use Rattle.std.proofs.Common.{
-  ◌≡◌,
-  ℕ,
-  List,
-  [],
-  ◌∷◌,
-  map,
-  Bool,
-  true,
-  false,
-  ◌||◌,
-  Option,
-  Some,
-  None,
-  option_map,
-  refl,
-}
+use Rattle.std.proofs.Common.{◌≡◌, ℕ, List, [], ◌∷◌, map, Bool, true, false, ◌||◌, Option, Some, None}
+use Rattle.std.proofs.Common.{option_map, refl}
 use Rattle.std.specs.Ordering.{nat_cmp, match_ordering}
 use Rattle.std.specs.Cmp.Lexicographic.{slice_cmp}
 use Rattle.std.specs.declared.cmp.Ordering.{Ordering}
@@ -23,17 +8,8 @@ use Rattle.std.specs.declared.cmp.Ordering.TheVariants.{Less, Equal, Greater}
 use Rattle.serde_json.specs.Data.{Data, Members, no_members, member, put}
 use Rattle.serde_json.specs.View.{items_of}
 use Rattle.serde_json.specs.Written.{has_float, items_have_float, members_have_float}
-use Rattle.deno_graph_json.specs.Object.{
-  Entry,
-  put_present,
-  put_entries,
-  object_of,
-  map_entries,
-  map_object_of,
-  array_of,
-  if_any,
-  if_true,
-}
+use Rattle.deno_graph_json.specs.Object.{Entry, put_present, put_entries, object_of, map_entries}
+use Rattle.deno_graph_json.specs.Object.{map_object_of, array_of, if_any, if_true}
 
 -- a value is present, and has a float
 abbrev pub option_has_float : Option Data → Bool

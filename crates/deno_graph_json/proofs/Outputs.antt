@@ -5,8 +5,8 @@ use Rattle.json.specs.Tree.{items_tokens}
 use Rattle.serde_json.specs.Data.{Data, Items, array, no_members, null, put}
 use Rattle.serde_json.specs.Written.{items_outline}
 use Rattle.deno_graph_json.specs.Ascending.{has_ascending_keys}
-use Rattle.deno_graph_json.specs.JsonWriter.{Output, text, value, object_part}
-use Rattle.deno_graph_json.specs.JsonWriter.{with_member, with_token, with_value}
+use Rattle.deno_graph_json.specs.JsonWriter.{Output, text, value, object_part, with_member, with_token}
+use Rattle.deno_graph_json.specs.JsonWriter.{with_value}
 use Rattle.deno_graph_json.specs.Object.{Entry, object_of, with_entries, with_present}
 use Rattle.deno_graph_json.specs.Text.{Text, text_tokens, with_member_text, with_tokens}
 use Rattle.deno_graph_json.proofs.Texts.{object_text, with_tokens-twice}

@@ -9,23 +9,14 @@ use Rattle.deno_graph_json.specs.Data.{data_of, elements_data, items_data, value
 use Rattle.deno_graph_json.specs.Flat.{plain}
 use Rattle.deno_graph_json.specs.Flat as flat
 use Rattle.deno_graph_json.specs.Read.Partial.{◌>>=◌, as_usize, reads_pair, two_items}
-use Rattle.deno_graph_json.specs.Value.{Value, null, boolean, number, string, array, object}
-use Rattle.deno_graph_json.specs.Value.{ValueItems, no_items, item, flat_items}
+use Rattle.deno_graph_json.specs.Value.{Value, null, boolean, number, string, array, object, ValueItems}
+use Rattle.deno_graph_json.specs.Value.{no_items, item, flat_items}
 use Rattle.deno_graph_json.specs.View.{items_left}
 use Rattle.deno_graph_json.specs.declared.flat.Element.{Element}
 use Rattle.deno_graph_json.specs.declared.flat.Elements.{Elements}
 use Rattle.deno_graph_json.specs.declared.flat.FlatNode.{FlatNode}
-use Rattle.deno_graph_json.specs.declared.flat.FlatNode.TheVariants.{
-  Null,
-  Bool as TheBool,
-  Whole,
-  Negative,
-  Float,
-  String,
-  Key,
-  Array,
-  Object,
-}
+use Rattle.deno_graph_json.specs.declared.flat.FlatNode.TheVariants.{Null, Bool as TheBool, Whole, Negative}
+use Rattle.deno_graph_json.specs.declared.flat.FlatNode.TheVariants.{Float, String, Key, Array, Object}
 use Rattle.deno_graph_json.proofs.Values.{is_items}
 
 abbrev both : Option ℕ → Option ℕ → Option (ℕ × ℕ)

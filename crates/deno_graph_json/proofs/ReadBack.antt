@@ -6,49 +6,22 @@ use Rattle.serde_json.specs.Data.{Data, number, unsigned, no_members}
 use Rattle.serde_json.specs.Find.{as_bool}
 use Rattle.serde_json.specs.View.{items_of}
 use Rattle.deno_graph_base.specs.TextMap.{IsAscending}
-use Rattle.deno_graph_base.specs.declared.values.resolution_mode.TypeScriptTypesResolutionMode.{
-  TypeScriptTypesResolutionMode,
-}
-use Rattle.deno_graph_base.specs.declared.values.resolution_mode.TypeScriptTypesResolutionMode.TheVariants.{
-  Require,
-  Import,
-}
+use Rattle.deno_graph_base.specs.declared.values.resolution_mode.TypeScriptTypesResolutionMode.{TypeScriptTypesResolutionMode}
+use Rattle.deno_graph_base.specs.declared.values.resolution_mode.TypeScriptTypesResolutionMode.TheVariants.{Require}
+use Rattle.deno_graph_base.specs.declared.values.resolution_mode.TypeScriptTypesResolutionMode.TheVariants.{Import}
 use Rattle.deno_graph_base.specs.declared.text.position.Position.{Position}
 use Rattle.deno_graph_base.specs.declared.text.position.PositionRange.{PositionRange}
 use Rattle.deno_graph_json.proofs.Ascending.{ascending, present, put_entries-present}
 use Rattle.deno_graph_json.proofs.Objects.{get_member-put_entries, has_distinct_keys, entry_at}
 use Rattle.deno_graph_json.proofs.Reading.{goes_on}
 use Rattle.deno_graph_json.specs.internal.MapEntries.{ascending-map}
-use Rattle.deno_graph_json.specs.Json.Position.{
-  IsHeldPosition,
-  IsHeldRange,
-  json_of_position,
-  json_of_range,
-  reads_position,
-  reads_range,
-}
-use Rattle.deno_graph_json.specs.Object.{
-  Entry,
-  put_entries,
-  map_entries,
-  map_object_of,
-  array_of,
-  if_true,
-  if_any,
-}
-use Rattle.deno_graph_json.specs.Read.Partial.{
-  ◌>>=◌,
-  as_usize,
-  reads_optional,
-  reads_items,
-  reads_array,
-  reads_members,
-  reads_map,
-  reads_pair,
-  read_or,
-  member_at,
-  member_or,
-}
+use Rattle.deno_graph_json.specs.Json.Position.{IsHeldPosition, IsHeldRange, json_of_position, json_of_range}
+use Rattle.deno_graph_json.specs.Json.Position.{reads_position, reads_range}
+use Rattle.deno_graph_json.specs.Object.{Entry, put_entries, map_entries, map_object_of, array_of, if_true}
+use Rattle.deno_graph_json.specs.Object.{if_any}
+use Rattle.deno_graph_json.specs.Read.Partial.{◌>>=◌, as_usize, reads_optional, reads_items, reads_array}
+use Rattle.deno_graph_json.specs.Read.Partial.{reads_members, reads_map, reads_pair, read_or, member_at}
+use Rattle.deno_graph_json.specs.Read.Partial.{member_or}
 use Rattle.deno_graph_json.specs.Json.ResolutionMode.{reads_mode, json_of_mode}
 
 -- ---- any reader

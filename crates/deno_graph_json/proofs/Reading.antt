@@ -4,20 +4,8 @@ use Rattle.std.proofs.Common.{ap, subst, ◌∙◌, append_assoc, append-nil}
 use Rattle.std.proofs.lemmas.Option.{none-some}
 use Rattle.std.proofs.lemmas.Result.{err_from_is_err_and}
 use Rattle.std.specs.Option.{IsSomeAnd, unwrap_or}
-use Rattle.serde_json.specs.Data.{
-  Data,
-  null,
-  boolean,
-  number,
-  array,
-  object,
-  string,
-  Items,
-  no_items,
-  item,
-  Members,
-  no_members,
-}
+use Rattle.serde_json.specs.Data.{Data, null, boolean, number, array, object, string, Items, no_items, item}
+use Rattle.serde_json.specs.Data.{Members, no_members}
 use Rattle.serde_json.specs.Find.{as_array, as_object, as_str, get_member}
 use Rattle.deno_graph_json.specs.Read.Result.{IsReadError, IsReadResult}
 use Rattle.deno_graph_json.specs.Read.Error.{IsIn, IsMismatch, mismatch, step_into, data_at}

@@ -1,60 +1,16 @@
 -- A list of nodes is the flat list of at most one value, and the values in a list.
-use Rattle.std.proofs.Common.{
-  ◌≡◌,
-  ℕ,
-  zero,
-  suc,
-  ◌+◌,
-  ◌*◌,
-  ◌<◌,
-  ◌≤◌,
-  List,
-  [],
-  ◌∷◌,
-  ◌++◌,
-  length,
-  arith,
-  refl,
-  sym,
-  ap,
-  ◌∙◌,
-  append-nil,
-  length-append,
-}
+use Rattle.std.proofs.Common.{◌≡◌, ℕ, zero, suc, ◌+◌, ◌*◌, ◌<◌, ◌≤◌, List, [], ◌∷◌, ◌++◌, length, arith, refl}
+use Rattle.std.proofs.Common.{sym, ap, ◌∙◌, append-nil, length-append}
 use Rattle.std.proofs.lemmas.List.{take_at, drop_at}
 use Rattle.json.specs.Json.{Json}
 use Rattle.json.specs.Json as json
 use Rattle.deno_graph_json.specs.Flat.{PlainNode, flat_list, items_list, members_list}
 use Rattle.deno_graph_json.specs.Flat as flat
-use Rattle.deno_graph_json.specs.Value.{
-  Value,
-  null,
-  boolean,
-  number,
-  string,
-  array,
-  object,
-  ValueItems,
-  no_items,
-  item,
-  ValueMembers,
-  no_members,
-  member,
-  item_count,
-  plain_value,
-  plain_items,
-  plain_members,
-  flat_value,
-  flat_items,
-  flat_members,
-  after_value,
-  value_within,
-  items_within,
-  members_within,
-  value_in,
-  items_in,
-  members_in,
-}
+use Rattle.deno_graph_json.specs.Value.{Value, null, boolean, number, string, array, object, ValueItems}
+use Rattle.deno_graph_json.specs.Value.{no_items, item, ValueMembers, no_members, member, item_count}
+use Rattle.deno_graph_json.specs.Value.{plain_value, plain_items, plain_members, flat_value, flat_items}
+use Rattle.deno_graph_json.specs.Value.{flat_members, after_value, value_within, items_within, members_within}
+use Rattle.deno_graph_json.specs.Value.{value_in, items_in, members_in}
 
 pub some_value : (v : Value) → 0 < length (flat_value v)
 unfolding flat_value

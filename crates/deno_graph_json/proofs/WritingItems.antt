@@ -1,25 +1,6 @@
 -- Writing the items of a list, or the entries of a map, one after another.
-use Rattle.std.proofs.Common.{
-  ◌≡◌,
-  ℕ,
-  ◌+◌,
-  ◌<◌,
-  ◌≤◌,
-  List,
-  [],
-  ◌∷◌,
-  ◌++◌,
-  All,
-  length,
-  get_or,
-  map,
-  take,
-  drop,
-  sym,
-  ap,
-  subst,
-  ◌∙◌,
-}
+use Rattle.std.proofs.Common.{◌≡◌, ℕ, ◌+◌, ◌<◌, ◌≤◌, List, [], ◌∷◌, ◌++◌, All, length, get_or, map, take}
+use Rattle.std.proofs.Common.{drop, sym, ap, subst, ◌∙◌}
 use Rattle.std.proofs.lemmas.List.{map-append, take_all, take_more, at_drop_more, at_drop_all}
 use Rattle.std.proofs.lemmas.List.Elements.{All-head, All-more, All-tail}
 use Rattle.json.specs.Token.{Token, end_array}

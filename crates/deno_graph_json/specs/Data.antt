@@ -1,24 +1,7 @@
 -- The JSON value of an element, as `serde_json` has it: of several members of one name the last stays.
 use Rattle.std.specs.Prelude.{List, [], ◌∷◌, ℕ}
-use Rattle.serde_json.specs.Data.{
-  Data,
-  null,
-  boolean,
-  number,
-  string,
-  array,
-  object,
-  unsigned,
-  negative,
-  float,
-  Items,
-  no_items,
-  item,
-  Members,
-  no_members,
-  member,
-  put,
-}
+use Rattle.serde_json.specs.Data.{Data, null, boolean, number, string, array, object, unsigned, negative}
+use Rattle.serde_json.specs.Data.{float, Items, no_items, item, Members, no_members, member, put}
 use Rattle.deno_graph_json.specs.Value.{Value, ValueItems, ValueMembers}
 use Rattle.deno_graph_json.specs.Value as flat
 use Rattle.deno_graph_json.specs.View.{value_of, tape_value, items_left, members_of}

@@ -2,9 +2,9 @@
 use Rattle.std.specs.Prelude.{◌≡◌, ℕ, List, length, map, Option, Some, None}
 use Rattle.std.specs.Borrow.{Bor}
 use Rattle.deno_graph_json.specs.Flat.{plain, IsTextOf}
-use Rattle.deno_graph_json.specs.Value.{Value, null, boolean, number, string, array, object}
-use Rattle.deno_graph_json.specs.Value.{ValueItems, no_items, item, ValueMembers, no_members, member}
-use Rattle.deno_graph_json.specs.Value.{plain_value, value_in, items_in, members_in}
+use Rattle.deno_graph_json.specs.Value.{Value, null, boolean, number, string, array, object, ValueItems}
+use Rattle.deno_graph_json.specs.Value.{no_items, item, ValueMembers, no_members, member, plain_value}
+use Rattle.deno_graph_json.specs.Value.{value_in, items_in, members_in}
 use Rattle.json.specs.Json.{Json}
 use Rattle.serde_json.specs.Data.{unsigned, negative, float}
 use Rattle.deno_graph_json.specs.declared.flat.Element.{Element}

@@ -8,15 +8,8 @@ use Rattle.serde_json.specs.Events.{items_len}
 use Rattle.serde_json.specs.Find.{as_array, as_object, as_str, at, get, get_item, get_member}
 use Rattle.deno_graph_json.specs.Read.Error.{data_at}
 use Rattle.deno_graph_json.specs.declared.error.Step.TheVariants.{Item, Member}
-use Rattle.deno_graph_json.specs.Read.Partial.{
-  ◌>>=◌,
-  as_usize,
-  member_at,
-  member_or,
-  read_or,
-  reads_array,
-  reads_items,
-}
+use Rattle.deno_graph_json.specs.Read.Partial.{◌>>=◌, as_usize, member_at, member_or, read_or, reads_array}
+use Rattle.deno_graph_json.specs.Read.Partial.{reads_items}
 use Rattle.deno_graph_json.proofs.Reading.{goes_on, is_array}
 use Rattle.deno_graph_source.specs.ByOffset.{item_at}
 use Rattle.deno_graph_source.specs.Comments.{FiledComments, Filing}
@@ -26,20 +19,11 @@ use Rattle.deno_graph_source.specs.declared.tree.comments.DependencyComment.{Dep
 use Rattle.deno_graph_source.specs.declared.tree.comments.CommentSide.{CommentSide}
 use Rattle.deno_graph_source.specs.declared.tree.comments.CommentSide.TheVariants.{Leading, Trailing}
 use Rattle.modinfo_document.specs.declared.comments.FiledEntry.{FiledEntry}
-use Rattle.modinfo_document.specs.Comments.{
-  AreThoseOf,
-  HasCommentsOf,
-  Sides,
-  comments_at,
-  followed_by,
-  reads_comment,
-  reads_entry,
-  reads_side,
-  reads_sides,
-  side_name,
-}
+use Rattle.modinfo_document.specs.Comments.{AreThoseOf, HasCommentsOf, Sides, comments_at, followed_by}
+use Rattle.modinfo_document.specs.Comments.{reads_comment, reads_entry, reads_side, reads_sides, side_name}
 use Rattle.modinfo_document.specs.Document.{Contents, reads_document}
-use Rattle.modinfo_document.specs.Kind.{media_types, reads_named}
+use Rattle.modinfo_document.specs.Kind.{media_types}
+use Rattle.modinfo_document.specs.Named.{reads_named}
 use Rattle.modinfo_document.specs.Node.{reads_program}
 use Rattle.modinfo_document.specs.Lookup.{side_entries}
 use Rattle.modinfo_document.specs.internal.Lookup.{entry_items}

@@ -9,7 +9,8 @@ use Rattle.deno_graph_source.specs.declared.tree.node.Program.{Program}
 use Rattle.modinfo_document.specs.Comments.{Sides, reads_sides}
 use Rattle.modinfo_document.specs.Document.{Contents, reads_document}
 use Rattle.modinfo_document.specs.internal.Document.{reads_tree}
-use Rattle.modinfo_document.specs.Kind.{media_types, reads_named}
+use Rattle.modinfo_document.specs.Kind.{media_types}
+use Rattle.modinfo_document.specs.Named.{reads_named}
 use Rattle.modinfo_document.specs.Node.{reads_program}
 
 -- A value made of two values that are read.

@@ -5,26 +5,16 @@ use Rattle.std.proofs.Common.{◌∙◌}
 use Rattle.std.specs.List.Sorted.{IsStrictlySortedBy}
 use Rattle.std.proofs.lemmas.Bool.Decides.{eqb_tells}
 use Rattle.std.proofs.lemmas.Grind.{flat_map-append}
-use Rattle.std.proofs.lemmas.List.Sorted.{
-  IsPermutation-append_left,
-  IsPermutation-push_more,
-  IsPermutation-refl,
-  IsPermutation-trans,
-}
+use Rattle.std.proofs.lemmas.List.Sorted.{IsPermutation-append_left, IsPermutation-push_more}
+use Rattle.std.proofs.lemmas.List.Sorted.{IsPermutation-refl, IsPermutation-trans}
 use Rattle.deno_graph_source.specs.ByOffset.{AddsItem, all_items, value_at}
 use Rattle.deno_graph_source.specs.Comments.{Ascends, Filing, FiledComments}
 use Rattle.deno_graph_source.specs.declared.tree.comments.CommentSide.{CommentSide}
 use Rattle.deno_graph_source.specs.declared.tree.comments.CommentSide.TheVariants.{Leading, Trailing}
 use Rattle.deno_graph_source.specs.declared.tree.comments.DependencyComment.{DependencyComment}
 use Rattle.modinfo_document.specs.declared.comments.FiledEntry.{FiledEntry}
-use Rattle.modinfo_document.specs.Comments.{
-  entry_with,
-  all_comments,
-  comments_at,
-  followed_by,
-  AreThoseOf,
-  HasCommentsOf,
-}
+use Rattle.modinfo_document.specs.Comments.{entry_with, all_comments, comments_at, followed_by, AreThoseOf}
+use Rattle.modinfo_document.specs.Comments.{HasCommentsOf}
 use Rattle.modinfo_document.specs.internal.Comments.{AddsOn, AreAppended, AreAppendedOn}
 
 abbrev Comments : Type 0

@@ -6,6 +6,7 @@ pub mod Documents
 pub mod NodeLookup
 pub mod CommentLookup
 pub mod KindParts
+pub mod KindReadings
 pub mod Places
 pub mod PlaceRanges
 pub mod Reported

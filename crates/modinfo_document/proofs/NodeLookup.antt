@@ -1,47 +1,11 @@
 -- The values that items, nodes and a program are read from.
-use Rattle.std.proofs.Common.{
-  ◌≡◌,
-  ℕ,
-  zero,
-  suc,
-  List,
-  [],
-  ◌∷◌,
-  codes,
-  false,
-  Option,
-  Some,
-  None,
-  slice_get,
-  refl,
-  sym,
-  ap,
-  subst,
-  ◌∙◌,
-}
+use Rattle.std.proofs.Common.{◌≡◌, ℕ, zero, suc, List, [], ◌∷◌, codes, false, Option, Some, None, slice_get}
+use Rattle.std.proofs.Common.{refl, sym, ap, subst, ◌∙◌}
 use Rattle.std.proofs.lemmas.Option.{none-some, option_and_then_some, same_Some}
-use Rattle.serde_json.specs.Data.{
-  Data,
-  null,
-  boolean,
-  number,
-  string,
-  array,
-  object,
-  Items,
-  no_items,
-  item,
-  Members,
-}
+use Rattle.serde_json.specs.Data.{Data, null, boolean, number, string, array, object, Items, no_items, item}
+use Rattle.serde_json.specs.Data.{Members}
 use Rattle.serde_json.specs.Find.{as_array, as_bool, as_object, get, get_item, get_member}
-use Rattle.deno_graph_json.specs.Read.Partial.{
-  ◌>>=◌,
-  member_at,
-  member_or,
-  read_or,
-  reads_array,
-  reads_items,
-}
+use Rattle.deno_graph_json.specs.Read.Partial.{◌>>=◌, member_at, member_or, read_or, reads_array, reads_items}
 use Rattle.deno_graph_source.specs.declared.tree.node.Node.{Node, roll-Node}
 use Rattle.deno_graph_source.specs.declared.tree.node.Node.TheOpen.{Node-F}
 use Rattle.deno_graph_source.specs.declared.tree.node.Node.TheViews.{out-roll-Node}

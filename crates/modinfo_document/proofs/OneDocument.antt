@@ -27,13 +27,8 @@ use Rattle.modinfo_document.specs.Document.{Contents, Has, HasErrorIn, IsDocumen
 use Rattle.modinfo_document.specs.Document.{IsNoSource, IsSourceOf}
 use Rattle.modinfo_document.specs.declared.document.Document.{Document}
 use Rattle.modinfo_document.specs.declared.error.DocumentError.{DocumentError}
-use Rattle.modinfo_document.specs.declared.error.DocumentError.TheVariants.{
-  Json,
-  Tree,
-  Specifier,
-  Source,
-  OutOfMemory,
-}
+use Rattle.modinfo_document.specs.declared.error.DocumentError.TheVariants.{Json, Tree, Specifier, Source}
+use Rattle.modinfo_document.specs.declared.error.DocumentError.TheVariants.{OutOfMemory}
 use Rattle.modinfo_document.proofs.Results.{some_with}
 
 -- ---- Values by ascending positions

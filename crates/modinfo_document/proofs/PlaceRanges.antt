@@ -1,22 +1,6 @@
 -- The paths to ranges, of a program, a comment, or a part of a node, lead to values.
-use Rattle.std.proofs.Common.{
-  ◌≡◌,
-  ℕ,
-  List,
-  ◌∷◌,
-  codes,
-  Option,
-  Some,
-  None,
-  IsSome,
-  IsSomeAnd,
-  slice_get,
-  refl,
-  sym,
-  ap,
-  subst,
-  ◌∙◌,
-}
+use Rattle.std.proofs.Common.{◌≡◌, ℕ, List, ◌∷◌, codes, Option, Some, None, IsSome, IsSomeAnd, slice_get}
+use Rattle.std.proofs.Common.{refl, sym, ap, subst, ◌∙◌}
 use Rattle.std.proofs.lemmas.Option.{same_Some}
 use Rattle.serde_json.specs.Data.{Data, null, boolean, number, string, array, object, Members}
 use Rattle.serde_json.specs.Find.{as_array, as_object, at, get, get_item}
@@ -31,12 +15,8 @@ use Rattle.deno_graph_source.specs.Node.{args_of, kind_of, literal_of}
 use Rattle.deno_graph_source.specs.declared.tree.comments.CommentPlace.{CommentPlace}
 use Rattle.deno_graph_source.specs.declared.tree.fault.SourceFault.{SourceFault}
 use Rattle.deno_graph_source.specs.declared.tree.fault_place.NodePart.{NodePart}
-use Rattle.deno_graph_source.specs.declared.tree.fault_place.NodePart.TheVariants.{
-  Range,
-  Literal,
-  Argument,
-  Children,
-}
+use Rattle.deno_graph_source.specs.declared.tree.fault_place.NodePart.TheVariants.{Range, Literal, Argument}
+use Rattle.deno_graph_source.specs.declared.tree.fault_place.NodePart.TheVariants.{Children}
 use Rattle.deno_graph_source.specs.declared.tree.node.Arg.{Arg}
 use Rattle.deno_graph_source.specs.declared.tree.node.Kind.{Kind}
 use Rattle.deno_graph_source.specs.declared.tree.node.Node.{Node, roll-Node}
@@ -45,16 +25,19 @@ use Rattle.deno_graph_source.specs.declared.tree.node.Node.TheViews.{out-roll-No
 use Rattle.deno_graph_source.specs.declared.tree.node.Program.{Program}
 use Rattle.deno_graph_source.specs.declared.tree.node.StrLit.{StrLit}
 use Rattle.deno_graph_source.specs.declared.tree.comments.DependencyComment.{DependencyComment}
-use Rattle.modinfo_document.specs.Comments.{comment_kinds, reads_comment}
+use Rattle.modinfo_document.specs.Kind.{comment_kinds}
+use Rattle.modinfo_document.specs.Comments.{reads_comment}
 use Rattle.modinfo_document.specs.Document.{Contents, reads_document}
-use Rattle.modinfo_document.specs.Kind.{reads_arg, reads_kind, reads_named}
+use Rattle.modinfo_document.specs.KindParts.{reads_arg}
+use Rattle.modinfo_document.specs.Kind.{reads_kind}
+use Rattle.modinfo_document.specs.Named.{reads_named}
 use Rattle.modinfo_document.specs.Literal.{reads_literal, reads_source_range}
 use Rattle.modinfo_document.specs.Node.{children_in, node_with, reads_node, reads_program}
-use Rattle.modinfo_document.specs.Place.{literal_member, part_path, program_path}
-use Rattle.modinfo_document.specs.Place.{range_in}
+use Rattle.modinfo_document.specs.Kind.{literal_member}
+use Rattle.modinfo_document.specs.Place.{part_path, program_path, range_in}
 use Rattle.modinfo_document.proofs.NodeLookup.{got, member_read, step}
 use Rattle.modinfo_document.proofs.Nodes.{node_read}
-use Rattle.modinfo_document.proofs.KindParts.{has_parts}
+use Rattle.modinfo_document.proofs.KindReadings.{has_parts}
 use Rattle.modinfo_document.proofs.Places.{program_leads}
 
 -- The path of a member of the value at a path.

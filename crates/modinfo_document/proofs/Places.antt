@@ -12,18 +12,12 @@ use Rattle.deno_graph_source.specs.NodePath.{NodePath, node_at, node_below}
 use Rattle.deno_graph_source.specs.declared.tree.node.Node.{Node}
 use Rattle.modinfo_document.specs.Comments.{reads_sides}
 use Rattle.modinfo_document.specs.Document.{Contents, reads_document}
-use Rattle.modinfo_document.specs.Kind.{media_types, reads_named}
+use Rattle.modinfo_document.specs.Kind.{media_types}
+use Rattle.modinfo_document.specs.Named.{reads_named}
 use Rattle.modinfo_document.specs.Node.{reads_node, reads_program}
 use Rattle.modinfo_document.specs.Place.{node_path, path_below, program_path}
-use Rattle.modinfo_document.proofs.NodeLookup.{
-  IsReadFrom,
-  body_from,
-  children_from,
-  got,
-  member_item,
-  member_read,
-  step,
-}
+use Rattle.modinfo_document.proofs.NodeLookup.{IsReadFrom, body_from, children_from, got, member_item}
+use Rattle.modinfo_document.proofs.NodeLookup.{member_read, step}
 
 -- An item of an array that is a member.
 pub two_steps : (name : List ℕ) (k : ℕ) (value : Data) → (get name value >>= at k) ≡ member_item name k value

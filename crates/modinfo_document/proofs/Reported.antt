@@ -11,15 +11,8 @@ use Rattle.std.specs.Rc.{rc_str_bytes}
 use Rattle.deno_graph_source.specs.FaultName.{fault_name}
 use Rattle.deno_graph_source.specs.Source.{HasFault}
 use Rattle.deno_graph_source.specs.declared.tree.fault_place.SourceFaultPlace.{SourceFaultPlace}
-use Rattle.modinfo_document.specs.Check.{
-  HasPlace,
-  IsFaultOf,
-  IsFaultReport,
-  IsReportIn,
-  Pointers,
-  ReportsIn,
-  ReportsPlace,
-}
+use Rattle.modinfo_document.specs.Check.{HasPlace, IsFaultOf, IsFaultReport, IsReportIn, Pointers, ReportsIn}
+use Rattle.modinfo_document.specs.Check.{ReportsPlace}
 use Rattle.modinfo_document.specs.Document.{Contents, Has, IsDocumentIn, IsNoSource}
 use Rattle.modinfo_document.specs.Error.{error_name}
 use Rattle.modinfo_document.specs.ExpectedJson.{HasJsonPlace}
@@ -27,13 +20,8 @@ use Rattle.modinfo_document.specs.Place.{specifier_path}
 use Rattle.modinfo_document.specs.Report.{HasPath, IsNamed, Reports}
 use Rattle.modinfo_document.specs.declared.document.Document.{Document}
 use Rattle.modinfo_document.specs.declared.error.DocumentError.{DocumentError}
-use Rattle.modinfo_document.specs.declared.error.DocumentError.TheVariants.{
-  Json,
-  Tree,
-  Specifier,
-  Source,
-  OutOfMemory,
-}
+use Rattle.modinfo_document.specs.declared.error.DocumentError.TheVariants.{Json, Tree, Specifier, Source}
+use Rattle.modinfo_document.specs.declared.error.DocumentError.TheVariants.{OutOfMemory}
 use Rattle.modinfo_document.specs.declared.report.FaultReport.{FaultReport}
 use Rattle.modinfo_document.specs.declared.report.Report.{Report}
 use Rattle.modinfo_document.specs.declared.report.Report.TheVariants.{Valid, Invalid}

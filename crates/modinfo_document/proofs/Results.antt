@@ -1,6 +1,5 @@
 -- Results that are related to what is to be read.
-use Rattle.std.proofs.Common.{◌≡◌, Option, Some, None, Result}
-use Rattle.std.proofs.Common.{IsErrAnd, IsSomeAnd, refl, sym, subst}
+use Rattle.std.proofs.Common.{◌≡◌, Option, Some, None, Result, IsErrAnd, IsSomeAnd, refl, sym, subst}
 use Rattle.std.proofs.lemmas.Result.{err_from_is_err_and}
 use Rattle.serde_json.specs.Data.{Data, object, Items, Members}
 use Rattle.serde_json.specs.Find.{as_array, as_object}

@@ -12,16 +12,8 @@ use Rattle.deno_graph_source.specs.declared.tree.node.Kind.{Kind}
 use Rattle.modinfo_document.proofs.NodeKinds.{body_passes}
 use Rattle.modinfo_document.specs.NodeKinds.{KindAt, kinds_of_body}
 use Rattle.modinfo_document.specs.Report.{Adds, AreSame, HasNone, Keeps}
-use Rattle.modinfo_document.specs.Spelling.{
-  AreAbout,
-  AreSpelled,
-  HasOnlyValues,
-  IsDeserved,
-  IsLiteralSpelled,
-  IsOfValue,
-  WarnsOfEach,
-  kinds_of_code,
-}
+use Rattle.modinfo_document.specs.Spelling.{AreAbout, AreSpelled, HasOnlyValues, IsDeserved, IsLiteralSpelled}
+use Rattle.modinfo_document.specs.Spelling.{IsOfValue, WarnsOfEach, kinds_of_code}
 use Rattle.modinfo_document.specs.declared.document.Document.{Document}
 use Rattle.modinfo_document.specs.declared.report.warning.Warning.{Warning}
 use Rattle.modinfo_document.specs.declared.report.warning.Warnings.{Warnings}

@@ -18,13 +18,8 @@ use Rattle.modinfo_document.specs.Place.{PointsToFault, PointsToOther, range_at,
 use Rattle.modinfo_document.specs.Report.{HasPath, IsNamed, MatchReport, Reports}
 use Rattle.modinfo_document.specs.declared.document.Document.{Document}
 use Rattle.modinfo_document.specs.declared.error.DocumentError.{DocumentError}
-use Rattle.modinfo_document.specs.declared.error.DocumentError.TheVariants.{
-  Json,
-  Tree,
-  Specifier,
-  Source,
-  OutOfMemory,
-}
+use Rattle.modinfo_document.specs.declared.error.DocumentError.TheVariants.{Json, Tree, Specifier, Source}
+use Rattle.modinfo_document.specs.declared.error.DocumentError.TheVariants.{OutOfMemory}
 use Rattle.modinfo_document.specs.declared.report.FaultReport.{FaultReport}
 use Rattle.modinfo_document.specs.declared.report.Report.{Report}
 use Rattle.modinfo_document.specs.declared.report.Report.TheVariants.{Valid, Invalid}

@@ -1,20 +1,6 @@
 -- Reading comments, and at which position each is filed.
-use Rattle.std.specs.Prelude.{
-  ◌≡◌,
-  ℕ,
-  ◌==◌,
-  List,
-  [],
-  ◌∷◌,
-  ◌++◌,
-  codes,
-  IsPermutation,
-  Option,
-  Some,
-  None,
-  unwrap_or,
-  if◌then◌else◌,
-}
+use Rattle.std.specs.Prelude.{◌≡◌, ℕ, ◌==◌, List, [], ◌∷◌, ◌++◌, codes, IsPermutation, Option, Some, None}
+use Rattle.std.specs.Prelude.{unwrap_or, if◌then◌else◌}
 use Rattle.std.specs.List.{flat_map}
 use Rattle.serde_json.specs.Data.{Data, Members}
 use Rattle.serde_json.specs.Find.{as_object, as_str}
@@ -24,16 +10,11 @@ use Rattle.deno_graph_source.specs.Comments.{Ascends, Filing, FiledComments}
 use Rattle.deno_graph_source.specs.declared.tree.node.Program.{Program}
 use Rattle.deno_graph_source.specs.declared.tree.comments.CommentSide.{CommentSide}
 use Rattle.deno_graph_source.specs.declared.tree.comments.CommentSide.TheVariants.{Leading, Trailing}
-use Rattle.deno_graph_source.specs.declared.tree.comments.CommentKind.{CommentKind}
-use Rattle.deno_graph_source.specs.declared.tree.comments.CommentKind.TheVariants.{Line, Block}
 use Rattle.deno_graph_source.specs.declared.tree.comments.DependencyComment.{DependencyComment}
 use Rattle.modinfo_document.specs.Literal.{reads_source_range}
 use Rattle.modinfo_document.specs.declared.comments.FiledEntry.{FiledEntry}
-use Rattle.modinfo_document.specs.Kind.{reads_named}
-
--- The kinds of a comment, by name.
-abbrev pub comment_kinds : List (List ℕ × CommentKind)
-comment_kinds = (codes "line", Line) ∷ (codes "block", Block) ∷ []
+use Rattle.modinfo_document.specs.Kind.{comment_kinds}
+use Rattle.modinfo_document.specs.Named.{reads_named}
 
 -- A comment: `{"kind":"line","range":[START,END],"text":TEXT}`, or with the kind `block`.
 unfoldable pub reads_comment : Data → Option DependencyComment

@@ -13,18 +13,14 @@ use Rattle.deno_graph_source.specs.ParsedSource.{ParsedModule}
 use Rattle.deno_graph_source.specs.Source.{HasFault, IsValid}
 use Rattle.url.specs.Parser.{parse_url}
 use Rattle.url.specs.declared.error.ParseError.{ParseError}
-use Rattle.modinfo_document.specs.Kind.{media_types, reads_named}
+use Rattle.modinfo_document.specs.Kind.{media_types}
+use Rattle.modinfo_document.specs.Named.{reads_named}
 use Rattle.modinfo_document.specs.Comments.{Sides, reads_sides, AreThoseOf}
 use Rattle.modinfo_document.specs.Node.{reads_program}
 use Rattle.modinfo_document.specs.declared.document.Document.{Document}
 use Rattle.modinfo_document.specs.declared.error.DocumentError.{DocumentError}
-use Rattle.modinfo_document.specs.declared.error.DocumentError.TheVariants.{
-  Json,
-  Tree,
-  Specifier,
-  Source,
-  OutOfMemory,
-}
+use Rattle.modinfo_document.specs.declared.error.DocumentError.TheVariants.{Json, Tree, Specifier, Source}
+use Rattle.modinfo_document.specs.declared.error.DocumentError.TheVariants.{OutOfMemory}
 
 -- The contents of a document.
 pub record Contents : Type 0 where

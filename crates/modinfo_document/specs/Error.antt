@@ -4,23 +4,16 @@ use Rattle.std.specs.Prelude.{ℕ, List, codes}
 use Rattle.deno_graph_json.specs.declared.error.ReadError.{ReadError}
 use Rattle.deno_graph_json.specs.declared.error.ReadError.TheVariants as read
 use Rattle.deno_graph_json.specs.declared.flat.error.TapeError.{TapeError}
-use Rattle.deno_graph_json.specs.declared.flat.error.TapeError.TheVariants.{
-  Json as NoJson,
-  OutOfMemory as NoMemory,
-}
+use Rattle.deno_graph_json.specs.declared.flat.error.TapeError.TheVariants.{Json as NoJson}
+use Rattle.deno_graph_json.specs.declared.flat.error.TapeError.TheVariants.{OutOfMemory as NoMemory}
 use Rattle.url.specs.declared.error.ParseError.{ParseError}
 use Rattle.url.specs.declared.error.ParseError.TheVariants as url
 use Rattle.deno_graph_source.specs.FaultName.{fault_name}
 use Rattle.deno_graph_source.specs.declared.tree.fault.SourceFault.{SourceFault}
 use Rattle.deno_graph_source.specs.declared.tree.fault.SourceFault.TheVariants as source
 use Rattle.modinfo_document.specs.declared.error.DocumentError.{DocumentError}
-use Rattle.modinfo_document.specs.declared.error.DocumentError.TheVariants.{
-  Json,
-  Tree,
-  Specifier,
-  Source,
-  OutOfMemory,
-}
+use Rattle.modinfo_document.specs.declared.error.DocumentError.TheVariants.{Json, Tree, Specifier, Source}
+use Rattle.modinfo_document.specs.declared.error.DocumentError.TheVariants.{OutOfMemory}
 
 -- The text isn't JSON, or an allocation failed.
 abbrev pub of_tape : TapeError → DocumentError

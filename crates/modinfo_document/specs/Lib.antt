@@ -4,7 +4,9 @@ pub mod Document
 pub mod Error
 pub mod ExpectedJson
 pub mod Kind
+pub mod KindParts
 pub mod Literal
+pub mod Named
 pub mod Names
 pub mod Node
 pub mod NodeKinds

@@ -2,21 +2,8 @@
 use Rattle.std.specs.Prelude.{List, [], ◌∷◌, false, codes, Option, Some, None}
 use Rattle.std.specs.Ordering.{nat_cmp, match_ordering}
 use Rattle.std.specs.Cmp.Lexicographic.{slice_cmp}
-use Rattle.serde_json.specs.Data.{
-  Data,
-  null,
-  boolean,
-  number,
-  string,
-  array,
-  object,
-  Items,
-  no_items,
-  item,
-  Members,
-  no_members,
-  member,
-}
+use Rattle.serde_json.specs.Data.{Data, null, boolean, number, string, array, object, Items, no_items, item}
+use Rattle.serde_json.specs.Data.{Members, no_members, member}
 use Rattle.serde_json.specs.Find.{as_bool, as_object}
 use Rattle.deno_graph_json.specs.Read.Partial.{◌>>=◌, member_at, member_or, reads_array}
 use Rattle.deno_graph_source.specs.declared.tree.node.Node.{Node, roll-Node}

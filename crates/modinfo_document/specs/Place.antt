@@ -1,21 +1,7 @@
 -- The places of the faults of a source: their ranges, and their paths in the JSON of a module document. The
 -- first step of a path is the innermost.
-use Rattle.std.specs.Prelude.{
-  ◌≡◌,
-  ℕ,
-  List,
-  [],
-  ◌∷◌,
-  codes,
-  Option,
-  Some,
-  None,
-  IsSome,
-  IsSomeAnd,
-  option_map,
-  slice_get,
-  String,
-}
+use Rattle.std.specs.Prelude.{◌≡◌, ℕ, List, [], ◌∷◌, codes, Option, Some, None, IsSome, IsSomeAnd, option_map}
+use Rattle.std.specs.Prelude.{slice_get, String}
 use Rattle.std.specs.String.{string_bytes}
 use Rattle.std.specs.declared.alloc.Global.{Global}
 use Rattle.serde_json.specs.Data.{Data}
@@ -33,31 +19,18 @@ use Rattle.deno_graph_source.specs.declared.tree.comments.CommentSide.{CommentSi
 use Rattle.deno_graph_source.specs.declared.tree.fault.SourceFault.{SourceFault}
 use Rattle.deno_graph_source.specs.declared.tree.fault.SourceFault.TheVariants.{CommentText}
 use Rattle.deno_graph_source.specs.declared.tree.fault_place.FaultPlace.{FaultPlace}
-use Rattle.deno_graph_source.specs.declared.tree.fault_place.FaultPlace.TheVariants.{
-  Program as AtProgram,
-  Node as AtNode,
-  Comment as AtComment,
-  Comments as AtComments,
-}
+use Rattle.deno_graph_source.specs.declared.tree.fault_place.FaultPlace.TheVariants.{Program as AtProgram}
+use Rattle.deno_graph_source.specs.declared.tree.fault_place.FaultPlace.TheVariants.{Node as AtNode}
+use Rattle.deno_graph_source.specs.declared.tree.fault_place.FaultPlace.TheVariants.{Comment as AtComment}
+use Rattle.deno_graph_source.specs.declared.tree.fault_place.FaultPlace.TheVariants.{Comments as AtComments}
 use Rattle.deno_graph_source.specs.declared.tree.fault_place.NodePart.{NodePart}
-use Rattle.deno_graph_source.specs.declared.tree.fault_place.NodePart.TheVariants.{
-  Range,
-  Literal,
-  Argument,
-  Children,
-}
+use Rattle.deno_graph_source.specs.declared.tree.fault_place.NodePart.TheVariants.{Range, Literal, Argument}
+use Rattle.deno_graph_source.specs.declared.tree.fault_place.NodePart.TheVariants.{Children}
 use Rattle.deno_graph_source.specs.declared.tree.node.Kind.{Kind}
-use Rattle.deno_graph_source.specs.declared.tree.node.Kind.TheVariants.{
-  ImportDecl,
-  NamedExport,
-  ExportAll,
-  ImportEquals,
-  ImportType,
-  ModuleDecl,
-}
 use Rattle.deno_graph_source.specs.declared.tree.node.Node.{Node}
 use Rattle.deno_graph_source.specs.declared.tree.node.Program.{Program}
 use Rattle.modinfo_document.specs.Comments.{reads_comment, side_name}
+use Rattle.modinfo_document.specs.Kind.{literal_member}
 use Rattle.modinfo_document.specs.Node.{reads_node}
 use Rattle.modinfo_document.specs.Pointer.{pointer_text}
 
@@ -100,16 +73,6 @@ node_path (index ∷ indices) = path_below (Item index ∷ Member (codes "body")
 -- The path leads to the value that the node was read from.
 abbrev pub LeadsToNode : Data → List Step → Node → Type 0
 LeadsToNode value path node = (data_at path value >>= reads_node) ≡ Some node
-
--- The name of the member with the string literal, for the kinds that may have one.
-abbrev pub literal_member : Kind → List ℕ
-literal_member (ImportDecl type_only phase src has_specifiers has_with) = codes "src"
-literal_member (NamedExport type_only src has_with) = codes "src"
-literal_member (ExportAll type_only src has_with) = codes "src"
-literal_member (ImportEquals type_only is_export external) = codes "external"
-literal_member (ImportType arg has_with) = codes "arg"
-literal_member (ModuleDecl name) = codes "name"
-literal_member _ = []
 
 -- The path of a part of the node at a path: its range, the range of its literal or of an argument, or, for
 -- its children, the node.

@@ -1,34 +1,9 @@
 -- The text of a report: JSON without white space, with the members in this order.
-use Rattle.std.specs.Prelude.{
-  ℕ,
-  ◌==◌,
-  List,
-  [],
-  ◌∷◌,
-  map,
-  codes,
-  decimal,
-  true,
-  Option,
-  Some,
-  None,
-  option_map,
-}
+use Rattle.std.specs.Prelude.{ℕ, ◌==◌, List, [], ◌∷◌, map, codes, decimal, true, Option, Some, None}
+use Rattle.std.specs.Prelude.{option_map}
 use Rattle.std.specs.String.{string_bytes}
-use Rattle.json.specs.Json.{
-  Json,
-  Items,
-  Members,
-  array,
-  boolean,
-  item,
-  member,
-  no_items,
-  no_members,
-  number,
-  object,
-  string,
-}
+use Rattle.json.specs.Json.{Json, Items, Members, array, boolean, item, member, no_items, no_members, number}
+use Rattle.json.specs.Json.{object, string}
 use Rattle.json.specs.Print.{print}
 use Rattle.json.specs.Tree.{json_tokens}
 use Rattle.deno_graph_base.specs.declared.text.position.SourceRange.{SourceRange}
@@ -38,20 +13,15 @@ use Rattle.modinfo_document.specs.declared.report.Report.{Report}
 use Rattle.modinfo_document.specs.declared.report.Report.TheVariants.{Valid, Invalid}
 use Rattle.modinfo_document.specs.declared.report.text_place.TextPlace.{TextPlace}
 use Rattle.modinfo_document.specs.declared.report.warning.ValueWarning.{ValueWarning}
-use Rattle.modinfo_document.specs.declared.report.warning.ValueWarning.TheVariants.{
-  PositionBeyond,
-  PositionInside,
-  RangeEarlier,
-  RangeOutside,
-  UnreadMember,
-}
+use Rattle.modinfo_document.specs.declared.report.warning.ValueWarning.TheVariants.{PositionBeyond}
+use Rattle.modinfo_document.specs.declared.report.warning.ValueWarning.TheVariants.{PositionInside}
+use Rattle.modinfo_document.specs.declared.report.warning.ValueWarning.TheVariants.{RangeEarlier}
+use Rattle.modinfo_document.specs.declared.report.warning.ValueWarning.TheVariants.{RangeOutside}
+use Rattle.modinfo_document.specs.declared.report.warning.ValueWarning.TheVariants.{UnreadMember}
 use Rattle.modinfo_document.specs.declared.report.warning.Warning.{Warning}
 use Rattle.modinfo_document.specs.declared.report.warning.WarningKind.{WarningKind}
-use Rattle.modinfo_document.specs.declared.report.warning.WarningKind.TheVariants.{
-  UnknownRoot,
-  UnspelledLiteral,
-  Value,
-}
+use Rattle.modinfo_document.specs.declared.report.warning.WarningKind.TheVariants.{UnknownRoot}
+use Rattle.modinfo_document.specs.declared.report.warning.WarningKind.TheVariants.{UnspelledLiteral, Value}
 use Rattle.modinfo_document.specs.declared.report.warning.Warnings.{Warnings}
 
 -- A name, and its value or none if the object lacks the member.

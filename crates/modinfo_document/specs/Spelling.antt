@@ -1,6 +1,5 @@
 -- Whether the source of a document spells the values of the document's string literals.
-use Rattle.std.specs.Prelude.{◌≡◌, ℕ, ◌⊎◌, List, [], ◌∷◌, ◌++◌, Bool, false, true, All, IsTrue}
-use Rattle.std.specs.Prelude.{if◌then◌else◌}
+use Rattle.std.specs.Prelude.{◌≡◌, ℕ, ◌⊎◌, List, [], ◌∷◌, ◌++◌, Bool, false, true, All, IsTrue, if◌then◌else◌}
 use Rattle.std.specs.Option.{option_to_list}
 use Rattle.std.specs.Rc.{rc_str_bytes}
 use Rattle.std.specs.String.{string_bytes}
@@ -16,7 +15,8 @@ use Rattle.deno_graph_source.specs.declared.tree.node.StrLit.{StrLit}
 use Rattle.modinfo_literals.specs.Literal.{Spells}
 use Rattle.modinfo_document.specs.Document.{IsDocumentIn, reads_document}
 use Rattle.modinfo_document.specs.NodeKinds.{KindAt, kinds_of_body}
-use Rattle.modinfo_document.specs.Place.{literal_member, node_path}
+use Rattle.modinfo_document.specs.Kind.{literal_member}
+use Rattle.modinfo_document.specs.Place.{node_path}
 use Rattle.modinfo_document.specs.Pointer.{pointer_text}
 use Rattle.modinfo_document.specs.Report.{HasNone, Keeps}
 use Rattle.modinfo_document.specs.declared.document.Document.{Document}

@@ -1,19 +1,16 @@
 //! Reading comments.
 
-ghost use Rattle.std.specs.Prelude.{◌≡◌, [], ◌∷◌, IfErr, OnOk};
-ghost use Rattle.serde_json.specs.Data.{string};
+ghost use Rattle.std.specs.Prelude.{◌≡◌, [], ◌∷◌, OnOk};
 ghost use Rattle.deno_graph_json.specs.ObjectReader.{readable, value_of};
 ghost use Rattle.deno_graph_json.specs.Read.Result.{IsReadResult};
-ghost use Rattle.modinfo_document.specs.Comments.{AreThoseOf, comment_kinds, side_name};
+ghost use Rattle.modinfo_document.specs.Comments.{AreThoseOf, side_name};
 ghost use Rattle.modinfo_document.specs.Comments.{reads_comment, reads_entry, reads_side, reads_sides};
-ghost use Rattle.modinfo_document.specs.Kind.{ExpectsNameIn, named, reads_named};
 ghost use Rattle.modinfo_document.specs.Result.{IsReadResultBy};
 ghost use Rattle.modinfo_document.specs.internal.Comments.{AddsOn, AreAppendedOn};
 
 use crate::document::Document;
-use deno_graph_json::read::read_str;
-use deno_graph_json::{Element, Expected, FromJson, ObjectReader, ReadError};
-use deno_graph_source::tree::{CommentKind, CommentSide, Comments, DependencyComment};
+use deno_graph_json::{Element, FromJson, ObjectReader, ReadError};
+use deno_graph_source::tree::{CommentSide, Comments, DependencyComment};
 use deno_graph_source::values::Items;
 use std::alloc::{AllocError, Global};
 
@@ -130,31 +127,5 @@ impl FromJson<Document> for DependencyComment {
         let range = object.read("range")?;
         let text = object.read("text")?;
         Ok(DependencyComment { kind, range, text })
-    }
-}
-
-/// Reads the kind of a comment by its name.
-impl FromJson<Document> for CommentKind {
-    ghost reads = { reads_named comment_kinds };
-
-    #[tactic(auto, using(deno_graph_json::proofs::Reading::reading), unfolding(crate::specs::Kind::reads_named))]
-    fn from_json(alloc: Global, value: Element<'_>) -> Result<CommentKind, ReadError> {
-        let name = read_str(alloc, value)?;
-        comment_kind_named(alloc, name)
-    }
-}
-
-const COMMENT_KINDS: &[&str] = &["line", "block"];
-
-/// Returns the kind of this name.
-#[tactic(auto, unfolding(crate::specs::Kind::named))]
-fn comment_kind_named(alloc: Global, name: &str) -> Result<CommentKind, ReadError>
-    ensures read { IsReadResult (string name.now) (named comment_kinds name.now) result }
-    ensures expected { IfErr result (ExpectsNameIn comment_kinds) }
-{
-    match name {
-        "line" => Ok(CommentKind::Line),
-        "block" => Ok(CommentKind::Block),
-        _ => Err(ReadError::expected(alloc, Expected::Names(COMMENT_KINDS))),
     }
 }

@@ -2,21 +2,19 @@
 //! documents. docs/FORMATS.md describes both.
 #![tactic(auto)]
 
-mod call;
+mod argument;
 mod check;
 mod comments;
-mod declaration;
 pub mod document;
 pub mod error;
-mod expression;
+mod key;
 mod kind;
 pub mod laws;
 mod literal;
 mod lookup;
-mod media_type;
+mod named;
 pub mod names;
 mod node;
-mod property;
 pub mod report;
 
 pub use check::{check_document, fault_place};

@@ -45,7 +45,7 @@ pub fn member_names(object: ObjectKind<'_>) -> &'static [&'static str]
     }
 }
 
-#[tactic(auto, unfolding(crate::specs::Kind::named))]
+#[tactic(auto, unfolding(crate::specs::Named::named))]
 fn member_names_of_node(kind: &str) -> &'static [&'static str]
     ensures { map (λ name. name.now) result.now ≡ names_of_node kind.now }
 {

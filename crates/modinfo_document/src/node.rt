@@ -61,7 +61,7 @@ fn read_node(alloc: Global, value: Element<'_>) -> Result<Node, ReadError>
     })
 }
 
-/// Returns what was read, together with `value`.
+/// Returns a pair of the value that was read and `value`, or the error of the read.
 fn beside<A, B: Drop, E>(read: Result<A, E>, value: B) -> Result<(A, B), E>
     ensures { MatchResult result (λ both. (read ≡ Ok both.0) × (both.1 ≡ value)) (λ error. read ≡ Err error) }
 {

@@ -120,7 +120,7 @@ pub enum Report {
 }
 
 impl Report {
-    /// Whether the check passed: the document is valid and, if the check is strict, has no warnings.
+    /// Returns whether the check passed: the document is valid and, if the check is strict, has no warnings.
     pub fn passes(&self, is_strict: bool) -> bool
         ensures { IsTrue result ↔ LetsPass is_strict self.now }
     {

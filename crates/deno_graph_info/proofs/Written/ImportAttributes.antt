@@ -2,34 +2,20 @@
 use Rattle.std.proofs.Common.{◌≡◌, [], ◌∷◌, false, codes, Some, refl}
 use Rattle.serde_json.specs.Written.{has_float}
 use Rattle.deno_graph_info.specs.declared.analysis.import_attributes.ImportAttribute.{ImportAttribute}
-use Rattle.deno_graph_info.specs.declared.analysis.import_attributes.ImportAttribute.TheVariants.{
-  Unknown as UnknownValue,
-  Known as KnownValue,
-}
+use Rattle.deno_graph_info.specs.declared.analysis.import_attributes.ImportAttribute.TheVariants.{Unknown as UnknownValue}
+use Rattle.deno_graph_info.specs.declared.analysis.import_attributes.ImportAttribute.TheVariants.{Known as KnownValue}
 use Rattle.deno_graph_info.specs.declared.analysis.import_attributes.ImportAttributes.{ImportAttributes}
-use Rattle.deno_graph_info.specs.declared.analysis.import_attributes.ImportAttributes.TheVariants.{
-  None as NoAttributes,
-  Unknown,
-  Known,
-}
+use Rattle.deno_graph_info.specs.declared.analysis.import_attributes.ImportAttributes.TheVariants.{None as NoAttributes}
+use Rattle.deno_graph_info.specs.declared.analysis.import_attributes.ImportAttributes.TheVariants.{Unknown}
+use Rattle.deno_graph_info.specs.declared.analysis.import_attributes.ImportAttributes.TheVariants.{Known}
 use Rattle.deno_graph_json.specs.Object.{unless, map_object_of}
 use Rattle.deno_graph_info.specs.ImportAttributes.{is_none}
-use Rattle.deno_graph_info.specs.Json.ImportAttributes.{
-  json_of_attribute,
-  json_of_attributes,
-  AreHeldAttributes,
-  reads_attribute,
-  reads_attributes,
-  attributes_named,
-  known_attributes,
-}
+use Rattle.deno_graph_info.specs.Json.ImportAttributes.{json_of_attribute, json_of_attributes}
+use Rattle.deno_graph_info.specs.Json.ImportAttributes.{AreHeldAttributes, reads_attribute, reads_attributes}
+use Rattle.deno_graph_info.specs.Json.ImportAttributes.{attributes_named, known_attributes}
 use Rattle.deno_graph_json.specs.Read.Partial.{read_or, member_at}
-use Rattle.deno_graph_json.proofs.NoFloats.{
-  option_has_float,
-  neither,
-  no_float-object_of,
-  no_float-map_object_of,
-}
+use Rattle.deno_graph_json.proofs.NoFloats.{option_has_float, neither, no_float-object_of}
+use Rattle.deno_graph_json.proofs.NoFloats.{no_float-map_object_of}
 use Rattle.deno_graph_json.proofs.ReadBack.{reads_map-map_object_of}
 use Rattle.deno_graph_json.proofs.Reading.{goes_on}
 

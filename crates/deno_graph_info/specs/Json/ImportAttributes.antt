@@ -4,16 +4,12 @@ use Rattle.serde_json.specs.Data.{Data, null, string, boolean, number, array, ob
 use Rattle.serde_json.specs.Events.{members_len}
 use Rattle.deno_graph_base.specs.TextMap.{IsAscending}
 use Rattle.deno_graph_info.specs.declared.analysis.import_attributes.ImportAttribute.{ImportAttribute}
-use Rattle.deno_graph_info.specs.declared.analysis.import_attributes.ImportAttribute.TheVariants.{
-  Unknown as UnknownValue,
-  Known as KnownValue,
-}
+use Rattle.deno_graph_info.specs.declared.analysis.import_attributes.ImportAttribute.TheVariants.{Unknown as UnknownValue}
+use Rattle.deno_graph_info.specs.declared.analysis.import_attributes.ImportAttribute.TheVariants.{Known as KnownValue}
 use Rattle.deno_graph_info.specs.declared.analysis.import_attributes.ImportAttributes.{ImportAttributes}
-use Rattle.deno_graph_info.specs.declared.analysis.import_attributes.ImportAttributes.TheVariants.{
-  None as NoAttributes,
-  Unknown,
-  Known,
-}
+use Rattle.deno_graph_info.specs.declared.analysis.import_attributes.ImportAttributes.TheVariants.{None as NoAttributes}
+use Rattle.deno_graph_info.specs.declared.analysis.import_attributes.ImportAttributes.TheVariants.{Unknown}
+use Rattle.deno_graph_info.specs.declared.analysis.import_attributes.ImportAttributes.TheVariants.{Known}
 use Rattle.deno_graph_json.specs.Object.{Entry, object_of, map_object_of}
 use Rattle.deno_graph_json.specs.Read.Partial.{◌>>=◌, member_at, reads_map}
 

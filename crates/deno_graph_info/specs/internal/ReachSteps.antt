@@ -1,21 +1,6 @@
 -- The steps of the search of `reach`. No contract of a public function names them.
-use Rattle.std.specs.Prelude.{
-  ◌≡◌,
-  ◌⊎◌,
-  ◌+◌,
-  ◌≤◌,
-  ℕ,
-  List,
-  [],
-  ◌∷◌,
-  map,
-  length,
-  Contains,
-  Option,
-  Some,
-  None,
-  IsSome,
-}
+use Rattle.std.specs.Prelude.{◌≡◌, ◌⊎◌, ◌+◌, ◌≤◌, ℕ, List, [], ◌∷◌, map, length, Contains, Option, Some, None}
+use Rattle.std.specs.Prelude.{IsSome}
 use Rattle.std.specs.Borrow.{Bor}
 use Rattle.deno_graph_base.specs.TextMap.{value_at}
 use Rattle.deno_graph_info.specs.declared.analysis.dependency.DependencyDescriptor.{DependencyDescriptor}

@@ -2,14 +2,8 @@
 use Rattle.std.specs.Prelude.{◌≡◌, List, [], ◌∷◌, ◌++◌}
 use Rattle.json.specs.Token.{Token, key}
 use Rattle.serde_json.specs.Data.{Data, Items, Members, no_members, member}
-use Rattle.serde_json.specs.Written.{
-  blank,
-  blank_items,
-  blank_members,
-  items_outline,
-  members_outline,
-  outline,
-}
+use Rattle.serde_json.specs.Written.{blank, blank_items, blank_members, items_outline, members_outline}
+use Rattle.serde_json.specs.Written.{outline}
 use Rattle.deno_graph_json.specs.Text.{Text, text_tokens, with_tokens}
 
 -- No number that is held as a whole number has a text that reads as a float.

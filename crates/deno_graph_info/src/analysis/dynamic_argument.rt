@@ -1,18 +1,11 @@
-ghost use Rattle.std.specs.Prelude.{◌≡◌, Some, codes, refl, true};
-ghost use Rattle.serde_json.specs.Data.{string};
-ghost use Rattle.serde_json.specs.Find.{get_member};
-ghost use Rattle.deno_graph_json.specs.Ascending.{has_ascending_keys};
+ghost use Rattle.std.specs.Prelude.{◌≡◌};
 ghost use Rattle.deno_graph_info.specs.DynamicDependency.{is_expr};
-ghost use Rattle.deno_graph_info.specs.Json.DynamicArgument.{json_of_argument, reads_argument, reads_part, part_entries, part_of_type};
-ghost use Rattle.deno_graph_json.specs.ObjectReader.{readable, value_of};
-ghost use Rattle.deno_graph_json.specs.Read.Result.{IsReadResult};
+ghost use Rattle.deno_graph_info.specs.Json.DynamicArgument.{json_of_argument, reads_argument};
 
 use crate::analysis::module_info::ModuleInfo;
 use deno_graph_base::values::{Items, Text, TryClone};
 use deno_graph_json::read::read_items;
-use deno_graph_json::{
-    Element, Expected, Form, FromJson, JsonWriter, ObjectReader, ReadError, ToJson, ToObject, View,
-};
+use deno_graph_json::{Element, Expected, Form, FromJson, JsonWriter, ReadError, ToJson, View};
 use std::alloc::{AllocError, Global};
 
 /// The first argument of a dynamic dependency, as far as it is known.
@@ -110,54 +103,5 @@ impl TryClone for DynamicTemplatePart {
             }),
             DynamicTemplatePart::Expr => Ok(DynamicTemplatePart::Expr),
         }
-    }
-}
-
-impl ToObject for DynamicTemplatePart {
-    ghost entries = { part_entries };
-
-    ghost use Rattle.deno_graph_info.specs.declared.analysis.dynamic_argument.DynamicTemplatePart.TheVariants.{String, Expr};
-
-    ghost ascends = { λ part _. elim part as (λ p. has_ascending_keys (part_entries p) ≡ true)
-        [ String v ↦ refl | Expr ↦ refl ] };
-
-    fn put_members(&self, out: &mut JsonWriter) -> Result<(), AllocError> {
-        match self {
-            DynamicTemplatePart::String { value } => {
-                out.put_str("type", "string")?;
-                out.put("value", value)
-            }
-            DynamicTemplatePart::Expr => out.put_str("type", "expr"),
-        }
-    }
-}
-
-impl FromJson<ModuleInfo> for DynamicTemplatePart {
-    ghost reads = { reads_part };
-
-    #[tactic(auto, using(deno_graph_json::proofs::Reading::reading), unfolding(crate::specs::Json::DynamicArgument::reads_part))]
-    fn from_json(alloc: Global, value: Element<'_>) -> Result<DynamicTemplatePart, ReadError> {
-        let object = ObjectReader::new(alloc, value)?;
-        let part_type = object.read_str("type")?;
-        read_part(part_type, &object)
-    }
-}
-
-/// Reads a part of the type `part_type`.
-#[tactic(auto, unfolding(crate::specs::Json::DynamicArgument::part_of_type))]
-fn read_part(
-    part_type: &str,
-    object: &ObjectReader<ModuleInfo>,
-) -> Result<DynamicTemplatePart, ReadError>
-    ensures { get_member (codes "type") (readable object.now) ≡ Some (string part_type.now)
-        → IsReadResult (value_of object.now) (part_of_type part_type.now (readable object.now)) result }
-{
-    match part_type {
-        "string" => {
-            let value = object.read("value")?;
-            Ok(DynamicTemplatePart::String { value })
-        }
-        "expr" => Ok(DynamicTemplatePart::Expr),
-        _ => Err(object.member_error("type", Expected::Either("string", "expr"))),
     }
 }

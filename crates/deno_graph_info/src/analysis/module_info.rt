@@ -1,19 +1,16 @@
-ghost use Rattle.std.specs.Prelude.{◌≡◌, [], false, Some, None, IfOk, IfErr, refl, string_bytes};
+ghost use Rattle.std.specs.Prelude.{◌≡◌, [], false, Some, None, IfOk, IfErr, string_bytes};
 ghost use Rattle.serde_json.specs.View.{view};
 ghost use Rattle.serde_json.specs.Written as Written;
 ghost use Rattle.serde_json.specs.Written.{compact_text};
 ghost use Rattle.deno_graph_info.specs.InfoFault.{IsInfoFault};
-ghost use Rattle.deno_graph_info.specs.Json.ModuleInfo.{info_entries, json_of_info, reads_info, IsHeldInfo};
+ghost use Rattle.deno_graph_info.specs.Json.ModuleInfo.{json_of_info, reads_info, IsHeldInfo};
 
 use crate::analysis::fault::InfoFault;
 use crate::analysis::js_doc_import_info::JsDocImportInfo;
 use crate::analysis::type_script_reference::TypeScriptReference;
 use crate::analysis::{DependencyDescriptor, SpecifierWithRange};
 use deno_graph_base::values::{Items, TryClone};
-use deno_graph_json::{
-    Element, FromJson, JsonWriter, ObjectReader, ReadError, Tape, ToObject, has_float, to_text,
-    to_value,
-};
+use deno_graph_json::{FromJson, Tape, has_float, to_text, to_value};
 use serde_json::Value;
 use std::alloc::{AllocError, Global};
 
@@ -118,52 +115,6 @@ impl TryClone for ModuleInfo {
             jsx_import_source_types: self.jsx_import_source_types.try_clone(alloc)?,
             jsdoc_imports: self.jsdoc_imports.try_clone(alloc)?,
             source_map_url: self.source_map_url.try_clone(alloc)?,
-        })
-    }
-}
-
-impl ToObject for ModuleInfo {
-    ghost entries = { info_entries };
-
-    ghost is_held = { IsHeldInfo };
-
-    ghost ascends = { λ _ _. refl };
-
-    fn put_members(&self, out: &mut JsonWriter) -> Result<(), AllocError> {
-        out.put_list("dependencies", &self.dependencies)?;
-        out.put_list("jsdocImports", &self.jsdoc_imports)?;
-        out.put_some("jsxImportSource", &self.jsx_import_source)?;
-        out.put_some("jsxImportSourceTypes", &self.jsx_import_source_types)?;
-        out.put_flag("script", self.is_script)?;
-        out.put_some("selfTypesSpecifier", &self.self_types_specifier)?;
-        out.put_some("sourceMapUrl", &self.source_map_url)?;
-        out.put_list("tsReferences", &self.ts_references)
-    }
-}
-
-impl FromJson<ModuleInfo> for ModuleInfo {
-    ghost reads = { reads_info };
-
-    #[tactic(auto, using(deno_graph_json::proofs::Reading::reading), unfolding(crate::specs::Json::ModuleInfo::reads_info))]
-    fn from_json(alloc: Global, value: Element<'_>) -> Result<ModuleInfo, ReadError> {
-        let object = ObjectReader::<ModuleInfo>::new(alloc, value)?;
-        let is_script = object.read_or("script", false)?;
-        let dependencies = object.read_list("dependencies")?;
-        let ts_references = object.read_list("tsReferences")?;
-        let self_types_specifier = object.read_or("selfTypesSpecifier", None)?;
-        let jsx_import_source = object.read_or("jsxImportSource", None)?;
-        let jsx_import_source_types = object.read_or("jsxImportSourceTypes", None)?;
-        let jsdoc_imports = object.read_list("jsdocImports")?;
-        let source_map_url = object.read_or("sourceMapUrl", None)?;
-        Ok(ModuleInfo {
-            is_script,
-            dependencies,
-            ts_references,
-            self_types_specifier,
-            jsx_import_source,
-            jsx_import_source_types,
-            jsdoc_imports,
-            source_map_url,
         })
     }
 }

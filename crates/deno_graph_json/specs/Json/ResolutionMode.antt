@@ -2,13 +2,9 @@
 use Rattle.std.specs.Prelude.{ℕ, List, codes, Option}
 use Rattle.serde_json.specs.Data.{Data, string}
 use Rattle.serde_json.specs.Find.{as_str}
-use Rattle.deno_graph_base.specs.declared.values.resolution_mode.TypeScriptTypesResolutionMode.{
-  TypeScriptTypesResolutionMode,
-}
-use Rattle.deno_graph_base.specs.declared.values.resolution_mode.TypeScriptTypesResolutionMode.TheVariants.{
-  Require,
-  Import,
-}
+use Rattle.deno_graph_base.specs.declared.values.resolution_mode.TypeScriptTypesResolutionMode.{TypeScriptTypesResolutionMode}
+use Rattle.deno_graph_base.specs.declared.values.resolution_mode.TypeScriptTypesResolutionMode.TheVariants.{Require}
+use Rattle.deno_graph_base.specs.declared.values.resolution_mode.TypeScriptTypesResolutionMode.TheVariants.{Import}
 use Rattle.deno_graph_base.specs.ResolutionMode.{mode_named}
 use Rattle.deno_graph_json.specs.Read.Partial.{◌>>=◌}
 

@@ -1,35 +1,13 @@
 -- What is expected of a value, and which values aren't as expected.
-use Rattle.std.specs.Prelude.{
-  ◌≡◌,
-  ℕ,
-  ◌+◌,
-  ◌≤◌,
-  List,
-  [],
-  ◌∷◌,
-  ◌++◌,
-  ◌==◌,
-  codes,
-  Bool,
-  false,
-  true,
-  bytes_eq,
-  Option,
-  option_map,
-  unwrap_or,
-  Some,
-  None,
-  IsSomeAnd,
-  is_some,
-  if◌then◌else◌,
-}
+use Rattle.std.specs.Prelude.{◌≡◌, ℕ, ◌+◌, ◌≤◌, List, [], ◌∷◌, ◌++◌, ◌==◌, codes, Bool, false, true, bytes_eq}
+use Rattle.std.specs.Prelude.{Option, option_map, unwrap_or, Some, None, IsSomeAnd, is_some, if◌then◌else◌}
 use Rattle.std.specs.Borrow.{Bor}
 use Rattle.std.specs.Fmt.{decimal}
 use Rattle.std.specs.List.{AllByRecursion}
 use Rattle.serde_json.specs.Data.{Data, Members}
 use Rattle.serde_json.specs.Events.{members_len}
-use Rattle.serde_json.specs.Find.{as_array, as_bool, as_null, as_number, as_object, as_str}
-use Rattle.serde_json.specs.Find.{get, get_member, is_float}
+use Rattle.serde_json.specs.Find.{as_array, as_bool, as_null, as_number, as_object, as_str, get, get_member}
+use Rattle.serde_json.specs.Find.{is_float}
 use Rattle.deno_graph_json.specs.Read.Partial.{as_usize, pair_in, reads_pair}
 use Rattle.deno_graph_json.specs.declared.expected.Expected.{Expected}
 use Rattle.deno_graph_json.specs.declared.expected.Expected.TheVariants as expected

@@ -1,20 +1,6 @@
 -- Readers: partial functions from JSON data, with no value if the data can't be read.
-use Rattle.std.specs.Prelude.{
-  ℕ,
-  ◌^◌,
-  List,
-  [],
-  ◌∷◌,
-  Option,
-  Some,
-  None,
-  option_and_then,
-  nat_lt,
-  Bool,
-  true,
-  false,
-  if◌then◌else◌,
-}
+use Rattle.std.specs.Prelude.{ℕ, ◌^◌, List, [], ◌∷◌, Option, Some, None, option_and_then, nat_lt, Bool, true}
+use Rattle.std.specs.Prelude.{false, if◌then◌else◌}
 use Rattle.serde_json.specs.Data.{Data, null, Items, no_items, item, Members, no_members, member}
 use Rattle.serde_json.specs.Find.{get_member, as_number, as_u64, as_array, as_object}
 

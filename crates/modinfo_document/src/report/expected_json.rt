@@ -41,8 +41,8 @@ pub fn expected_json(alloc: Global, text: &str, start: usize) -> Result<&'static
     }
 }
 
-/// What is expected of a value, in place of the token that starts with this byte. `None` for other tokens
-/// than numbers, words and byte order marks.
+/// Returns what is expected in place of a token that starts with this byte, where a value may be. `None` for
+/// other bytes, such as a quote.
 fn words_for_value(byte: u8) -> Option<&'static str>
     ensures { (front : List ℕ) → Continues front (codes "null")
         → IfSome result (λ words. IsExpected front words.now) }
@@ -51,11 +51,13 @@ fn words_for_value(byte: u8) -> Option<&'static str>
         b'-' | b'0'..=b'9' => Some(NUMBER),
         b'a'..=b'z' | b'A'..=b'Z' | b'_' | b'\'' => Some(WORD),
         0xef => Some(NO_MARK),
+        b'{' | b'}' | b'[' | b']' | b',' | b':' => Some(TEXT),
         _ => None,
     }
 }
 
-/// What is expected after this beginning of a text: `value` where a value may follow, or a name.
+/// Returns what is expected after the beginning `front` of a text: `value` if a value may follow, a name if
+/// a name may, else one JSON value.
 fn value_or_name(
     alloc: Global,
     front: &str,
@@ -73,7 +75,7 @@ fn value_or_name(
     }
 }
 
-/// Whether a text is JSON. The only error is a failed allocation.
+/// Returns whether a text is JSON. The only error is a failed allocation.
 fn is_json(alloc: Global, text: &str) -> Result<bool, AllocError>
     ensures { IfOk result (λ is. IsTrue is → IsJson text.now) }
 {
@@ -85,8 +87,8 @@ fn is_json(alloc: Global, text: &str) -> Result<bool, AllocError>
     }
 }
 
-/// Whether the beginning of a text, with `next` and the brackets that are still missing after it, is JSON.
-/// The only error is a failed allocation.
+/// Returns whether the beginning of a text, with `next` and the brackets that are still missing after it, is
+/// JSON. The only error is a failed allocation.
 fn is_before(alloc: Global, front: &str, next: &str) -> Result<bool, AllocError>
     ensures { IfOk result (λ is. IsTrue is → Continues front.now next.now) }
 {

@@ -8,7 +8,8 @@ ghost use Rattle.deno_graph_json.specs.declared.error.Step.{Step};
 ghost use Rattle.deno_graph_source.specs.FaultPlace.{comment_at};
 ghost use Rattle.deno_graph_source.specs.Node.{kind_of};
 ghost use Rattle.deno_graph_source.specs.NodePath.{node_at, node_below};
-ghost use Rattle.modinfo_document.specs.Place.{literal_member, node_path, part_path, part_range};
+ghost use Rattle.modinfo_document.specs.Kind.{literal_member};
+ghost use Rattle.modinfo_document.specs.Place.{node_path, part_path, part_range};
 ghost use Rattle.modinfo_document.specs.Place.{program_path, range_at, range_in};
 ghost use Rattle.modinfo_document.specs.Pointer.{pointer_text};
 

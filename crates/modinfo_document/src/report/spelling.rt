@@ -40,7 +40,7 @@ pub fn warn_of_literals(
     Ok(())
 }
 
-/// Whether sources of a media type have string literals.
+/// Returns whether sources of a media type have string literals.
 fn is_code(media_type: MediaType) -> bool
     ensures { result ≡ is_code media_type }
 {
@@ -107,8 +107,8 @@ fn literal_pointer(alloc: Global, node: &Node, path: &[usize]) -> Result<String,
     Ok(pointer)
 }
 
-/// Whether the source spells the value of a literal at the literal's range. The only error is a failed
-/// allocation.
+/// Returns whether the source spells the value of a literal at the literal's range. The only error is a
+/// failed allocation.
 fn is_spelled(alloc: Global, source: &str, literal: &StrLit) -> Result<bool, AllocError>
     ensures { IfOk result (λ is. IsTrue is ↔ IsSpelledAt source.now literal.now) }
 {

@@ -9,7 +9,7 @@ use std::alloc::{AllocError, Global};
 /// The number of warnings that are kept for a document.
 pub(super) const MAX_KEPT: usize = 100;
 
-/// What a value of a module document is that its author may not have meant.
+/// A probable mistake in a module document.
 #[derive(Debug, Clone, Copy, PartialEq, Eq)]
 pub enum ValueWarning {
     /// A member that nothing reads.
@@ -18,9 +18,9 @@ pub enum ValueWarning {
     PositionBeyond,
     /// A position inside a character, where no comment is looked for.
     PositionInside,
-    /// A node whose range isn't inside that of the node above.
+    /// A node whose range isn't inside the range of its parent.
     RangeOutside,
-    /// A node whose range starts before that of the child in front of it.
+    /// A node whose range starts before the range of its previous sibling.
     RangeEarlier,
 }
 
@@ -45,7 +45,7 @@ impl ValueWarning {
     }
 }
 
-/// What a warning is about.
+/// The kinds of warnings.
 #[derive(Debug, Clone, Copy, PartialEq, Eq)]
 pub enum WarningKind {
     /// A value of a module document.
@@ -76,7 +76,7 @@ impl WarningKind {
 pub struct Warning {
     /// The JSON Pointer of the value.
     pub pointer: String,
-    /// What the warning is about.
+    /// The kind of the warning.
     pub kind: WarningKind,
 }
 
@@ -109,7 +109,7 @@ impl Warnings {
         Ok(warnings)
     }
 
-    /// Whether there are no warnings.
+    /// Returns whether there are no warnings.
     pub fn is_empty(&self) -> bool
         ensures { IsTrue result ↔ HasNone self.now }
     {

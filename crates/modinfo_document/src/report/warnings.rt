@@ -37,7 +37,7 @@ impl ValueWarnings {
         }
     }
 
-    /// Whether a further warning is only counted.
+    /// Returns whether a further warning is only counted.
     fn is_full(&self) -> bool {
         self.warnings.kept.len() >= MAX_KEPT
     }
@@ -83,8 +83,7 @@ pub fn find_warnings(
     Ok(warnings)
 }
 
-/// Finds the warnings about the values from which a document was read, but for the values of its string
-/// literals.
+/// Finds the warnings about the values of a document, except the warnings about string literals.
 fn warn_of_values(
     alloc: Global,
     root: Element<'_>,
@@ -275,7 +274,7 @@ impl<'a> Survey<'a> {
     }
 }
 
-/// Whether an object may have a member of this name.
+/// Returns whether an object may have a member of this name.
 fn is_read(kind: ObjectKind<'_>, name: &str) -> bool {
     member_names(kind).iter().any(|member| *member == name)
 }

@@ -1,12 +1,7 @@
 use Rattle.std.proofs.Common.{◌≡◌, length, vec_len, arith, sym, ◌∙◌}
 use Rattle.deno_graph_base.specs.TextMap.{entries_of}
-use Rattle.deno_graph_info.proofs.Reaching.{
-  underway-begin,
-  underway-step,
-  underway-popped,
-  less_to_do,
-  reach_answered,
-}
+use Rattle.deno_graph_info.proofs.Reaching.{underway-begin, underway-step, underway-popped, less_to_do}
+use Rattle.deno_graph_info.proofs.Reaching.{reach_answered}
 use Rattle.deno_graph_info.specs.internal.ReachSteps.{infos_of}
 use Rattle.deno_graph_info.proofs.reach.reach.Goals as goal
 

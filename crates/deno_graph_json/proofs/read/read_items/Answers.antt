@@ -3,8 +3,8 @@ use Rattle.serde_json.specs.Data.{array}
 use Rattle.serde_json.specs.Find.{at}
 use Rattle.deno_graph_json.specs.Data.{data_of, elements_data}
 use Rattle.deno_graph_json.proofs.ArrayElements.{AreFrom, elements_next, from_begin, from_next, from_here}
-use Rattle.deno_graph_json.proofs.Reading.{before, before_nil, items_more, items_error}
-use Rattle.deno_graph_json.proofs.Reading.{items_done, whole_error}
+use Rattle.deno_graph_json.proofs.Reading.{before, before_nil, items_more, items_error, items_done}
+use Rattle.deno_graph_json.proofs.Reading.{whole_error}
 use Rattle.deno_graph_json.specs.Read.Partial.{reads_items}
 use Rattle.deno_graph_json.proofs.read.read_items.Goals as goal
 

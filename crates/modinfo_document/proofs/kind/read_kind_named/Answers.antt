@@ -2,7 +2,8 @@ use Rattle.std.proofs.Common.{◌≡◌, None, rules}
 use Rattle.serde_json.specs.Data.{string}
 use Rattle.deno_graph_json.specs.ObjectReader.{readable, value_of}
 use Rattle.deno_graph_json.proofs.Reading.{read_error}
-use Rattle.modinfo_document.specs.Kind.{named, reads_kind_named}
+use Rattle.modinfo_document.specs.Named.{named}
+use Rattle.modinfo_document.specs.Kind.{reads_kind_named}
 use Rattle.modinfo_document.proofs.kind.read_kind_named.Goals as goal
 
 pub returns-in_default : goal.returns-in_default

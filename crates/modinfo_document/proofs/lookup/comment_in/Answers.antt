@@ -1,5 +1,4 @@
-use Rattle.std.proofs.Common.{◌-◌, ◌<◌, ◌≤◌, Some, None, arith, slice_get, refl, sym, ap}
-use Rattle.std.proofs.Common.{subst, ◌∙◌}
+use Rattle.std.proofs.Common.{◌-◌, ◌<◌, ◌≤◌, Some, None, arith, slice_get, refl, sym, ap, subst, ◌∙◌}
 use Rattle.serde_json.specs.Events.{items_len}
 use Rattle.deno_graph_json.specs.Data.{data_of, elements_data}
 use Rattle.deno_graph_json.specs.Read.Partial.{◌>>=◌, reads_items}

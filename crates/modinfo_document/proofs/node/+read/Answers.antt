@@ -1,36 +1,18 @@
-use Rattle.std.proofs.Common.{◌≡◌, [], ◌∷◌, Some, None, arith, length, length-append, codes}
-use Rattle.std.proofs.Common.{option_map, rules, refl, sym, ap, subst, ◌∙◌}
+use Rattle.std.proofs.Common.{◌≡◌, [], ◌∷◌, Some, None, arith, length, length-append, codes, option_map}
+use Rattle.std.proofs.Common.{rules, refl, sym, ap, subst, ◌∙◌}
 use Rattle.serde_json.specs.Data.{array, object}
 use Rattle.serde_json.specs.Find.{get_item, get_member}
 use Rattle.deno_graph_json.specs.Data.{data_of, elements_data}
 use Rattle.deno_graph_json.specs.ObjectReader.{readable}
 use Rattle.deno_graph_json.specs.Read.Partial.{reads_array, reads_items, read_or}
 use Rattle.deno_graph_json.specs.Read.Result.{IsReadError}
-use Rattle.deno_graph_json.proofs.ArrayElements.{AreFrom, depth_of_item, elements_next, from_begin}
-use Rattle.deno_graph_json.proofs.ArrayElements.{from_next, from_here}
-use Rattle.deno_graph_json.proofs.Reading.{
-  before,
-  before_nil,
-  error_around,
-  exits,
-  goes_on,
-  is_array,
-  items_done,
-  items_error,
-  items_more,
-  object_on,
-  reading,
-  result_on,
-}
+use Rattle.deno_graph_json.proofs.ArrayElements.{AreFrom, depth_of_item, elements_next, from_begin, from_next}
+use Rattle.deno_graph_json.proofs.ArrayElements.{from_here}
+use Rattle.deno_graph_json.proofs.Reading.{before, before_nil, error_around, exits, goes_on, is_array}
+use Rattle.deno_graph_json.proofs.Reading.{items_done, items_error, items_more, object_on, reading, result_on}
 use Rattle.modinfo_document.specs.Node.{node_with, reads_node, reads_nodes}
-use Rattle.modinfo_document.proofs.Nodes.{
-  children_read,
-  depth_of_array,
-  depth_of_named,
-  depth_of_object,
-  node_read,
-  nodes_read,
-}
+use Rattle.modinfo_document.proofs.Nodes.{children_read, depth_of_array, depth_of_named, depth_of_object}
+use Rattle.modinfo_document.proofs.Nodes.{node_read, nodes_read}
 use Rattle.modinfo_document.proofs.Results.{array_items}
 use Rattle.modinfo_document.proofs.node.+read.Goals as goal
 

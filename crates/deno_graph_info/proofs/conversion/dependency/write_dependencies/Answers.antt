@@ -4,12 +4,8 @@ use Rattle.deno_graph_json.proofs.ArrayElements.{elements_next}
 use Rattle.deno_graph_json.proofs.Texts.{text_written}
 use Rattle.deno_graph_json.specs.Data.{data_of, elements_data}
 use Rattle.deno_graph_json.specs.Text.{text_in}
-use Rattle.deno_graph_info.proofs.ConvertedItems.{
-  converted_all,
-  converted_next,
-  converted_none,
-  overflow_next,
-}
+use Rattle.deno_graph_info.proofs.ConvertedItems.{converted_all, converted_next, converted_none}
+use Rattle.deno_graph_info.proofs.ConvertedItems.{overflow_next}
 use Rattle.deno_graph_info.proofs.Outcomes.{exits_column}
 use Rattle.deno_graph_info.specs.Conversion.{AnyOverflows, DependencyOverflows}
 use Rattle.deno_graph_info.proofs.conversion.dependency.write_dependencies.Goals as goal

@@ -5,13 +5,8 @@ use Rattle.deno_graph_json.specs.View.{members_of}
 use Rattle.deno_graph_json.proofs.LastMembers.{all_passed, pass}
 use Rattle.deno_graph_info.specs.internal.Chosen.{is_above, text_of}
 use Rattle.deno_graph_info.specs.internal.Ordered.{listed}
-use Rattle.deno_graph_info.proofs.OrderedMembers.{
-  followed_by,
-  followed_by-nothing,
-  listed_next,
-  next_last,
-  next_listed,
-}
+use Rattle.deno_graph_info.proofs.OrderedMembers.{followed_by, followed_by-nothing, listed_next, next_last}
+use Rattle.deno_graph_info.proofs.OrderedMembers.{next_listed}
 use Rattle.deno_graph_info.proofs.conversion.ordered.names_ascend.Goals as goal
 
 pub loop-name-init : goal.loop-name-init

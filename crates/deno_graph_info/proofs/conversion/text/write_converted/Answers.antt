@@ -2,11 +2,7 @@ use Rattle.std.proofs.Common.{◌≡◌, Some, None, sym, ◌∙◌}
 use Rattle.std.proofs.lemmas.Result.{on_ok_weaker}
 use Rattle.deno_graph_json.specs.Data.{data_of, elements_data, members_data}
 use Rattle.deno_graph_info.specs.Conversion.{AnyOverflows, Overflows, dependencies_in}
-use Rattle.deno_graph_info.proofs.ConvertedTexts.{
-  converted_object,
-  overflows_object,
-  unconverted,
-}
+use Rattle.deno_graph_info.proofs.ConvertedTexts.{converted_object, overflows_object, unconverted}
 use Rattle.deno_graph_json.proofs.Reading.{is_object}
 use Rattle.deno_graph_info.proofs.NamedMembers.{dependencies_among, no_dependencies}
 use Rattle.deno_graph_info.proofs.Outcomes.{column_error-on}

@@ -4,8 +4,7 @@ use Rattle.deno_graph_json.specs.Flat.{plain}
 use Rattle.deno_graph_json.specs.Value.{AreOfMembers, flat_value, members_in}
 use Rattle.deno_graph_json.specs.View.{members_of, value_of}
 use Rattle.deno_graph_json.proofs.FirstValue.{begins_member, first_name, member_first, members_after}
-use Rattle.deno_graph_json.proofs.FirstValue.{no_entry}
-use Rattle.deno_graph_json.proofs.FirstValue.{value_follows}
+use Rattle.deno_graph_json.proofs.FirstValue.{no_entry, value_follows}
 use Rattle.deno_graph_json.proofs.flat.MembersIterator.next.Goals as goal
 
 pub returns-in_err-key-clause-steps : goal.returns-in_err-key-clause-steps

@@ -1,6 +1,5 @@
 use Rattle.std.proofs.Common.{◌≡◌, ◌+◌, ◌-◌, [], ◌∷◌, ◌++◌, length, map, take, String, Global, Bool}
-use Rattle.std.proofs.Common.{append-nil}
-use Rattle.std.proofs.Common.{string_bytes, refl, sym, ap, ◌∙◌, subst, append_assoc, arith, rules}
+use Rattle.std.proofs.Common.{append-nil, string_bytes, refl, sym, ap, ◌∙◌, subst, append_assoc, arith, rules}
 use Rattle.std.proofs.lemmas.List.{take_all, take_more, map-append, length-map}
 use Rattle.std.specs.List.Sorted.{IsStrictlySortedBy}
 use Rattle.std.specs.Map.{keys_of}
@@ -9,8 +8,8 @@ use Rattle.serde_json.specs.Data.{no_members, put}
 use Rattle.serde_json.specs.Data as serde
 use Rattle.serde_json.specs.View.{view, items_of, members_view, number_view}
 use Rattle.serde_json.specs.declared.number.Number.{Number}
-use Rattle.serde_json.specs.declared.value.Value.{Value, Null, the_lemmas}
-use Rattle.serde_json.specs.declared.value.Value.{Bool as TheBool, Number as TheNumber, String as TheString}
+use Rattle.serde_json.specs.declared.value.Value.{Value, Null, the_lemmas, Bool as TheBool}
+use Rattle.serde_json.specs.declared.value.Value.{Number as TheNumber, String as TheString}
 use Rattle.serde_json.proofs.Views.{put_last}
 use Rattle.deno_graph_json.specs.Data.{value_data, put_members}
 use Rattle.deno_graph_json.specs.Flat.{plain}
@@ -19,8 +18,8 @@ use Rattle.deno_graph_json.specs.Value.{flat_value, flat_items, flat_members, it
 use Rattle.deno_graph_json.specs.Value as value
 use Rattle.deno_graph_json.specs.declared.flat.FlatNode.TheVariants as node
 use Rattle.deno_graph_json.proofs.Nested.{begun, filled, has_more, room_taken}
-use Rattle.deno_graph_json.proofs.PushedValues.{items, item_pushed, items_counted, items_seen}
-use Rattle.deno_graph_json.proofs.PushedValues.{members, member_pushed, member_put}
+use Rattle.deno_graph_json.proofs.PushedValues.{items, item_pushed, items_counted, items_seen, members}
+use Rattle.deno_graph_json.proofs.PushedValues.{member_pushed, member_put}
 use Rattle.deno_graph_json.proofs.flat.from_value.+push.Goals as goal
 
 -- ---- values

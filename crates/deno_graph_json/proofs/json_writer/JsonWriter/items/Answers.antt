@@ -4,8 +4,7 @@ use Rattle.serde_json.specs.View.{items_of}
 use Rattle.deno_graph_json.specs.JsonWriter.{output}
 use Rattle.deno_graph_json.specs.Text.{text_in}
 use Rattle.deno_graph_json.proofs.Outputs.{array_written, with_more}
-use Rattle.deno_graph_json.proofs.WritingItems.{held_more, held_all}
-use Rattle.deno_graph_json.proofs.WritingItems.{items_text, output_all, output_more}
+use Rattle.deno_graph_json.proofs.WritingItems.{held_more, held_all, items_text, output_all, output_more}
 use Rattle.deno_graph_json.proofs.json_writer.JsonWriter.items.Goals as goal
 
 pub loop-item-preserved : goal.loop-item-preserved

@@ -1,5 +1,5 @@
-use Rattle.std.proofs.Common.{◌≡◌, ℕ, List, [], codes, true, false, ◌++◌, IsSome, append_assoc}
-use Rattle.std.proofs.Common.{append-nil, refl, sym, ap, subst, ◌∙◌}
+use Rattle.std.proofs.Common.{◌≡◌, ℕ, List, [], codes, true, false, ◌++◌, IsSome, append_assoc, append-nil}
+use Rattle.std.proofs.Common.{refl, sym, ap, subst, ◌∙◌}
 use Rattle.deno_graph_json.specs.Pointer.{index, name, part_text}
 use Rattle.deno_graph_json.specs.Read.Partial.{◌>>=◌}
 use Rattle.modinfo_document.specs.Comments.{reads_comment}

@@ -1,4 +1,4 @@
-use Rattle.modinfo_document.specs.ExpectedJson.IsExpected.{no_mark, number, word}
+use Rattle.modinfo_document.specs.ExpectedJson.IsExpected.{no_mark, number, whole, word}
 use Rattle.modinfo_document.proofs.report.expected_json.words_for_value.Goals as goal
 
 pub returns-in-239 : goal.returns-in-239
@@ -9,3 +9,6 @@ returns-in-45 c = λ front before. number before
 
 pub returns-in-97-to-122 : goal.returns-in-97-to-122
 returns-in-97-to-122 c = λ front before. word before
+
+pub returns-in-123 : goal.returns-in-123
+returns-in-123 c = λ front before. whole

@@ -1,6 +1,5 @@
-use Rattle.std.proofs.Common.{◌≡◌, ℕ, ◌+◌, ◌<◌, List, [], ◌∷◌, ◌++◌, add-one, codes, drop, drop-cons}
-use Rattle.std.proofs.Common.{get_or, length}
-use Rattle.std.proofs.Common.{sym, ap, ◌∙◌}
+use Rattle.std.proofs.Common.{◌≡◌, ℕ, ◌+◌, ◌<◌, List, [], ◌∷◌, ◌++◌, add-one, codes, drop, drop-cons, get_or}
+use Rattle.std.proofs.Common.{length, sym, ap, ◌∙◌}
 use Rattle.std.proofs.lemmas.List.{drop_all, nil_from_length}
 use Rattle.deno_graph_json.specs.Pointer.{index, name, part_text}
 use Rattle.deno_graph_json.specs.declared.error.Step.TheVariants.{Item, Member}

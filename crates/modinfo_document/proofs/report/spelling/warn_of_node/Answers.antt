@@ -1,5 +1,5 @@
-use Rattle.std.proofs.Common.{◌≡◌, ℕ, List, Some, All, OnOk, Result, Ok, Err, inr}
-use Rattle.std.proofs.Common.{refl, sym, arith, subst, ◌∙◌}
+use Rattle.std.proofs.Common.{◌≡◌, ℕ, List, Some, All, OnOk, Result, Ok, Err, inr, refl, sym, arith, subst}
+use Rattle.std.proofs.Common.{◌∙◌}
 use Rattle.std.specs.Bool.{⊤}
 use Rattle.std.proofs.lemmas.Bool.{false≢true}
 use Rattle.std.specs.Option.{option_to_list}

@@ -1,4 +1,4 @@
-use Rattle.deno_graph_info.proofs.Written.ModuleInfo.{written_is_read, written_without_float}
+use Rattle.deno_graph_info.proofs.WrittenInfo.{written_is_read, written_without_float}
 use Rattle.deno_graph_info.proofs.analysis.module_info.ModuleInfo.to_value.Goals as goal
 
 pub returns-clause-read_back : goal.returns-clause-read_back

@@ -1,5 +1,5 @@
-use Rattle.std.proofs.Common.{◌≡◌, ◌<◌, ◌+◌, ◌-◌, ◌^◌, Err, ◌++◌, ◌∷◌, [], length, map, ℕ, List, refl}
-use Rattle.std.proofs.Common.{sym, ap, subst, inl, inr, rules, arith, ◌∙◌, append_assoc}
+use Rattle.std.proofs.Common.{◌≡◌, ◌<◌, ◌+◌, ◌-◌, ◌^◌, Err, ◌++◌, ◌∷◌, [], length, map, ℕ, List, refl, sym}
+use Rattle.std.proofs.Common.{ap, subst, inl, inr, rules, arith, ◌∙◌, append_assoc}
 use Rattle.std.proofs.lemmas.List.{length-append}
 use Rattle.std.specs.Result.{OnOk}
 use Rattle.json.specs.Json.{null, boolean, string, array, object}
@@ -11,29 +11,13 @@ use Rattle.deno_graph_json.specs.Flat as flat
 use Rattle.deno_graph_json.specs.declared.flat.FlatNode.TheVariants as node
 use Rattle.deno_graph_json.specs.declared.flat.error.TapeError.TheVariants.{Json}
 use Rattle.deno_graph_json.proofs.ValueTokens.{put_one, put_number, none_number, none_deep_array}
-use Rattle.deno_graph_json.proofs.ValueTokens.{none_deep_object}
-use Rattle.deno_graph_json.proofs.ValueTokens.{none_begins}
-use Rattle.deno_graph_json.proofs.ValueTokens.{
-  no_array,
-  ItemsPassed,
-  array_ahead,
-  items_left_more,
-  items_passed_more,
-}
-use Rattle.deno_graph_json.proofs.ValueTokens.{items_passed_all}
-use Rattle.deno_graph_json.proofs.ValueTokens.{MembersLeft, MembersPassed, no_object, no_key_object}
-use Rattle.deno_graph_json.proofs.ValueTokens.{object_ahead}
-use Rattle.deno_graph_json.proofs.ValueTokens.{members_left_more, members_passed_more, members_passed_all}
-use Rattle.deno_graph_json.proofs.Nested.{
-  filled,
-  room_taken,
-  has_more,
-  begun,
-  with_ok,
-  some_node,
-  is_end_array,
-}
-use Rattle.deno_graph_json.proofs.Nested.{is_end_object, is_key}
+use Rattle.deno_graph_json.proofs.ValueTokens.{none_deep_object, none_begins, no_array, ItemsPassed}
+use Rattle.deno_graph_json.proofs.ValueTokens.{array_ahead, items_left_more, items_passed_more}
+use Rattle.deno_graph_json.proofs.ValueTokens.{items_passed_all, MembersLeft, MembersPassed, no_object}
+use Rattle.deno_graph_json.proofs.ValueTokens.{no_key_object, object_ahead, members_left_more}
+use Rattle.deno_graph_json.proofs.ValueTokens.{members_passed_more, members_passed_all}
+use Rattle.deno_graph_json.proofs.Nested.{filled, room_taken, has_more, begun, with_ok, some_node}
+use Rattle.deno_graph_json.proofs.Nested.{is_end_array, is_end_object, is_key}
 use Rattle.deno_graph_json.proofs.flat.parse.Parser.+read.Goals as goal
 
 pub value-returns-in_err-push-in-String : goal.value-returns-in_err-push-in-String
