@@ -1,24 +1,12 @@
 //! Classes of bytes and characters.
 
+use crate::classes::{WORD, is_of};
 use unicode_ident::{is_xid_continue, is_xid_start};
-
-/// Whether each byte is part of a name, as ASCII letters, digits, `$` and `_` are.
-static WORD_BYTES: [bool; 128] = [
-    false, false, false, false, false, false, false, false, false, false, false, false, false,
-    false, false, false, false, false, false, false, false, false, false, false, false, false,
-    false, false, false, false, false, false, false, false, false, false, true, false, false,
-    false, false, false, false, false, false, false, false, false, true, true, true, true, true,
-    true, true, true, true, true, false, false, false, false, false, false, false, true, true,
-    true, true, true, true, true, true, true, true, true, true, true, true, true, true, true, true,
-    true, true, true, true, true, true, true, true, false, false, false, false, true, false, true,
-    true, true, true, true, true, true, true, true, true, true, true, true, true, true, true, true,
-    true, true, true, true, true, true, true, true, true, false, false, false, false, false,
-];
 
 /// Returns whether a byte is an ASCII letter, an ASCII digit, `$` or `_`.
 #[inline(always)]
 pub fn is_word_byte(byte: u8) -> bool {
-    byte < 128 && WORD_BYTES[byte as usize]
+    is_of(byte, WORD)
 }
 
 /// Returns the byte of a text at an offset, or zero after the text's end.

@@ -16,12 +16,12 @@ use deno_graph_source::tree::{CommentKind, CommentSide};
 /// A comment of a text, and where it is filed.
 #[derive(Clone, Copy, Debug, PartialEq, Eq)]
 pub struct FiledComment {
-    pub kind: CommentKind,
     /// The range in bytes, with the marks.
     pub range: SourceRange,
-    pub side: CommentSide,
     /// The end of the token that the comment trails, or the start of the token that it leads, in bytes.
     pub position: usize,
+    pub kind: CommentKind,
+    pub side: CommentSide,
 }
 
 /// Returns whether a comment after a token, on the token's line, trails the token.

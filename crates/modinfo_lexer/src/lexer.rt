@@ -1,12 +1,17 @@
 //! The lexer: the tokens of a text one after another, and the comments between them.
 
+mod fault;
 mod gaps;
 mod rescans;
 mod tokens;
 
+use crate::characters::byte_at;
+use crate::classes::{TOKEN, is_of};
 use crate::comments::FiledComment;
+use crate::lexer::fault::Fault;
 use crate::syntax_error::ReadError;
 use crate::token::{Token, TokenKind};
+use modinfo_pieces::choice::{Choice, ChoiceKind};
 use std::alloc::Global;
 
 /// Reads the tokens of a text. What a `/`, a `}` or a `>` begins is decided by the caller, who has such
@@ -22,6 +27,8 @@ pub struct Lexer<'a> {
     /// The end of the token before, in bytes.
     previous_end: usize,
     comments: Vec<FiledComment>,
+    /// What the bytes don't decide, ascending by offset.
+    choices: Vec<Choice>,
 }
 
 /// A state of a lexer, to which the lexer can go back.
@@ -31,6 +38,7 @@ pub struct Mark {
     previous_kind: TokenKind,
     previous_end: usize,
     comments: usize,
+    choices: usize,
 }
 
 impl<'a> Lexer<'a> {
@@ -49,6 +57,7 @@ impl<'a> Lexer<'a> {
             previous_kind: hashbang.kind,
             previous_end: 0,
             comments: Vec::new(alloc),
+            choices: Vec::new(alloc),
         };
         lexer.next()?;
         Ok(lexer)
@@ -77,9 +86,22 @@ impl<'a> Lexer<'a> {
         tokens::hashbang(self.text).kind == TokenKind::Hashbang
     }
 
-    /// Returns the comments up to the current token, in the order of the text.
-    pub fn into_comments(self) -> Vec<FiledComment> {
-        self.comments
+    /// Returns the comments and the choices up to the current token, in the order of the text.
+    pub fn into_parts(self) -> (Vec<FiledComment>, Vec<Choice>) {
+        let Lexer {
+            comments,
+            choices,
+            ..
+        } = self;
+        (comments, choices)
+    }
+
+    /// Keeps a choice for an offset. Fails only if an allocation fails.
+    fn choose(&mut self, kind: ChoiceKind, offset: usize) -> Result<(), Fault> {
+        match self.choices.push(Choice { kind, offset }) {
+            Ok(()) => Ok(()),
+            Err(_) => Err(Fault::OutOfMemory),
+        }
     }
 
     /// Returns the current state.
@@ -89,6 +111,7 @@ impl<'a> Lexer<'a> {
             previous_kind: self.previous_kind,
             previous_end: self.previous_end,
             comments: self.comments.len(),
+            choices: self.choices.len(),
         }
     }
 
@@ -98,16 +121,56 @@ impl<'a> Lexer<'a> {
         self.previous_kind = mark.previous_kind;
         self.previous_end = mark.previous_end;
         self.comments.truncate(mark.comments);
+        self.choices.truncate(mark.choices);
     }
 
     /// Goes on to the next token. At the text's end, that is a token without text.
+    #[inline(always)]
     pub fn next(&mut self) -> Result<(), ReadError> {
-        let from = self.token.end;
+        match self.advance() {
+            Ok(()) => Ok(()),
+            Err(fault) => Err(self.error_of(fault)),
+        }
+    }
+
+    /// Goes on to the next token. The error is of what begins at the start of the current token. Before most
+    /// tokens is nothing or one space. What isn't in every text's most frequent tokens is left to calls at
+    /// the end, so that this needs no stack.
+    #[inline(never)]
+    fn advance(&mut self) -> Result<(), Fault> {
+        self.leave_token();
+        let text = self.text.as_bytes();
+        let from = self.previous_end;
+        let first = byte_at(text, from);
+        if is_of(first, TOKEN) {
+            self.start_token(from, false);
+            return self.scan_token_of(first);
+        }
+        let after = from.saturating_add(1);
+        let second = byte_at(text, after);
+        if first == b' ' && is_of(second, TOKEN) {
+            self.start_token(after, false);
+            return self.scan_token_of(second);
+        }
+        self.advance_after_gap()
+    }
+
+    #[inline(never)]
+    fn advance_after_gap(&mut self) -> Result<(), Fault> {
+        self.skip_gap(self.previous_end)?;
+        self.scan_token()
+    }
+
+    /// Makes the current token the one before.
+    #[inline(always)]
+    fn leave_token(&mut self) {
         self.previous_kind = self.token.kind;
-        self.previous_end = from;
-        let gap = self.skip_gap(from)?;
-        self.token = tokens::token_at(self.text, gap.end)?;
-        self.token.is_after_line_end = gap.has_line_end;
-        Ok(())
+        self.previous_end = self.token.end;
+    }
+
+    /// Returns the error of a fault of what begins at the start of the current token.
+    #[cold]
+    fn error_of(&self, fault: Fault) -> ReadError {
+        fault.error_at(self.token.start)
     }
 }

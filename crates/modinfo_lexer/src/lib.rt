@@ -3,6 +3,7 @@
 #![tactic(auto)]
 
 pub mod characters;
+pub mod classes;
 pub mod comments;
 pub mod lexer;
 pub mod scan;

@@ -181,7 +181,7 @@ pub struct Token {
     pub kind: TokenKind,
     /// Whether a line ends between the token before and this one.
     pub is_after_line_end: bool,
-    /// Whether the token is a name with an escape.
+    /// Whether the token is a name or a part of a template with an escape.
     pub has_escape: bool,
     /// Offset of the first byte, from zero.
     pub start: usize,

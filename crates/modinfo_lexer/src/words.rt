@@ -3,7 +3,7 @@
 use crate::token::TokenKind;
 
 /// Returns the kind of a name without escapes.
-#[inline(never)]
+#[inline(always)]
 pub fn kind_of_word(word: &[u8]) -> TokenKind {
     match word.len() {
         2 => of_two(word),

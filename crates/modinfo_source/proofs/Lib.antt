@@ -1,2 +1,4 @@
 pub mod Cooked
+pub mod FiledComments
+pub mod OfTexts
 pub mod SpelledNodes

@@ -1,2 +1,4 @@
+pub mod Comments
+pub mod OfText
 pub mod Spelled
 pub mod internal

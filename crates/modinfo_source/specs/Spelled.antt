@@ -1,23 +1,7 @@
 -- Trees whose literals have the values that their slices of the text spell, by ECMA-262's definitions of a
 -- string's and a template's value.
-use Rattle.std.specs.Prelude.{
-  ◌≡◌,
-  ℕ,
-  ◌+◌,
-  ◌-◌,
-  ◌<◌,
-  ◌≤◌,
-  ⊤,
-  List,
-  [],
-  ◌∷◌,
-  map,
-  slice_index,
-  All,
-  Option,
-  Some,
-  None,
-}
+use Rattle.std.specs.Prelude.{◌≡◌, ℕ, ◌+◌, ◌-◌, ◌<◌, ◌≤◌, ⊤, List, [], ◌∷◌, map, slice_index, All, Option}
+use Rattle.std.specs.Prelude.{Some, None}
 use Rattle.deno_graph_base.specs.SourceRange.{IsTextRange, slice_of}
 use Rattle.deno_graph_base.specs.declared.text.position.SourceRange.{SourceRange}
 use Rattle.deno_graph_source.specs.Node.{kind_of, range_of, children_of, literal_of, nodes_of}

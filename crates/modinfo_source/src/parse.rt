@@ -1,12 +1,15 @@
 //! From a source text to a `ParsedSource`.
 
-ghost use Rattle.std.specs.Prelude.{◌≡◌, Err, IfOk, false};
+ghost use Rattle.std.specs.Prelude.{◌≡◌, Err, IfOk, false, length};
 ghost use Rattle.std.specs.Rc.{rc_str_bytes};
 ghost use Rattle.std.specs.Str.{IsCharBoundary};
 ghost use Rattle.deno_graph_base.specs.Position.{HasPosition};
 ghost use Rattle.deno_graph_source.specs.Source.{IsValid};
 ghost use Rattle.deno_graph_source.specs.declared.tree.parse_error.ParseDiagnostic.{ParseDiagnostic};
 ghost use Rattle.deno_graph_source.specs.declared.tree.parse_error.ParseError.TheVariants.{Diagnostic};
+ghost use Rattle.deno_graph_source.specs.MediaType.{is_typed};
+ghost use Rattle.modinfo_source.specs.OfText.{IsOfText};
+ghost use Rattle.modinfo_source.specs.Comments.{HasComments};
 ghost use Rattle.modinfo_source.specs.Spelled.{IsSpelled};
 
 use crate::comments::comments_of;
@@ -16,13 +19,14 @@ use deno_graph_base::values::Text;
 use deno_graph_source::tree::{
     Comments, MediaType, ParseDiagnostic, ParseError, ParsedSource, Program, SourceFault,
 };
+use modinfo_imports::nodes::claims_of;
 use modinfo_lexer::syntax_error::{ReadError, SyntaxError};
-use modinfo_parser::read;
+use modinfo_parser::{Syntax, read};
 use std::alloc::{AllocError, Global};
 use std::rc::RcStr;
 use url::Url;
 
-/// Parses the text of a module, by the grammar of its media type: JavaScript with JSX, TypeScript, or
+/// Parses the text of a module. The media type decides the grammar: JavaScript with JSX, TypeScript, or
 /// TypeScript with JSX for `Tsx`. A text is read as a module, and where that fails as a script, unless its
 /// media type is one of modules alone. Returns a diagnostic, whose position counts lines and characters
 /// from zero, if the text has a syntax error that makes its tree unclear, if it nests too deep, or if the
@@ -41,6 +45,15 @@ pub fn parse_module(
     // Each string literal has the value that its slice of the text spells, by ECMA-262, and so has each part
     // of a template.
     ensures spelled { IfOk result (λ parsed. IsSpelled (rc_str_bytes source) parsed.program) }
+    // The comments are exactly those of the text, with their texts.
+    ensures comments { IfOk result (λ parsed. HasComments (rc_str_bytes source) parsed.comments) }
+    // The range of the program is the whole text.
+    ensures range { IfOk result (λ parsed.
+        parsed.program.range ≡ record { start = 0; end = length (rc_str_bytes source) }) }
+    // Each node that may report a dependency, and each of its literals, stands on pieces of the text, and at each
+    // word `import` among the pieces such a node begins, or the word is a name.
+    ensures of_text { IfOk result (λ parsed.
+        IsOfText (rc_str_bytes source) (is_typed media_type) parsed.program parsed.comments) }
     ensures position { (diagnostic : ParseDiagnostic) → result ≡ Err (Diagnostic diagnostic)
         → HasPosition (rc_str_bytes source) diagnostic.position }
 {
@@ -71,15 +84,33 @@ struct Parts {
 /// Returns the tree and the comments of a text.
 #[tactic(auto, unfolding(deno_graph_source::specs::Node::nodes_of))]
 fn parts_of(alloc: Global, text: &str, media_type: MediaType) -> Result<Parts, ReadError>
-    ensures { IfOk result (λ parts. IsSpelled text.now parts.program) }
+    ensures spelled { IfOk result (λ parts. IsSpelled text.now parts.program) }
+    ensures comments { IfOk result (λ parts. HasComments text.now parts.comments) }
+    ensures range { IfOk result (λ parts.
+        parts.program.range ≡ record { start = 0; end = length text.now }) }
+    ensures of_text { IfOk result (λ parts.
+        IsOfText text.now (is_typed media_type) parts.program parts.comments) }
 {
-    let syntax = read(alloc, text, media_type)?;
-    let comments = comments_of(alloc, text, &syntax.comments)?;
+    let Syntax {
+        nodes,
+        comments: filed,
+        choices,
+        has_hashbang,
+    } = read(alloc, text, media_type)?;
     let program = Program {
         range: SourceRange::new(0, text.len()),
-        body: body_of(alloc, text, &syntax.nodes)?,
-        has_shebang: syntax.has_hashbang,
+        body: body_of(alloc, text, nodes)?,
+        has_shebang: has_hashbang,
     };
+    let claims = claims_of(alloc, text.as_bytes(), &program)?;
+    let comments = comments_of(
+        alloc,
+        text,
+        media_type.is_typed(),
+        &filed,
+        &choices,
+        &claims,
+    )?;
     Ok(Parts { program, comments })
 }
 

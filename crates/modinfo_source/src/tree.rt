@@ -37,11 +37,12 @@ struct OpenNodes {
     parts: Vec<Part>,
 }
 
-/// Returns the nodes of a flat list that are inside no other, with those inside them as children.
+/// Returns the nodes of a flat list that are inside no other, with those inside them as children. Takes the
+/// list, whose memory is free before the nodes are put together.
 pub(crate) fn body_of(
     alloc: Global,
     text: &str,
-    flat: &[FlatNode],
+    flat: Vec<FlatNode>,
 ) -> Result<Items<Node>, ReadError>
     ensures { IfOk result (λ body. All (NodeIsSpelled text.now) (flat_map nodes_in body)) }
 {
@@ -49,8 +50,8 @@ pub(crate) fn body_of(
         nodes: Vec::new(alloc),
         parts: Vec::new(alloc),
     };
-    for (index, node) in flat.iter().enumerate() {
-        open.add(alloc, text, index, *node)?;
+    for (index, node) in flat.into_iter().enumerate() {
+        open.add(alloc, text, index, node)?;
     }
     let OpenNodes { nodes, .. } = open;
     let body = children_of(alloc, nodes)?;
@@ -191,7 +192,7 @@ fn node_with(range: SourceRange, kind: Kind, children: Items<Node>) -> Node
 
 /// Returns the arguments of a call, by the nodes inside the call.
 fn arguments_of(alloc: Global, shape: Shape, inside: &[OpenNode]) -> Result<Items<Arg>, ReadError> {
-    let mut args = Items::new(alloc);
+    let mut args = Items::with_capacity(alloc, shape.args().min(inside.len()))?;
     for node in inside.iter().skip(shape.callee_count()).take(shape.args()) {
         args.push(Arg {
             spread: node.is_spread,

@@ -3,11 +3,12 @@
 use crate::characters::byte_at;
 use crate::comments::{FiledComment, trails};
 use crate::lexer::Lexer;
+use crate::lexer::fault::Fault;
 use crate::scan::spaces::{SpaceEnd, block_comment_end, line_end, space_end};
-use crate::syntax_error::ReadError;
 use crate::token::TokenKind;
 use deno_graph_base::text::SourceRange;
 use deno_graph_source::tree::{CommentKind, CommentSide};
+use modinfo_pieces::choice::ChoiceKind;
 
 /// What begins at an offset between two tokens.
 #[derive(Clone, Copy)]
@@ -21,36 +22,36 @@ enum GapPart {
 }
 
 impl<'a> Lexer<'a> {
-    /// Skips white space and comments from an offset on, and keeps the comments.
+    /// Starts the current token at an offset, after a line end or not.
     #[inline(always)]
-    pub(super) fn skip_gap(&mut self, from: usize) -> Result<SpaceEnd, ReadError> {
-        if begins_token(byte_at(self.text.as_bytes(), from)) {
-            return Ok(SpaceEnd {
-                end: from,
-                has_line_end: false,
-            });
-        }
+    pub(super) fn start_token(&mut self, start: usize, is_after_line_end: bool) {
+        self.token.start = start;
+        self.token.is_after_line_end = is_after_line_end;
+    }
+
+    /// Skips white space and comments from an offset on, and keeps the comments. The current token starts
+    /// after them.
+    #[inline(never)]
+    pub(super) fn skip_gap(&mut self, from: usize) -> Result<(), Fault> {
         let space = space_end(self.text, from);
         let first = self.comments.len();
         match byte_at(self.text.as_bytes(), space.end) {
-            b'/' | b'<' | b'-' => self.skip_comments(from, space),
+            b'/' | b'<' | b'-' => return self.skip_comments(from, space),
             0 => self.finish_gap(first, space),
-            _ => Ok(space),
+            _ => self.start_token(space.end, space.has_line_end),
         }
+        Ok(())
     }
 
     /// Skips the comments after white space.
     #[inline(never)]
-    fn skip_comments(&mut self, from: usize, space: SpaceEnd) -> Result<SpaceEnd, ReadError> {
+    fn skip_comments(&mut self, from: usize, space: SpaceEnd) -> Result<(), Fault> {
         let first = self.comments.len();
         let mut gap = space;
         for _turn in 0..self.text.len() {
             let comment_end = match self.part_at(gap.end, from, gap.has_line_end) {
                 GapPart::Token => break,
-                GapPart::HtmlComment => SpaceEnd {
-                    end: line_end(self.text.as_bytes(), gap.end),
-                    has_line_end: gap.has_line_end,
-                },
+                GapPart::HtmlComment => self.skip_html_comment(gap)?,
                 GapPart::LineComment => self.keep_line_comment(gap)?,
                 GapPart::BlockComment => self.keep_block_comment(gap)?,
             };
@@ -60,7 +61,8 @@ impl<'a> Lexer<'a> {
                 has_line_end: comment_end.has_line_end || space.has_line_end,
             };
         }
-        self.finish_gap(first, gap)
+        self.finish_gap(first, gap);
+        Ok(())
     }
 
     /// Returns what begins at an offset. A `-->` is a comment if no token is before it on its line.
@@ -83,8 +85,17 @@ impl<'a> Lexer<'a> {
         }
     }
 
+    /// Keeps the choice of a comment as in HTML after white space, and returns the comment's end.
+    fn skip_html_comment(&mut self, space: SpaceEnd) -> Result<SpaceEnd, Fault> {
+        self.choose(ChoiceKind::HtmlComment, space.end)?;
+        Ok(SpaceEnd {
+            end: line_end(self.text.as_bytes(), space.end),
+            has_line_end: space.has_line_end,
+        })
+    }
+
     /// Keeps the line comment after white space, and returns its end.
-    fn keep_line_comment(&mut self, space: SpaceEnd) -> Result<SpaceEnd, ReadError> {
+    fn keep_line_comment(&mut self, space: SpaceEnd) -> Result<SpaceEnd, Fault> {
         let end = line_end(self.text.as_bytes(), space.end);
         self.keep_comment(CommentKind::Line, space, end)?;
         Ok(SpaceEnd {
@@ -94,7 +105,7 @@ impl<'a> Lexer<'a> {
     }
 
     /// Keeps the block comment after white space, and returns its end.
-    fn keep_block_comment(&mut self, space: SpaceEnd) -> Result<SpaceEnd, ReadError> {
+    fn keep_block_comment(&mut self, space: SpaceEnd) -> Result<SpaceEnd, Fault> {
         match block_comment_end(self.text.as_bytes(), space.end) {
             Some(inside) => {
                 self.keep_comment(CommentKind::Block, space, inside.end)?;
@@ -103,7 +114,10 @@ impl<'a> Lexer<'a> {
                     has_line_end: space.has_line_end || inside.has_line_end,
                 })
             }
-            None => Err(ReadError::syntax("expected `*/` at the end of the comment", space.end)),
+            None => {
+                self.token.start = space.end;
+                Err(Fault::Comment)
+            }
         }
     }
 
@@ -114,7 +128,7 @@ impl<'a> Lexer<'a> {
         kind: CommentKind,
         space: SpaceEnd,
         end: usize,
-    ) -> Result<(), ReadError> {
+    ) -> Result<(), Fault> {
         let is_trailing = self.previous_end > 0
             && !space.has_line_end
             && trails(kind, self.previous_kind, self.is_before_semicolon(end));
@@ -123,14 +137,16 @@ impl<'a> Lexer<'a> {
         } else {
             CommentSide::Leading
         };
-        Ok(
-            self.comments.push(FiledComment {
-                kind,
-                range: SourceRange::new(space.end, end),
-                side,
-                position: self.previous_end,
-            })?,
-        )
+        let comment = FiledComment {
+            kind,
+            range: SourceRange::new(space.end, end),
+            side,
+            position: self.previous_end,
+        };
+        match self.comments.push(comment) {
+            Ok(()) => Ok(()),
+            Err(_) => Err(Fault::OutOfMemory),
+        }
     }
 
     /// Returns whether a `;` follows white space from an offset on.
@@ -139,8 +155,8 @@ impl<'a> Lexer<'a> {
     }
 
     /// Files the comments from the one with the number `first` on, if they lead what follows the gap. The
-    /// comments of the last gap go with the text's end.
-    fn finish_gap(&mut self, first: usize, gap: SpaceEnd) -> Result<SpaceEnd, ReadError> {
+    /// comments of the last gap go with the text's end. The current token starts after the gap.
+    fn finish_gap(&mut self, first: usize, gap: SpaceEnd) {
         let is_last = gap.end >= self.text.len();
         let has_token = self.previous_end > 0 || self.previous_kind == TokenKind::Hashbang;
         for index in first..self.comments.len() {
@@ -154,15 +170,8 @@ impl<'a> Lexer<'a> {
                 }
             }
         }
-        Ok(gap)
+        self.start_token(gap.end, gap.has_line_end);
     }
-}
-
-/// Returns whether a byte begins a token, and neither white space nor a comment. Of many a token, of most in
-/// minified texts, the first byte comes directly after the token before.
-#[inline(always)]
-fn begins_token(byte: u8) -> bool {
-    byte > b' ' && byte < 128 && !matches!(byte, b'/' | b'<' | b'-')
 }
 
 /// Returns whether a word stands in a text at an offset.

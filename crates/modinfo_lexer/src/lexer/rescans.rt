@@ -2,10 +2,13 @@
 
 use crate::characters::byte_at;
 use crate::lexer::Lexer;
-use crate::lexer::tokens::{template_part, token};
+use crate::lexer::fault::Fault;
+use crate::lexer::tokens::token;
+use crate::scan::escapes::bad_escape;
 use crate::scan::literals::{jsx_name_end, jsx_string_end, jsx_text_end, regular_expression_end};
 use crate::syntax_error::ReadError;
 use crate::token::{Token, TokenKind};
+use modinfo_pieces::choice::ChoiceKind;
 
 impl<'a> Lexer<'a> {
     /// Makes a token the current one. A line ends before it if one ends before the current one.
@@ -15,13 +18,13 @@ impl<'a> Lexer<'a> {
         self.token.is_after_line_end = is_after_line_end;
     }
 
-    /// Scans the current token, a `/` or `/=`, again as a regular expression.
+    /// Scans the current token, a `/` or `/=`, again as a regular expression, and keeps the choice.
     pub fn rescan_regular_expression(&mut self) -> Result<(), ReadError> {
         let start = self.token.start;
         match regular_expression_end(self.text, start) {
             Some(end) => {
                 self.replace(token(TokenKind::RegularExpression, start, end));
-                Ok(())
+                self.keep_choice(ChoiceKind::RegularExpression)
             }
             None => Err(ReadError::syntax(
                 "expected `/` at the end of the regular expression",
@@ -32,14 +35,29 @@ impl<'a> Lexer<'a> {
 
     /// Scans the current token, a `}`, again as the next part of a template.
     pub fn rescan_template_part(&mut self) -> Result<(), ReadError> {
-        let part = template_part(
-            self.text.as_bytes(),
-            self.token.start,
-            TokenKind::TemplateMiddle,
-            TokenKind::TemplateTail,
-        )?;
-        self.replace(part);
-        Ok(())
+        match self.scan_template_part(TokenKind::TemplateMiddle, TokenKind::TemplateTail) {
+            Ok(()) => Ok(()),
+            Err(fault) => Err(self.error_of(fault)),
+        }
+    }
+
+    /// Returns an error if the current token, a part of a template without a tag, has an escape that stands
+    /// for nothing.
+    #[inline(always)]
+    pub fn check_escapes(&self) -> Result<(), ReadError> {
+        if self.token.has_escape {
+            self.check_each_escape()
+        } else {
+            Ok(())
+        }
+    }
+
+    fn check_each_escape(&self) -> Result<(), ReadError> {
+        let Token { start, end, .. } = self.token;
+        match bad_escape(self.text.as_bytes(), start.saturating_add(1), end, true) {
+            Some(escape) => Err(Fault::Escape.error_at(escape)),
+            None => Ok(()),
+        }
     }
 
     /// Scans the current token again as its first byte alone, if that is `<` or `>`, as in types.
@@ -62,6 +80,21 @@ impl<'a> Lexer<'a> {
         }
     }
 
+    /// Scans the current token, which begins with `<`, again as the `<` of a JSX element in an expression,
+    /// and keeps the choice.
+    pub fn begin_jsx(&mut self) -> Result<(), ReadError> {
+        self.rescan_angle();
+        self.keep_choice(ChoiceKind::JsxElement)
+    }
+
+    /// Keeps a choice for the start of the current token.
+    fn keep_choice(&mut self, kind: ChoiceKind) -> Result<(), ReadError> {
+        match self.choose(kind, self.token.start) {
+            Ok(()) => Ok(()),
+            Err(fault) => Err(self.error_of(fault)),
+        }
+    }
+
     /// Marks the current token, a `>`, as the end of a JSX element.
     pub fn end_jsx(&mut self) {
         self.token.kind = TokenKind::JsxEnd;
@@ -69,31 +102,32 @@ impl<'a> Lexer<'a> {
 
     /// Goes on to the value of an attribute in JSX, in which a string has no escapes.
     pub fn next_jsx_value(&mut self) -> Result<(), ReadError> {
-        let from = self.token.end;
-        self.previous_kind = self.token.kind;
-        self.previous_end = from;
-        let gap = self.skip_gap(from)?;
-        let at = gap.end;
-        if !matches!(byte_at(self.text.as_bytes(), at), b'"' | b'\'') {
-            self.token = super::tokens::token_at(self.text, at)?;
-            self.token.is_after_line_end = gap.has_line_end;
-            return Ok(());
+        match self.advance_to_jsx_value() {
+            Ok(()) => Ok(()),
+            Err(fault) => Err(self.error_of(fault)),
         }
-        match jsx_string_end(self.text.as_bytes(), at) {
-            Some(end) => {
-                self.token = token(TokenKind::String, at, end);
-                self.token.is_after_line_end = gap.has_line_end;
-                Ok(())
-            }
-            None => Err(ReadError::syntax("expected a quote at the end of the string", at)),
+    }
+
+    fn advance_to_jsx_value(&mut self) -> Result<(), Fault> {
+        self.leave_token();
+        self.skip_gap(self.previous_end)?;
+        let text = self.text.as_bytes();
+        let start = self.token.start;
+        if !matches!(byte_at(text, start), b'"' | b'\'') {
+            return self.scan_token();
         }
+        self.token.has_escape = false;
+        self.end_literal(
+            TokenKind::String,
+            jsx_string_end(text, start),
+            Fault::String,
+        )
     }
 
     /// Goes on to the next child of a JSX element: text, `{`, `<` or the end of the text.
     pub fn next_jsx_child(&mut self) {
         let start = self.token.end;
-        self.previous_kind = self.token.kind;
-        self.previous_end = start;
+        self.leave_token();
         let bytes = self.text.as_bytes();
         let end = jsx_text_end(bytes, start);
         self.token = if end > start {

@@ -1,26 +1,23 @@
 use crate::characters::{byte_at, is_word_byte};
+use crate::classes::{JSX_STOP, PATTERN_STOP, STRING_STOP, TEMPLATE_STOP, next_of_class};
+use crate::scan::escapes::is_escape;
 use crate::scan::names::rest_of_name;
 
 /// Returns the end of the string whose quote is at an offset, or `None` if a line or the text ends
-/// before the string does.
+/// before the string does, or if an escape in it stands for nothing.
 pub fn string_end(text: &[u8], from: usize) -> Option<usize> {
     let quote = byte_at(text, from);
     let mut at = from.saturating_add(1);
-    'bytes: while at < text.len() {
-        let byte = text[at];
-        if byte == quote {
-            return Some(at + 1);
+    for _turn in 0..text.len() {
+        at = next_of_class(text, at, STRING_STOP);
+        match byte_at(text, at) {
+            byte if byte == quote => return Some(at.saturating_add(1)),
+            b'\\' if !is_escape(text, at) => return None,
+            b'\\' if is_line_end_pair(text, at.saturating_add(1)) => at = at.saturating_add(3),
+            b'\\' => at = at.saturating_add(2),
+            b'"' | b'\'' => at = at.saturating_add(1),
+            _ => return None,
         }
-        if byte == b'\n' || byte == b'\r' {
-            return None;
-        }
-        at = if byte != b'\\' {
-            at + 1
-        } else if is_line_end_pair(text, at + 1) {
-            at.saturating_add(3)
-        } else {
-            at.saturating_add(2)
-        };
     }
     None
 }
@@ -52,31 +49,38 @@ pub struct TemplateEnd {
     pub end: usize,
     /// Whether the part ends with `${`.
     pub has_substitution: bool,
+    pub has_escape: bool,
 }
 
 /// Returns the end of the part of a template whose text begins at an offset, or `None` if the text ends
 /// before the template does.
 pub fn template_end(text: &[u8], from: usize) -> Option<TemplateEnd> {
     let mut at = from;
-    'bytes: while at < text.len() {
-        let byte = text[at];
-        if byte == b'`' {
-            return Some(TemplateEnd {
-                end: at + 1,
-                has_substitution: false,
-            });
+    let mut has_escape = false;
+    for _turn in 0..text.len() {
+        at = next_of_class(text, at, TEMPLATE_STOP);
+        match byte_at(text, at) {
+            b'`' => {
+                return Some(TemplateEnd {
+                    end: at.saturating_add(1),
+                    has_substitution: false,
+                    has_escape,
+                });
+            }
+            b'$' if byte_at(text, at.saturating_add(1)) == b'{' => {
+                return Some(TemplateEnd {
+                    end: at.saturating_add(2),
+                    has_substitution: true,
+                    has_escape,
+                });
+            }
+            b'$' => at = at.saturating_add(1),
+            b'\\' => {
+                has_escape = true;
+                at = at.saturating_add(2);
+            }
+            _ => return None,
         }
-        if byte == b'$' && byte_at(text, at + 1) == b'{' {
-            return Some(TemplateEnd {
-                end: at.saturating_add(2),
-                has_substitution: true,
-            });
-        }
-        at = if byte == b'\\' {
-            at.saturating_add(2)
-        } else {
-            at + 1
-        };
     }
     None
 }
@@ -87,33 +91,25 @@ pub fn regular_expression_end(text: &str, from: usize) -> Option<usize> {
     let bytes = text.as_bytes();
     let mut is_in_class = false;
     let mut at = from.saturating_add(1);
-    'bytes: while at < bytes.len() {
-        let byte = bytes[at];
-        if is_line_end(bytes, at) {
+    for _turn in 0..bytes.len() {
+        at = next_of_class(bytes, at, PATTERN_STOP);
+        if at >= bytes.len() || is_line_end(bytes, at) {
             return None;
         }
-        if byte == b'/' && !is_in_class {
-            return Some(rest_of_name(text, at + 1, false).end);
+        let after = at.saturating_add(1);
+        match bytes[at] {
+            b'/' if !is_in_class => return Some(rest_of_name(text, after, false).end),
+            b'[' => is_in_class = true,
+            b']' => is_in_class = false,
+            _ => (),
         }
-        is_in_class = is_class_after(byte, is_in_class);
-        at = if byte == b'\\' && !is_line_end(bytes, at + 1) {
+        at = if bytes[at] == b'\\' && !is_line_end(bytes, after) {
             at.saturating_add(2)
         } else {
-            at + 1
+            after
         };
     }
     None
-}
-
-/// Returns whether a byte of a regular expression is inside a class after it, by whether it is before
-/// it.
-#[inline(always)]
-fn is_class_after(byte: u8, is_in_class: bool) -> bool {
-    match byte {
-        b'[' => true,
-        b']' => false,
-        _ => is_in_class,
-    }
 }
 
 /// Returns whether a line ends at an offset.
@@ -132,11 +128,7 @@ fn is_line_end(text: &[u8], at: usize) -> bool {
 /// Returns the end of the text of JSX from an offset on: the offset of the next `{` or `<`, or the
 /// text's end.
 pub fn jsx_text_end(text: &[u8], from: usize) -> usize {
-    let mut at = from;
-    'bytes: while at < text.len() && text[at] != b'{' && text[at] != b'<' {
-        at += 1;
-    }
-    at
+    next_of_class(text, from, JSX_STOP)
 }
 
 /// Returns the end of the name in JSX that goes on at an offset: such a name may have hyphens.

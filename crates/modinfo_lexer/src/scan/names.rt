@@ -1,13 +1,11 @@
 use crate::characters::{byte_at, character_at, is_word_byte, may_continue_name, may_start_name};
+use crate::classes::{WORD, end_of_class};
+use crate::scan::escapes::is_escape;
 
 /// Returns the end of the ASCII letters, digits, `$` and `_` from an offset on.
 #[inline(always)]
 pub fn word_end(text: &[u8], from: usize) -> usize {
-    let mut at = from;
-    'bytes: while at < text.len() && is_word_byte(text[at]) {
-        at += 1;
-    }
-    at
+    end_of_class(text, from, WORD)
 }
 
 /// The end of a name, and whether the name has an escape.
@@ -77,19 +75,11 @@ fn escape_end(text: &[u8], at: usize) -> Option<usize> {
         return None;
     }
     let digits = at.saturating_add(2);
+    if !is_escape(text, at) {
+        return None;
+    }
     if byte_at(text, digits) == b'{' {
-        let end = word_end(text, digits.saturating_add(1));
-        return if byte_at(text, end) == b'}' {
-            Some(end.saturating_add(1))
-        } else {
-            None
-        };
+        return Some(word_end(text, digits.saturating_add(1)).saturating_add(1));
     }
-    let end = digits.saturating_add(4);
-    let digits = text.get(digits..end)?;
-    if digits.iter().all(|digit| digit.is_ascii_hexdigit()) {
-        Some(end)
-    } else {
-        None
-    }
+    Some(digits.saturating_add(4))
 }

@@ -1,26 +1,106 @@
-use crate::characters::byte_at;
+use crate::characters::{byte_at, is_word_byte};
 use crate::scan::names::word_end;
 
-/// Returns the end of the number that begins at an offset, with a digit or with a dot before a digit.
-/// What a number may not have, as two separators in a row, isn't looked for.
-pub fn number_end(text: &[u8], from: usize) -> usize {
-    if byte_at(text, from) == b'0' && has_base(byte_at(text, from.saturating_add(1))) {
-        return word_end(text, from);
+/// Returns the end of the number that begins at an offset, with a digit or with a dot before a digit, or
+/// `None` if what begins there is none, as `1_`, `0b2` or `3in`.
+pub fn number_end(text: &[u8], from: usize) -> Option<usize> {
+    let end = if byte_at(text, from) == b'0' {
+        number_after_zero(text, from)?
+    } else {
+        decimal_end(text, from)?
+    };
+    let next = byte_at(text, end);
+    if is_word_byte(next) || next == b'\\' {
+        return None;
     }
-    let mut end = digits_end(text, from);
-    if byte_at(text, end) == b'.' && !is_octal(text.get(from..end).unwrap_or(&[])) {
-        end = digits_end(text, end.saturating_add(1));
-    }
-    end = exponent_end(text, end);
-    if byte_at(text, end) == b'n' {
-        end = end.saturating_add(1);
-    }
-    end
+    Some(end)
 }
 
-/// Returns whether a letter after a zero names the base of a number.
-fn has_base(letter: u8) -> bool {
-    matches!(letter, b'x' | b'X' | b'o' | b'O' | b'b' | b'B')
+/// Returns the end of the number that begins with the zero at an offset.
+fn number_after_zero(text: &[u8], from: usize) -> Option<usize> {
+    match byte_at(text, from.saturating_add(1)) {
+        b'x' | b'X' => based_end(text, from, 16),
+        b'o' | b'O' => based_end(text, from, 8),
+        b'b' | b'B' => based_end(text, from, 2),
+        b'0'..=b'9' | b'_' => old_end(text, from),
+        _ => decimal_end(text, from),
+    }
+}
+
+/// Returns the end of the number that begins with a zero and the letter of a base.
+fn based_end(text: &[u8], from: usize, base: u8) -> Option<usize> {
+    let digits = from.saturating_add(2);
+    let end = word_end(text, digits);
+    let digits = match text.get(digits..end)? {
+        [front @ .., b'n'] => front,
+        digits => digits,
+    };
+    let is_number = digits
+        .iter()
+        .all(|digit| *digit == b'_' || is_digit(*digit, base));
+    if digits.is_empty() || !is_number || has_loose_separator(digits) {
+        return None;
+    }
+    Some(end)
+}
+
+/// Returns whether a byte is a digit to a base of at most sixteen.
+fn is_digit(byte: u8, base: u8) -> bool {
+    match base {
+        2 => matches!(byte, b'0' | b'1'),
+        8 => matches!(byte, b'0'..=b'7'),
+        _ => byte.is_ascii_hexdigit(),
+    }
+}
+
+/// Returns the end of the number that begins with a zero before another digit, as only scripts have them:
+/// to base eight, or with an 8 or a 9 a decimal.
+fn old_end(text: &[u8], from: usize) -> Option<usize> {
+    let end = digits_end(text, from);
+    let digits = text.get(from..end)?;
+    if digits.contains(&b'_') {
+        return None;
+    }
+    if is_octal(digits) || byte_at(text, end) == b'n' {
+        return Some(end);
+    }
+    decimal_end(text, from)
+}
+
+/// Returns the end of a decimal with its fraction, its exponent or the `n` of a large integer.
+fn decimal_end(text: &[u8], from: usize) -> Option<usize> {
+    let whole = digits_end(text, from);
+    if byte_at(text, whole) == b'n' {
+        return end_without_loose_separator(text, from, whole.saturating_add(1));
+    }
+    let mut end = whole;
+    if byte_at(text, end) == b'.' {
+        end = digits_end(text, end.saturating_add(1));
+    }
+    end_without_loose_separator(text, from, exponent_end(text, end))
+}
+
+/// Returns the end of a number, or `None` if a separator in it isn't between two digits.
+#[inline(always)]
+fn end_without_loose_separator(text: &[u8], from: usize, end: usize) -> Option<usize> {
+    if has_loose_separator(text.get(from..end)?) {
+        None
+    } else {
+        Some(end)
+    }
+}
+
+/// Returns whether a separator isn't between two digits.
+fn has_loose_separator(number: &[u8]) -> bool {
+    for at in 0..number.len() {
+        if number[at] == b'_'
+            && !(byte_at(number, at.wrapping_sub(1)).is_ascii_hexdigit()
+                && byte_at(number, at.saturating_add(1)).is_ascii_hexdigit())
+        {
+            return true;
+        }
+    }
+    false
 }
 
 /// Returns whether digits are a number to base eight by a zero before others, as only scripts have

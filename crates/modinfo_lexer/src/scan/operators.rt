@@ -8,22 +8,33 @@ pub struct Operator {
     pub end: usize,
 }
 
-/// Returns the token of punctuation at an offset, the longest one, or `None` if there is none. A slash is
-/// a division, and a brace ends no part of a template.
+/// Returns the kind of the token that is a bracket or a separator by its first byte, or `None` if there is
+/// none. A brace ends no part of a template.
+#[inline(always)]
+pub fn bracket_or_separator(first: u8) -> Option<TokenKind> {
+    let kind = match first {
+        b'{' => TokenKind::BraceOpen,
+        b'}' => TokenKind::BraceClose,
+        b'(' => TokenKind::ParenOpen,
+        b')' => TokenKind::ParenClose,
+        b'[' => TokenKind::BracketOpen,
+        b']' => TokenKind::BracketClose,
+        b';' => TokenKind::Semicolon,
+        b',' => TokenKind::Comma,
+        b':' => TokenKind::Colon,
+        b'~' => TokenKind::Tilde,
+        b'@' => TokenKind::At,
+        _ => return None,
+    };
+    Some(kind)
+}
+
+/// Returns the other token of punctuation at an offset, the longest one, or `None` if there is none. A
+/// slash is a division.
+#[inline(always)]
 pub fn operator_at(text: &[u8], at: usize) -> Option<Operator> {
     let next = byte_at(text, at.saturating_add(1));
     let (kind, length) = match byte_at(text, at) {
-        b'{' => (TokenKind::BraceOpen, 1),
-        b'}' => (TokenKind::BraceClose, 1),
-        b'(' => (TokenKind::ParenOpen, 1),
-        b')' => (TokenKind::ParenClose, 1),
-        b'[' => (TokenKind::BracketOpen, 1),
-        b']' => (TokenKind::BracketClose, 1),
-        b';' => (TokenKind::Semicolon, 1),
-        b',' => (TokenKind::Comma, 1),
-        b':' => (TokenKind::Colon, 1),
-        b'~' => (TokenKind::Tilde, 1),
-        b'@' => (TokenKind::At, 1),
         b'.' => dots(next, byte_at(text, at.saturating_add(2))),
         b'?' => question(next, byte_at(text, at.saturating_add(2))),
         b'=' => equal(next, byte_at(text, at.saturating_add(2))),

@@ -1,4 +1,6 @@
 use crate::characters::{byte_at, character_at, is_wide_line_end, is_wide_space};
+use crate::classes::{BLANK, end_of_class};
+use memchr::{memchr, memchr3};
 
 /// The end of white space, and whether a line ends in it.
 #[derive(Clone, Copy)]
@@ -24,9 +26,13 @@ pub fn space_end(text: &str, from: usize) -> SpaceEnd {
 fn ascii_space_end(text: &[u8], from: usize, has_line_end: bool) -> SpaceEnd {
     let mut at = from;
     let mut has_line_end = has_line_end;
-    'bytes: while at < text.len() && (text[at] == b' ' || matches!(text[at], 9..=13)) {
-        has_line_end |= text[at] == b'\n' || text[at] == b'\r';
-        at += 1;
+    for _turn in 0..text.len() {
+        at = end_of_class(text, at, BLANK);
+        if !matches!(byte_at(text, at), b'\n' | b'\r') {
+            break;
+        }
+        has_line_end = true;
+        at = at.saturating_add(1);
     }
     SpaceEnd {
         end: at,
@@ -54,12 +60,16 @@ fn wide_space_end(text: &str, from: SpaceEnd) -> SpaceEnd {
 /// Returns the offset of the next line end from an offset on, or the text's end.
 pub fn line_end(text: &[u8], from: usize) -> usize {
     let mut at = from;
-    'bytes: while at < text.len() {
-        match text[at] {
-            b'\n' | b'\r' => break,
-            0xE2 if is_wide_line_end_at(text, at) => break,
-            _ => at += 1,
+    for _turn in 0..text.len() {
+        let rest = text.get(at..).unwrap_or(&[]);
+        match memchr3(b'\n', b'\r', 0xE2, rest) {
+            Some(length) => at = at.saturating_add(length),
+            None => return text.len(),
         }
+        if byte_at(text, at) != 0xE2 || is_wide_line_end_at(text, at) {
+            return at;
+        }
+        at = at.saturating_add(1);
     }
     at
 }
@@ -73,21 +83,17 @@ fn is_wide_line_end_at(text: &[u8], at: usize) -> bool {
 /// Returns the offset after the `*/` that ends the block comment at an offset, and whether a line ends
 /// inside the comment; or `None` if the text ends before the comment does.
 pub fn block_comment_end(text: &[u8], from: usize) -> Option<SpaceEnd> {
-    let mut at = from.saturating_add(2);
-    let mut has_line_end = false;
-    'bytes: while at < text.len() {
-        match text[at] {
-            b'*' if byte_at(text, at + 1) == b'/' => {
-                return Some(SpaceEnd {
-                    end: at.saturating_add(2),
-                    has_line_end,
-                });
-            }
-            b'\n' | b'\r' => has_line_end = true,
-            0xE2 if is_wide_line_end_at(text, at) => has_line_end = true,
-            _ => (),
+    let inside = from.saturating_add(2);
+    let mut at = inside;
+    for _turn in 0..text.len() {
+        at = at.saturating_add(memchr(b'/', text.get(at..)?)?);
+        if at > inside && byte_at(text, at - 1) == b'*' {
+            return Some(SpaceEnd {
+                end: at.saturating_add(1),
+                has_line_end: line_end(text.get(..at)?, inside) < at,
+            });
         }
-        at += 1;
+        at = at.saturating_add(1);
     }
     None
 }

@@ -2,14 +2,8 @@ use Rattle.std.proofs.Common.{subst, sym}
 use Rattle.std.specs.List.{All}
 use Rattle.modinfo_source.specs.Spelled.{NodeIsSpelled}
 use Rattle.modinfo_source.specs.internal.Parts.{PartIsCooked}
-use Rattle.modinfo_source.proofs.SpelledNodes.{
-  All-left,
-  All-right,
-  nodes_below,
-  spelled_left,
-  spelled_more,
-  spelled_right,
-}
+use Rattle.modinfo_source.proofs.SpelledNodes.{All-left, All-right, nodes_below, spelled_left, spelled_more}
+use Rattle.modinfo_source.proofs.SpelledNodes.{spelled_right}
 use Rattle.modinfo_source.proofs.tree.OpenNodes.add.Goals as goal
 
 pub node_of-requires-clause-nodes : goal.node_of-requires-clause-nodes

@@ -1,0 +1,27 @@
+-- What is found among the pieces of a text.
+use Rattle.std.specs.Prelude.{◌≡◌, ℕ, Bool, List, filter}
+use Rattle.std.specs.List.{All, Contains}
+use Rattle.modinfo_imports.specs.Watches.{IsWatchEnd, Watch, Watches, watch_start}
+use Rattle.modinfo_pieces.specs.Places.{Place, start}
+use Rattle.modinfo_pieces.specs.Tiles.{AreTiles, is_comment}
+use Rattle.modinfo_pieces.specs.declared.choice.Choice.{Choice}
+use Rattle.modinfo_pieces.specs.declared.piece.Piece.{Piece}
+
+-- A watch goes over the pieces of a text to its end: each claim is met, and each word `import` is a claim or
+-- a name.
+pub record AreWatched (text : List ℕ) (is_typed : Bool) (choices : List Choice) (claims pieces : List Piece)
+    : Type 0 where
+  pub end : Place
+  pub watch : Watch
+  pub watches : Watches text is_typed (start choices) (watch_start claims) pieces end watch
+  pub is_watch_end : IsWatchEnd watch
+
+-- A text is pieces side by side, among them exactly these comments. Each claim is a piece, and each word
+-- `import` is a claim or a name.
+pub record HasFound (text : List ℕ) (is_typed : Bool) (choices : List Choice) (claims comments : List Piece)
+    : Type 0 where
+  pub pieces : List Piece
+  pub are_tiles : AreTiles text choices pieces
+  pub are_watched : AreWatched text is_typed choices claims pieces
+  pub are_pieces : All (Contains pieces) claims
+  pub comments_are : comments ≡ filter is_comment pieces

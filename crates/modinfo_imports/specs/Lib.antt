@@ -1,0 +1,6 @@
+pub mod Claims
+pub mod Duties
+pub mod Watches
+pub mod Sights
+pub mod Found
+pub mod Nodes

@@ -1,0 +1,116 @@
+//! What is found among the pieces of a text.
+
+ghost use Rattle.std.specs.Prelude.{◌≡◌, ◌∷◌, ◌++◌, [], IfOk, IfSome, IsTrue, OnOk, filter};
+ghost use Rattle.modinfo_pieces.specs.Places.{chosen, context_of, start};
+ghost use Rattle.modinfo_pieces.specs.Spots.{place_of};
+ghost use Rattle.modinfo_pieces.specs.Tiles.{IsEnd, is_comment};
+ghost use Rattle.modinfo_imports.specs.Found.{HasFound};
+
+use crate::duty::Parentheses;
+use crate::watch::{is_watch_end, watch_piece, watch_start};
+use modinfo_pieces::choice::{Choice, ChoiceKind};
+use modinfo_pieces::piece::{Piece, PieceKind};
+use modinfo_pieces::place::{Before, Context, Openings};
+use modinfo_pieces::places::{Spot, next_piece};
+use std::alloc::{AllocError, Global};
+
+/// Returns the comments among the pieces of a text; or the offset where the text isn't pieces side by side by
+/// these choices, or isn't what a tree claims: a claim is no piece, or a word `import` is neither a claim nor a
+/// name. The claims are in the order of the text. In a typed text methods may have no body.
+pub fn find(
+    alloc: Global,
+    text: &[u8],
+    is_typed: bool,
+    choices: &[Choice],
+    claims: &[Piece],
+) -> Result<Result<Vec<Piece>, usize>, AllocError>
+    ensures { IfOk result (λ found. IfOk found (λ comments.
+        HasFound text.now is_typed choices.now claims.now comments.items)) }
+{
+    let mut around = Openings::new(alloc);
+    let mut parentheses = Parentheses::new(alloc);
+    let mut comments = Vec::new(alloc);
+    let mut spot = start(choices);
+    let mut seen = watch_start(claims);
+    'pieces: while spot.at < text.len() {
+        let context = context_of(spot, &around);
+        let Some(step) = next_piece(text, spot, &mut around)? else {
+            return Ok(Err(spot.at));
+        };
+        let Some(after) = watch_piece(text, is_typed, context, step.piece, seen, &mut parentheses)?
+        else {
+            return Ok(Err(spot.at));
+        };
+        keep(step.piece, &mut comments)?;
+        seen = after;
+        spot = step.next;
+    }
+    if is_end(text, spot, &around) && is_watch_end(seen, &parentheses) {
+        Ok(Ok(comments))
+    } else {
+        Ok(Err(first_start(seen.claims)))
+    }
+}
+
+/// Returns the start of a text.
+fn start(choices: &[Choice]) -> Spot<'_>
+    ensures { place_of result [] ≡ start choices.now }
+{
+    Spot {
+        at: 0,
+        before: Before::Free,
+        is_after_line_end: true,
+        choices,
+    }
+}
+
+/// Returns what is known at a spot with these openings around.
+#[inline(always)]
+fn context_of(spot: Spot<'_>, around: &Openings) -> Context
+    ensures { result ≡ context_of (place_of spot.entry around.now) }
+{
+    Context {
+        inside: around.innermost(),
+        before: spot.before,
+        is_after_line_end: spot.is_after_line_end,
+        chosen: chosen(spot.at, spot.choices),
+    }
+}
+
+/// Returns the choice for an offset, if the first of some choices is for the offset.
+#[inline(always)]
+fn chosen(at: usize, choices: &[Choice]) -> Option<ChoiceKind>
+    ensures { result ≡ chosen at choices.now }
+{
+    match choices {
+        [first, ..] if first.offset == at => Some(first.kind),
+        _ => None,
+    }
+}
+
+/// Keeps a piece, if it is a comment.
+#[inline(always)]
+fn keep(piece: Piece, comments: &mut Vec<Piece>) -> Result<(), AllocError>
+    ensures { OnOk result (comments.new.items ≡ comments.old.items ++ filter is_comment (piece ∷ [])) }
+{
+    match piece.kind {
+        PieceKind::LineComment | PieceKind::BlockComment => comments.push(piece)?,
+        _ => (),
+    }
+    Ok(())
+}
+
+/// Returns whether a spot with these openings is the end of a text.
+fn is_end(text: &[u8], spot: Spot<'_>, around: &Openings) -> bool
+    ensures { IsTrue result → IsEnd text.now (place_of spot.entry around.now) }
+{
+    spot.at == text.len() && around.is_empty() && spot.choices.is_empty()
+}
+
+/// Returns where the first of these pieces begins, zero if there is none.
+fn first_start(pieces: &[Piece]) -> usize {
+    match pieces {
+        [first, ..] => first.start,
+        [] => 0,
+    }
+}

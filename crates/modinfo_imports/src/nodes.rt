@@ -1,0 +1,254 @@
+//! The pieces of a text that the nodes of its tree stand on.
+#![tactic(auto, unfolding(deno_graph_source::specs::Node::kind_of, deno_graph_source::specs::Node::range_of, deno_graph_source::specs::Node::children_of))]
+
+ghost use Rattle.std.specs.Prelude.{◌≡◌, ◌++◌, codes, IfOk, OnOk, option_map};
+ghost use Rattle.std.specs.List.{flat_map};
+ghost use Rattle.std.specs.Option.{option_to_list};
+ghost use Rattle.deno_graph_source.specs.Node.{children_of, kind_of, literal_of, nodes_in, range_of};
+ghost use Rattle.modinfo_imports.specs.Nodes.{
+  AreClaims,
+  alias_claim,
+  begin_claim,
+  call_claim,
+  claims_of,
+  export_claim,
+  has_word,
+  literal_claim,
+  module_claim,
+  name_claim,
+  no_piece,
+  piece_at,
+  template_claim,
+  value_claim,
+  word_claim,
+};
+
+use deno_graph_base::text::SourceRange;
+use deno_graph_source::tree::{Callee, Kind, Node, Program, StrLit};
+use modinfo_pieces::bytes::byte_at;
+use modinfo_pieces::piece::{Piece, PieceKind};
+use std::alloc::{AllocError, Global};
+
+/// Returns the pieces that the nodes of a program stand on, in the order of the text.
+#[tactic(auto, unfolding(deno_graph_source::specs::Node::nodes_of))]
+pub fn claims_of(alloc: Global, text: &[u8], program: &Program) -> Result<Vec<Piece>, AllocError>
+    ensures { IfOk result (λ claims. AreClaims text.now program.now claims.items) }
+{
+    let mut claims = Vec::new(alloc);
+    claim_nodes(text, program.body.as_slice(), &mut claims)?;
+    claims.sort_by_key(|claim| claim.start)?;
+    Ok(claims)
+}
+
+/// Adds the pieces that nodes, and all nodes below them, stand on.
+fn claim_nodes(text: &[u8], nodes: &[Node], claims: &mut Vec<Piece>) -> Result<(), AllocError>
+    ensures { OnOk result (claims.new.items
+        ≡ claims.old.items ++ flat_map (claims_of text.now) (flat_map nodes_in nodes.now)) }
+{
+    for node in nodes {
+        claim_below(text, node, claims)?;
+    }
+    Ok(())
+}
+
+/// Adds the pieces that a node, and all nodes below it, stand on.
+fn claim_below(text: &[u8], node: &Node, claims: &mut Vec<Piece>) -> Result<(), AllocError>
+    ensures { OnOk result (claims.new.items
+        ≡ claims.old.items ++ flat_map (claims_of text.now) (nodes_in node.now)) }
+{
+    claim_node(text, node, claims)?;
+    for child in node.children.as_slice() {
+        claim_below(text, child, claims)?;
+    }
+    Ok(())
+}
+
+/// Adds the pieces that a node stands on.
+fn claim_node(text: &[u8], node: &Node, claims: &mut Vec<Piece>) -> Result<(), AllocError>
+    ensures { OnOk result (claims.new.items ≡ claims.old.items ++ claims_of text.now node.now) }
+{
+    claim(begin_claim(text, node.range.start, &node.kind), claims)?;
+    claim(literal_of(node.range, &node.kind), claims)?;
+    claim(
+        value_claim(text, node.range, node.children.as_slice(), &node.kind),
+        claims,
+    )
+}
+
+/// Adds a piece, if there is one.
+fn claim(piece: Option<Piece>, claims: &mut Vec<Piece>) -> Result<(), AllocError>
+    ensures { OnOk result (claims.new.items ≡ claims.old.items ++ option_to_list piece) }
+{
+    match piece {
+        Some(piece) => Ok(claims.push(piece)?),
+        None => Ok(()),
+    }
+}
+
+/// Returns the piece that a node of a kind begins with, if it must begin with one.
+fn begin_claim(text: &[u8], at: usize, kind: &Kind) -> Option<Piece>
+    ensures { result ≡ begin_claim text.now at kind.now }
+{
+    match kind {
+        Kind::ImportDecl { .. } | Kind::ImportType { .. } | Kind::ImportMeta => {
+            Some(import_claim(text, at))
+        }
+        Kind::NamedExport { .. } | Kind::ExportAll { .. } => Some(export_claim(text, at)),
+        Kind::ImportEquals { is_export, .. } => Some(alias_claim(text, at, *is_export)),
+        Kind::ModuleDecl { .. } => Some(module_claim(text, at)),
+        Kind::Call { callee, .. } => call_claim(text, at, *callee),
+        _ => None,
+    }
+}
+
+/// Returns the word `import` at an offset.
+fn import_claim(text: &[u8], at: usize) -> Piece
+    ensures { result ≡ word_claim text.now at (codes "import") }
+{
+    word_claim(text, at, b"import")
+}
+
+/// Returns the word `export` at an offset, or the `@` of a decorator before it.
+fn export_claim(text: &[u8], at: usize) -> Piece
+    ensures { result ≡ export_claim text.now at }
+{
+    if at < text.len() && byte_at(text, at) == b'@' {
+        Piece {
+            kind: PieceKind::Punctuation,
+            start: at,
+            end: at + 1,
+        }
+    } else {
+        word_claim(text, at, b"export")
+    }
+}
+
+/// Returns the word `module` at an offset, or the `declare` before it.
+fn module_claim(text: &[u8], at: usize) -> Piece
+    ensures { result ≡ module_claim text.now at }
+{
+    if has_word(text, at, b"module") {
+        word_claim(text, at, b"module")
+    } else {
+        word_claim(text, at, b"declare")
+    }
+}
+
+/// Returns the word that an alias begins with.
+fn alias_claim(text: &[u8], at: usize, is_export: bool) -> Piece
+    ensures { result ≡ alias_claim text.now at is_export }
+{
+    if is_export {
+        export_claim(text, at)
+    } else {
+        import_claim(text, at)
+    }
+}
+
+/// Returns the word `import` that a call begins with.
+fn call_claim(text: &[u8], at: usize, callee: Callee) -> Option<Piece>
+    ensures { result ≡ call_claim text.now at callee }
+{
+    match callee {
+        Callee::Import(_) => Some(import_claim(text, at)),
+        _ => None,
+    }
+}
+
+/// Returns a word at an offset, or no piece if the text has another there.
+fn word_claim(text: &[u8], at: usize, word: &[u8]) -> Piece
+    ensures { result ≡ word_claim text.now at word.now }
+{
+    if has_word(text, at, word) {
+        Piece {
+            kind: PieceKind::Word,
+            start: at,
+            end: at + word.len(),
+        }
+    } else {
+        no_piece(at)
+    }
+}
+
+/// Returns whether a word is at an offset.
+fn has_word(text: &[u8], at: usize, word: &[u8]) -> bool
+    ensures { result ≡ has_word text.now at word.now }
+{
+    at <= text.len() && word.len() <= text.len() - at && &text[at..at + word.len()] == word
+}
+
+/// Returns a piece that no text has.
+fn no_piece(at: usize) -> Piece
+    ensures { result ≡ no_piece at }
+{
+    Piece {
+        kind: PieceKind::Word,
+        start: at,
+        end: at,
+    }
+}
+
+/// Returns the string that a node of a kind has.
+fn literal_of(range: SourceRange, kind: &Kind) -> Option<Piece>
+    ensures { result ≡ option_map (literal_claim range) (literal_of kind.now) }
+{
+    match kind.literal() {
+        Some(literal) => Some(literal_claim(range, literal)),
+        None => None,
+    }
+}
+
+/// Returns the string of a literal, or no piece if the string isn't inside a range.
+fn literal_claim(range: SourceRange, literal: &StrLit) -> Piece
+    ensures { result ≡ literal_claim range literal.now }
+{
+    if range.start <= literal.range.start && literal.range.end <= range.end {
+        piece_at(PieceKind::String, literal.range)
+    } else {
+        no_piece(literal.range.start)
+    }
+}
+
+/// Returns the piece of a kind at a range.
+fn piece_at(kind: PieceKind, range: SourceRange) -> Piece
+    ensures { result ≡ piece_at kind range }
+{
+    Piece {
+        kind,
+        start: range.start,
+        end: range.end,
+    }
+}
+
+/// Returns the string, the name or the template that a node of a kind is.
+fn value_claim(text: &[u8], range: SourceRange, children: &[Node], kind: &Kind) -> Option<Piece>
+    ensures { result ≡ value_claim text.now range children.now kind.now }
+{
+    match kind {
+        Kind::Str(_) => Some(piece_at(PieceKind::String, range)),
+        Kind::Ident(_) => Some(name_claim(text, range)),
+        Kind::Template(_) => template_claim(range, children),
+        _ => None,
+    }
+}
+
+/// Returns the word of a name, or no piece if the word is `import`.
+fn name_claim(text: &[u8], range: SourceRange) -> Piece
+    ensures { result ≡ name_claim text.now range }
+{
+    if range.end.saturating_sub(range.start) == 6 && has_word(text, range.start, b"import") {
+        no_piece(range.start)
+    } else {
+        piece_at(PieceKind::Word, range)
+    }
+}
+
+/// Returns the template at a range, if it has no expressions.
+fn template_claim(range: SourceRange, children: &[Node]) -> Option<Piece>
+    ensures { result ≡ template_claim range children.now }
+{
+    match children {
+        [] => Some(piece_at(PieceKind::Template, range)),
+        _ => None,
+    }
+}

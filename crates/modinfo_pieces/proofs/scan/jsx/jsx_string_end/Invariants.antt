@@ -1,0 +1,11 @@
+-- Bytes of the string so far.
+use Rattle.std.proofs.Common.{length, ◌-◌}
+use Rattle.modinfo_pieces.specs.Jsx.{jsx_string_step}
+use Rattle.modinfo_pieces.specs.Steps.{Reaches}
+use Rattle.modinfo_pieces.proofs.scan.jsx.jsx_string_end.Given as goal
+
+abbrev pub invariant-bytes : goal.invariant-bytes
+invariant-bytes l = Reaches (jsx_string_step l.quote l.text) l.from l.at
+
+abbrev pub decreases-bytes : goal.decreases-bytes
+decreases-bytes l = length l.text - l.at

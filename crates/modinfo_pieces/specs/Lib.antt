@@ -1,0 +1,14 @@
+pub mod Steps
+pub mod Spaces
+pub mod Comments
+pub mod Words
+pub mod Literals
+pub mod Jsx
+pub mod Openings
+pub mod Kinds
+pub mod WordClasses
+pub mod Ends
+pub mod Befores
+pub mod Places
+pub mod Tiles
+pub mod Spots

@@ -1,0 +1,17 @@
+//! The pieces of a text, side by side: white space, comments, words, strings, parts of templates, regular
+//! expressions, text and strings of JSX, and single bytes of punctuation.
+#![tactic(auto)]
+
+pub mod befores;
+pub mod bytes;
+pub mod choice;
+pub mod classes;
+pub mod ends;
+pub mod kinds;
+pub mod openings;
+pub mod piece;
+pub mod place;
+pub mod places;
+pub mod scan;
+pub mod tiles;
+pub mod word_classes;

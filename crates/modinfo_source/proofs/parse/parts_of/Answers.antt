@@ -1,0 +1,29 @@
+-- The claims of the tree stand in the text.
+use Rattle.std.proofs.Common.{subst}
+use Rattle.deno_graph_source.specs.MediaType.{is_typed}
+use Rattle.deno_graph_source.specs.declared.tree.node.Program.{Program}
+use Rattle.modinfo_imports.specs.Nodes.{AreClaims}
+use Rattle.modinfo_source.specs.OfText.{StandIn}
+use Rattle.modinfo_source.proofs.OfTexts.{HasComments-stand, IsOfText-claimed}
+use Rattle.modinfo_source.proofs.parse.parts_of.Goals as goal
+
+pub returns-clause-comments : goal.returns-clause-comments
+returns-clause-comments c =
+    HasComments-stand c.args.text.now _ _ c.in_ok-comments.comments c.in_ok-comments.ensures
+
+pub returns-clause-of_text : goal.returns-clause-of_text
+returns-clause-of_text c =
+    let text = c.args.text.now in
+    let comments = c.in_ok-comments.comments in
+    let program : Program = record {
+      range = c.new.result;
+      body = c.in_ok-body_of.field-0;
+      has_shebang = c.in_ok-nodes.field-0.has_hashbang;
+    } in
+    let claims = c.in_ok-claims.claims.items in
+    let stand = subst (λ cs. StandIn text (is_typed c.args.media_type) cs comments) c.deref-3.ensures.value
+    (subst (λ typed. StandIn text typed c.deref-3.result.now comments) c.is_typed.ensures
+    c.in_ok-comments.ensures) in
+    let are = subst (λ bytes. AreClaims bytes program claims) c.as_bytes.ensures.value
+    c.in_ok-claims.ensures in
+    IsOfText-claimed text (is_typed c.args.media_type) program claims comments are stand
