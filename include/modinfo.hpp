@@ -1,8 +1,8 @@
 /* modinfo for C++17 and later: the functions of modinfo.h, over std::string_view and std::string.
  *
- * An answer is returned without its line feed. A fault is thrown as modinfo::fault, and std::bad_alloc where an
- * allocation fails. The check of a document throws no fault: the report has it. Calls may run side by side in many
- * threads.
+ * An answer is returned without its line feed. A fault is thrown as modinfo::fault, std::bad_alloc where an
+ * allocation fails, and std::invalid_argument for a number that is no media type. The check of a document throws no
+ * fault: the report has it. Calls may run side by side in many threads.
  */
 #ifndef MODINFO_HPP
 #define MODINFO_HPP
@@ -109,6 +109,8 @@ template <typename Check> std::string answer(written found, Check check)
 {
     if (found.status == MODINFO_ANSWERED)
         return without_line_feed(std::move(found.text));
+    if (found.status == MODINFO_NO_MEDIA_TYPE)
+        throw std::invalid_argument("no media type has this number");
     if (found.text == "OutOfMemory")
         throw std::bad_alloc();
     written report = check();
@@ -139,7 +141,7 @@ inline std::string module_info(std::string_view text, std::string_view specifier
 }
 
 /* The report on a source text: {"valid":true}, or where its error is. Throws the fault Input for a text or a specifier
- * that isn't UTF-8, and Tree for a number that is no media type. */
+ * that isn't UTF-8. */
 inline std::string check_source(std::string_view text, std::string_view specifier,
                                 media_type media = media_type::of_specifier)
 {

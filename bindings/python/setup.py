@@ -1,9 +1,15 @@
-"""Puts libmodinfo.so into the wheel, and tags the wheel by what that library needs."""
+"""Puts libmodinfo.so into the wheel, and whether that is proved into its metadata. Tags the wheel by what the library
+needs.
 
+A library that isn't proved is refused, unless the environment has MODINFO_UNCHECKED=1.
+"""
+
+import hashlib
 import os
 import re
 import sys
 from pathlib import Path
+from typing import Any
 
 from elftools.elf.elffile import ELFFile
 from elftools.elf.gnuversions import GNUVerNeedSection
@@ -15,8 +21,9 @@ LIBRARY = "libmodinfo.so"
 HERE = Path(__file__).resolve().parent
 # The libraries that each manylinux system has, of which this one may need any.
 ALLOWED = {"libc.so.6", "libm.so.6", "libpthread.so.0", "libdl.so.2", "ld-linux-x86-64.so.2", "ld-linux-aarch64.so.1"}
+UNCHECKED = "This build is unchecked: nothing is proved of it."
 MACHINES = {"x64": "x86_64", "AArch64": "aarch64"}
-# The oldest manylinux of which every pip for Python 3.11 knows.
+# The oldest manylinux of which every pip for Python 3.10 knows.
 OLDEST_GLIBC = (2, 17)
 
 
@@ -25,16 +32,61 @@ def fail(message: str) -> None:
 
 
 def library() -> Path:
-    """The library in the folder MODINFO_LIB_DIR or, where that isn't set, in build/ of the repository."""
-    folder = os.environ.get("MODINFO_LIB_DIR") or str(HERE / "../../build")
-    path = Path(folder) / LIBRARY
+    path = place()
     if not path.is_file():
         fail(
-            f"{path} isn't there. The package is built with the library modinfo: set MODINFO_LIB_DIR to the folder of "
+            f"{path} not found. The package is built with the library modinfo: set MODINFO_LIB_DIR to the folder of "
             f"{LIBRARY}, which tools/build_library of the repository makes and the package libmodinfo0 of Debian "
             "installs; or install the wheel that bindings/python/make_wheel makes"
         )
+    if origin(path)[0] != "proved" and not os.environ.get("MODINFO_UNCHECKED"):
+        fail(
+            f"{path} isn't proved, by the stamp beside it: run tools/build_library, or say --unchecked to "
+            "bindings/python/make_wheel, or set MODINFO_UNCHECKED=1"
+        )
     return path
+
+
+def place() -> Path:
+    """The library in the folder MODINFO_LIB_DIR or, where that isn't set, in build/ of the repository."""
+    return Path(os.environ.get("MODINFO_LIB_DIR") or HERE / "../../build") / LIBRARY
+
+
+def origin(path: Path) -> tuple[str, str]:
+    """Whether a library is proved, and the hash of its sources: by the stamp beside it or, where tools/install has put
+    it, by the file for pkg-config. Unchecked where there is neither, or the stamp is of another file."""
+    stamp, installed = path.with_name(f"{LIBRARY}.origin"), path.parent / "pkgconfig/modinfo.pc"
+    if stamp.is_file():
+        kind, *rest = stamp.read_text().splitlines()
+        named = dict(line.split(" ", 1) for line in rest)
+        if named.get("file") == hashlib.sha256(path.read_bytes()).hexdigest():
+            return kind, named.get("sources", "unknown")
+    elif installed.is_file():
+        named = dict(line.split("=", 1) for line in installed.read_text().splitlines() if "=" in line)
+        return named.get("build", "unchecked"), named.get("sources", "unknown")
+    return "unchecked", "unknown"
+
+
+def claim(page: str) -> str:
+    """The page's sentence about what is proved."""
+    [sentence] = re.findall(r"formats: claim -->\n(.*?\.) ", page)
+    return str(sentence)
+
+
+def metadata() -> dict[str, Any]:
+    """The description and the keywords, which have whether the library is proved. An archive of the sources has none of
+    that, since it has no library."""
+    about = "What one JavaScript or TypeScript module depends on, from its text"
+    page, keywords = (HERE / "README.md").read_text(), ["javascript", "typescript", "dependencies", "imports"]
+    if not place().is_file():
+        return {"description": about, "long_description": page, "keywords": keywords}
+    kind, sources = origin(place())
+    is_proved = kind == "proved"
+    return {
+        "description": f"{about}. {claim(page) if is_proved else UNCHECKED}",
+        "long_description": page if is_proved else f"{UNCHECKED}\n\n{page}",
+        "keywords": [*keywords, f"modinfo-build={kind}", f"modinfo-sources={sources}"],
+    }
 
 
 def platform(path: Path) -> str:
@@ -70,7 +122,6 @@ class BuildWithLibrary(build_py):
             )
         super().run()
         made = library()
-        # The stamp says whether the library is proved, and has a hash of its sources.
         for file in made, made.with_name(f"{LIBRARY}.origin"):
             if file.is_file():
                 self.copy_file(str(file), str(Path(self.build_lib) / "modinfo" / file.name))
@@ -87,6 +138,8 @@ class PlatformWheel(bdist_wheel):
 
 
 setup(
+    **metadata(),
+    long_description_content_type="text/markdown",
     distclass=PlatformDistribution,
     cmdclass={"build_py": BuildWithLibrary, "bdist_wheel": PlatformWheel},
 )

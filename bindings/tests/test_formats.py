@@ -24,9 +24,9 @@ EXAMPLES = ROOT / "examples"
 COUNT = 1000
 # The modules with the types of each format in TypeScript and in Python, and the type of a value.
 TYPES = {
-    "document": ("document/module_document", "document", "ModuleDocument"),
-    "module-info": ("document/module_info", "information", "ModuleInfo"),
-    "report": ("runtime/check_report", "report", "Report"),
+    "document": ("module_document", "document", "ModuleDocument"),
+    "module-info": ("module_info", "information", "ModuleInfo"),
+    "report": ("check_report", "report", "Report"),
 }
 Values = dict[str, list[dict[str, Any]]]
 
@@ -120,7 +120,9 @@ def expect_errors(printed: str, wrong: Values) -> None:
 def in_typescript(name: str, values: list[dict[str, Any]]) -> str:
     module, _, kind = TYPES[name]
     lines = [f"export const value{number}: {kind} = {json.dumps(value)};" for number, value in enumerate(values)]
-    return "\n".join([f'import type {{ {kind} }} from "{ROOT}/bindings/node/src/{module}.cjs";', *lines, ""])
+    return "\n".join(
+        [f'import type {{ {kind} }} from "{ROOT}/bindings/node/modinfo/dist/types/{module}.cjs";', *lines, ""]
+    )
 
 
 def test_typescript(values: Values, wrong: Values, tmp_path: Path) -> None:

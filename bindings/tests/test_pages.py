@@ -1,12 +1,13 @@
 """Runs the programs that pages show for JavaScript, C, C++, Python, Rust and the shell.
 
-Each block in one of these languages is a whole program, and the next block is its output. Of README.md only one section
-is read. A program runs in an empty folder, with what `tools/install` and the packages for its language install.
-It has to print that output, and end with status 0. Where what a language needs isn't installed, its programs are
-skipped. Needs the program and the library in build/. The first program of docs/PARSERS.md runs without proofs, in a
-repository as that page has it.
+Each block in one of these languages is a whole program, and the next block is its output. Of README.md one section is
+read so, and the beginning. A program runs in an empty folder, with what `tools/install` and the packages for its
+language install. It has to print that output, and end with status 0. Where what a language needs isn't installed, its
+programs are skipped. Needs the program and the library in build/. The first program of docs/PARSERS.md runs without
+proofs, in a repository as that page has it.
 """
 
+import json
 import os
 import re
 import shutil
@@ -166,6 +167,19 @@ def test_program(machine: Machine, tmp_path: Path, language: str, source: str, o
     name, method = LANGUAGES[language]
     (tmp_path / name).write_text(source)
     assert method(machine, tmp_path / name) == output
+
+
+def test_the_first_blocks(machine: Machine, tmp_path: Path) -> None:
+    """README.md begins with a source and its JSON, and then has the command for a file, with its output."""
+    page = (ROOT / "README.md").read_text()
+    (_, source), (_, wanted), *_ = FENCE.findall(page)
+    (tmp_path / "page.ts").write_text(source)
+    (tmp_path / "modinfo").symlink_to(machine.environment["MODINFO"])
+    found = json.loads(machine.run("./modinfo", "files", "page.ts", folder=tmp_path))
+    assert found["info"]["dependencies"] == json.loads(wanted)["dependencies"]
+    [(command, output)] = re.findall(r"^    (printf .*)\n\nprints .*\n\n    (\{.*\})$", page, re.MULTILINE)
+    printed = machine.run("sh", "-eu", "-c", command, folder=tmp_path)
+    assert printed == output.replace("file:///home/you", tmp_path.as_uri()) + "\n"
 
 
 def test_a_repository_of_a_reader_s_own(tmp_path: Path) -> None:

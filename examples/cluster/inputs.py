@@ -1,30 +1,37 @@
-"""From paths, folders and lines to sources, and to batches of them."""
+"""From paths, folders and lines to sources."""
 
 import json
 import os
 import sys
 from collections.abc import Iterable, Iterator
-from typing import Any
+from typing import Any, BinaryIO
 
 import modinfo
 from work import Module, Source
 
 ENDINGS = (".js", ".jsx", ".mjs", ".cjs", ".ts", ".mts", ".cts", ".tsx")
-BATCH_BYTES = 4 << 20
 
 
-def of_paths(paths: Iterable[str]) -> Iterator[Source]:
+def of_paths(paths: Iterable[str], end: bytes) -> Iterator[Source]:
     """A source for each path. A folder stands for the files in it whose names have an ending of JavaScript or
-    TypeScript, and `-` for the paths in the standard input, one on each line."""
+    TypeScript, and `-` for the paths in the standard input, each with this byte at its end."""
     for path in paths:
         if path == "-":
-            yield from map(of_path, (os.fsdecode(line.rstrip(b"\n")) for line in sys.stdin.buffer))
+            yield from map(of_path, map(os.fsdecode, parts_of(sys.stdin.buffer, end)))
         elif os.path.isdir(path):
             for folder, folders, names in os.walk(path):
                 folders.sort()
                 yield from (of_path(os.path.join(folder, name)) for name in sorted(names) if name.endswith(ENDINGS))
         else:
             yield of_path(path)
+
+
+def parts_of(stream: BinaryIO, end: bytes) -> Iterator[bytes]:
+    rest = b""
+    while block := stream.read(1 << 16):
+        *parts, rest = (rest + block).split(end)
+        yield from parts
+    yield from [rest] * bool(rest)
 
 
 def of_path(path: str) -> Source:
@@ -43,23 +50,10 @@ def of_texts(path: str) -> Iterator[Source | Module]:
 
 
 def of_document(document: Any) -> Source:
-    specifier, media_type = str(document["specifier"]), document.get("mediaType")
-    if not isinstance(media_type, str | None):
-        raise TypeError("a media type is a text")
+    """Besides the members that the program reads, a document may have those of a package that the text comes from."""
+    specifier, others = str(document["specifier"]), [document.get(name) for name in ("mediaType", "package", "version")]
+    if not all(isinstance(other, str | None) for other in others):
+        raise TypeError("a media type, a package and a version are texts")
     # SQLite and the hash take no lone surrogate.
-    f"{specifier}{media_type}".encode()
-    return Source(specifier, document["source"].encode(errors="surrogatepass"), media_type)
-
-
-def batches(sources: Iterable[tuple[Source, int]], most: int) -> Iterator[list[Source]]:
-    """The sources, each with its size in bytes, in lists of at most so many, and of few bytes."""
-    batch: list[Source] = []
-    total = 0
-    for source, size in sources:
-        if batch and (len(batch) == most or total + size > BATCH_BYTES):
-            yield batch
-            batch, total = [], 0
-        batch.append(source)
-        total += size
-    if batch:
-        yield batch
+    "".join([specifier, *filter(None, others)]).encode()
+    return Source(specifier, document["source"].encode(errors="surrogatepass"), *others)

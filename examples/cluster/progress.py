@@ -11,24 +11,22 @@ MOST_LISTED = 100
 
 class Progress:
     def __init__(self, stream: TextIO) -> None:
-        self.faults = 0
+        self.faults = self._analyzed = self._known = 0
         self._listed: list[str] = []
-        self._analyzed = self._known = 0
         self._stream, self._is_shown = stream, stream.isatty()
         self._began = time.monotonic()
 
-    def add(self, modules: list[Module], is_known: bool = False) -> None:
-        self._known += len(modules) * is_known
-        self._analyzed += len(modules) * (not is_known)
-        faults = [shown(f"{module.specifier}: {module.fault}") for module in modules if module.fault is not None]
-        self._listed += faults[: MOST_LISTED - len(self._listed)]
+    def add(self, analyzed: list[Module], known: list[Module]) -> None:
+        self._analyzed += len(analyzed)
+        self._known += len(known)
+        faults = [each for each in analyzed + known if each.fault is not None]
+        self._listed += [shown(f"{each.specifier}: {each.fault}") for each in faults[: MOST_LISTED - len(self._listed)]]
         self.faults += len(faults)
 
     def counts(self) -> str:
         return f"{self._analyzed:,} analyzed, {self._known:,} known, {self.faults:,} faults"
 
     def show(self, workers: int) -> None:
-        """Writes the counts, if the stream is a terminal."""
         rate = (self._analyzed + self._known) / max(time.monotonic() - self._began, 0.001)
         self.write(f"{CLEAR}{self.counts()}, {rate:,.0f} a second, {workers} workers")
 

@@ -65,8 +65,10 @@ def cases_of_runs(folder):
             for word, rest in case:
                 fields.setdefault(word, []).append(rest)
             program, *words = fields["call"][0].split()
-            if program == "serve":
+            if program in ("serve", "both"):
                 yield words, fields
+            if program == "both":
+                yield ["check", *words], {**fields, "output": fields["report"]}
 
 
 def program_cases(folder):

@@ -5,8 +5,9 @@
 
 import type {
   ByteRange, DynamicTemplatePart, FiledComments, ImportAttributes, JsString, MediaType, ModuleInfo, PositionRange,
-  Resolution, SpecifierWithRange, StringLiteral,
-} from "../src/index.mjs";
+  SpecifierWithRange, StringLiteral,
+} from "../modinfo/dist/index.js";
+import type { Resolution } from "../modinfo-graph/dist/index.js";
 
 export interface AnyDocument {
   specifier: string;

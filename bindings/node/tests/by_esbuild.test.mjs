@@ -7,7 +7,7 @@ import { dirname, join, relative } from "node:path";
 import { test } from "node:test";
 import { fileURLToPath } from "node:url";
 
-import { createResolver } from "../src/graph/resolver.mjs";
+import { Resolver } from "../modinfo-graph/dist/graph/resolver.js";
 import { folderOf } from "./run_commands.mjs";
 
 /**
@@ -111,7 +111,7 @@ function edgesByEsbuild(folder, { entry, platform = "node" }) {
 function edgesOf(folder, { files, platform = "node" }) {
   // esbuild sets these conditions by itself.
   const conditions = platform === "browser" ? ["browser", "module"] : ["module"];
-  const resolver = createResolver({ root: folder, conditions });
+  const resolver = new Resolver({ root: folder, conditions });
   const edges = Object.entries(files).flatMap(([from, text]) => [...text.matchAll(NAME)].map(([call, name]) => {
     const kind = call.startsWith("require") ? "require" : "import";
     const { file } = /** @type {{ file?: string }} */ (resolver.resolve(name, join(folder, from), { kind }));

@@ -7,7 +7,7 @@ import { join } from "node:path";
 import { test } from "node:test";
 import { setTimeout as wait } from "node:timers/promises";
 
-import { AnalysisCache } from "../src/files/analysis_cache.mjs";
+import { AnalysisCache } from "../modinfo-graph/dist/files/analysis_cache.js";
 import { MODINFO, folderOf, linesOf, run } from "./run_commands.mjs";
 
 const PROJECT = {
@@ -39,7 +39,7 @@ function runIn(folder, words) {
   const counted = join(folder, "counted");
   writeFileSync(counted, "");
   process.env.COUNTED = counted;
-  const result = run("files.mjs", words, { cwd: folder, modinfo: join(folder, "modinfo") });
+  const result = run("files", words, { cwd: folder, modinfo: join(folder, "modinfo") });
   return { ...result, asked: readFileSync(counted, "utf8").split("\0").length - 1 };
 }
 
@@ -176,7 +176,7 @@ test("a cache that can't be read is an error, one that can't be written a warnin
   assert.deepEqual([linesOf(unwritten.stdout).length, unwritten.status], [1, 0]);
   assert.match(unwritten.stderr, /^modinfo-files: warning: the cache is not written: none\/cache: ENOENT/);
   const other = runIn(folder, ["--cache", "src/a.js", "src/b.js"]);
-  const message = "modinfo-files: warning: the cache is not written: src/a.js: no cache is there, but another file\n";
+  const message = "modinfo-files: warning: the cache is not written: src/a.js: another file, not a cache\n";
   assert.deepEqual([other.stderr, other.status], [message, 0]);
   assert.equal(readFileSync(join(folder, "src/a.js"), "utf8"), PROJECT["src/a.js"]);
 });

@@ -1,25 +1,22 @@
-/** Reports on documents, by modinfo and by a program that prints what it is handed. */
+/** Reports on documents. */
 
 import assert from "node:assert/strict";
-import { chmodSync, existsSync, readdirSync, readFileSync } from "node:fs";
-import { join } from "node:path";
+import { existsSync, readdirSync, readFileSync } from "node:fs";
 import { test } from "node:test";
 
-import { Modinfo, ModinfoFault } from "../src/index.mjs";
-import { settled } from "./promises.mjs";
-import { MODINFO, folderOf } from "./run_commands.mjs";
+import { Modinfo } from "../modinfo-graph/dist/index.js";
+import { check } from "../modinfo/dist/index.js";
+import { MODULE } from "./run_commands.mjs";
 import { fault, readSchema } from "./schema.mjs";
 import { unchecked } from "./unchecked.mjs";
 
 /**
  * @typedef {"analyze" | "analyze --source" | "convert" | "reach"} Command
- * @typedef {import("../src/index.mjs").FaultReport} FaultReport
+ * @typedef {import("../modinfo/dist/index.js").FaultReport} FaultReport
  */
 
-/** @type {(Command | "analyze --estree")[]} */
-const COMMANDS = ["analyze", "analyze --estree", "convert", "reach"];
 const EXAMPLES = new URL("../../../examples/", import.meta.url);
-const skip = !existsSync(MODINFO) && "build/modinfo isn't made";
+const skip = !existsSync(MODULE) && "build/modinfo.wasm isn't made";
 
 /** @param {string} name */
 const read = (name) => JSON.parse(readFileSync(new URL(name, EXAMPLES), "utf8"));
@@ -37,7 +34,7 @@ function withItem(members) {
 
 /**
  * A report that has to be one of a fault.
- * @param {import("../src/index.mjs").Report} report
+ * @param {import("../modinfo/dist/index.js").Report} report
  */
 function asFault(report) {
   assert.ok(!report.valid);
@@ -96,7 +93,7 @@ const FAULTS = [
 ];
 
 test("a document with a fault", { skip }, async () => {
-  const modinfo = new Modinfo({ program: MODINFO });
+  const modinfo = new Modinfo();
   const reports = await Promise.all(FAULTS.map(([command, document]) => modinfo.check(document, { command })));
   for (const [at, report] of reports.entries()) {
     const [command, document, wanted] = FAULTS[at];
@@ -116,7 +113,7 @@ test("a document with a fault", { skip }, async () => {
 });
 
 test("warnings", { skip }, async () => {
-  const modinfo = new Modinfo({ program: MODINFO });
+  const modinfo = new Modinfo();
   assert.deepEqual(await modinfo.check(SIDE_EFFECT_IMPORT), { valid: true });
   /** @param {string} name */
   const warning = (name) => ({ pointer: `/program/body/0/${name}`, says: UNREAD });
@@ -129,7 +126,7 @@ test("warnings", { skip }, async () => {
 });
 
 test("a document may be an object, its JSON or bytes", { skip }, async () => {
-  const modinfo = new Modinfo({ program: MODINFO });
+  const modinfo = new Modinfo();
   for (const document of [SIDE_EFFECT_IMPORT, withItem({ child: [] }), withItem({ range: [0, 99] }), {}]) {
     const report = await modinfo.check(document);
     for (const json of [JSON.stringify(document), JSON.stringify(document, undefined, 1)]) {
@@ -141,7 +138,7 @@ test("a document may be an object, its JSON or bytes", { skip }, async () => {
 });
 
 test("each example is valid", { skip }, async () => {
-  const modinfo = new Modinfo({ program: MODINFO });
+  const modinfo = new Modinfo();
   /** @type {[command: Command, document: string, answer: string][]} */
   const endings = [
     ["analyze", ".json", ".out.json"], ["convert", ".convert.json", ".converted.json"],
@@ -160,7 +157,8 @@ test("the reports of the rows keep their schema", () => {
   const rows = new URL("../../../crates/test_replay/data/", import.meta.url);
   for (const name of readdirSync(rows).filter((each) => each.endsWith(".rows"))) {
     for (const row of readFileSync(new URL(name, rows), "utf8").split(/^(?=row )/m)) {
-      const reports = /^call serve check\b/m.test(row) ? row.matchAll(/^output (.*)$/mg) : [];
+      const word = /^call serve check\b/m.test(row) ? "output" : "report";
+      const reports = row.matchAll(new RegExp(`^${word} (.*)$`, "mg"));
       for (const [, report] of reports) {
         assert.equal(fault(JSON.parse(report), readSchema("report")), undefined, report);
       }
@@ -186,29 +184,8 @@ test("the schema refuses what is no report", () => {
   }
 });
 
-/** A program whose reports say its words and the line that it is handed, with the line's end as the place. */
-function echoing() {
-  const folder = folderOf({
-    modinfo: `#!${process.execPath}
-      const words = process.argv.slice(2).join(" ");
-      let begun = Buffer.alloc(0);
-      process.stdin.on("data", (bytes) => {
-        begun = Buffer.concat([begun, bytes]);
-        for (let end = begun.indexOf(10); end >= 0; end = begun.indexOf(10)) {
-          const at = { line: 0, column: 0, offset: end };
-          const expected = words + " " + begun.toString("latin1", 0, end);
-          console.log(JSON.stringify({ fault: "Json", at, expected }));
-          begun = begun.subarray(end + 1);
-        }
-      });
-      process.exitCode = 1;`,
-  });
-  chmodSync(join(folder, "modinfo"), 0o755);
-  return join(folder, "modinfo");
-}
-
 test("a place is that in the document as it was handed over", async () => {
-  const modinfo = new Modinfo({ program: echoing() });
+  const modinfo = new Modinfo();
   /** @type {[document: string, line: number, column: number][]} */
   const documents = [
     ["{", 0, 1], ["", 0, 0], ["\n", 1, 0], ["\n\n", 2, 0], ['{"😀é": \n"日本', 1, 3], ["{\r\n\t", 1, 1],
@@ -222,64 +199,44 @@ test("a place is that in the document as it was handed over", async () => {
   await modinfo.close();
 });
 
-test("a document with a lone surrogate is no UTF-8", async () => {
-  const modinfo = new Modinfo({ program: echoing() });
+test("a document with a lone surrogate isn't UTF-8", { skip }, async () => {
   for (const [text, before] of [["\udc00", ""], ['"a\ud800"', '"a'], ['"\ud83d\ude00\ude00"', '"\ud83d\ude00']]) {
-    const { at, expected } = asFault(await modinfo.check(text));
-    assert.equal(expected, `check analyze --lines ${Buffer.from(before).toString("latin1")}\xff`);
-    assert.equal(at?.offset, Buffer.byteLength(before) + 1);
+    const { fault, at } = asFault(await check(text));
+    assert.deepEqual([fault, at?.offset], ["Input", Buffer.byteLength(before)]);
   }
-  await modinfo.close();
 });
 
 test("what modinfo reports of a lone surrogate", { skip }, async () => {
-  const modinfo = new Modinfo({ program: MODINFO });
+  const modinfo = new Modinfo();
   const { expected, ...report } = asFault(await modinfo.check('{\n"größe":"\ud800"}'));
   assert.deepEqual(report, { fault: "Input", at: { line: 1, column: 9, offset: 13 } });
   assert.equal((await modinfo.check({ größe: "\ud800" })).fault, "Json");
   await modinfo.close();
 });
 
-test("bytes may be changed once they are handed over", async () => {
-  const modinfo = new Modinfo({ program: echoing() });
-  const bytes = new TextEncoder().encode("a\nb");
-  const report = modinfo.check(bytes);
-  bytes.fill(0x0a);
-  const { at, expected } = asFault(await report);
-  assert.deepEqual([at?.line, at?.column, expected], [1, 1, "check analyze --lines a\rb"]);
-  await modinfo.close();
+test("bytes may be changed once they are handed over", { skip }, async () => {
+  const bytes = new TextEncoder().encode("1\nb");
+  const report = check(bytes);
+  bytes.fill(0x20);
+  assert.deepEqual(asFault(await report).at, { line: 1, column: 0, offset: 2 });
 });
 
-test("the checks of each command have a process of their own", async () => {
-  const modinfo = new Modinfo({ program: echoing() });
-  for (const command of COMMANDS) {
-    assert.equal(asFault(await modinfo.check("{}", { command })).expected, `check ${command} --lines {}`);
-  }
-  const reports = await Promise.all(Array.from({ length: 2000 }, (_, number) => modinfo.check(String(number))));
-  assert.deepEqual(reports.map((each) => Number(asFault(each).expected.split(" ")[3])), [...reports.keys()]);
-  const last = modinfo.check("1");
+test("many checks at once, of which each has its report", { skip }, async () => {
+  const modinfo = new Modinfo();
+  const reports = await Promise.all(Array.from({ length: 2000 }, (_, number) => modinfo.check(`${" ".repeat(number)}]`)));
+  assert.deepEqual(reports.map((each) => asFault(each).at?.offset), [...reports.keys()]);
+  const last = modinfo.check("]");
   await modinfo.close();
   assert.equal((await last).fault, "Json");
   await assert.rejects(modinfo.check("{}"), { name: "ProgramEnd", message: "modinfo is closed" });
 });
 
 test("what is no document or no command", async () => {
-  const modinfo = new Modinfo({ program: MODINFO });
+  const modinfo = new Modinfo();
   for (const command of ["", "check", "Analyze", "toString", null, 1]) {
-    const message = `command must be one of analyze, analyze --estree, analyze --source, convert, reach, and is ${command}`;
+    const message = `command must be one of analyze, analyze --estree, analyze --source, convert, reach, not ${command}`;
     await assert.rejects(modinfo.check("{}", unchecked({ command })), { name: "TypeError", message });
   }
-  await assert.rejects(modinfo.check(unchecked(undefined)), { name: "TypeError", message: /^a document is an object, or its JSON, and is / });
-  await modinfo.close();
-});
-
-test("out of memory", async () => {
-  const folder = folderOf({ modinfo: `#!/bin/sh\nread line\necho '{"fault":"OutOfMemory"}'\nread line\necho '{"valid":true}'` });
-  chmodSync(join(folder, "modinfo"), 0o755);
-  const modinfo = new Modinfo({ program: join(folder, "modinfo"), jobs: 1 });
-  const [refused, valid] = await settled([modinfo.check("1"), modinfo.check("2")]);
-  assert.ok(refused.reason instanceof ModinfoFault);
-  assert.equal(refused.reason.fault, "OutOfMemory");
-  assert.deepEqual(valid.value, { valid: true });
+  await assert.rejects(modinfo.check(unchecked(undefined)), { name: "TypeError", message: /^a document must be an object or its JSON, not / });
   await modinfo.close();
 });

@@ -3,7 +3,7 @@
 import assert from "node:assert/strict";
 import { spawnSync } from "node:child_process";
 
-import { estreeDocument } from "../src/index.mjs";
+import { estreeDocument } from "../modinfo/dist/index.js";
 import { fault, readSchema } from "./schema.mjs";
 import { MODINFO } from "./run_commands.mjs";
 import { unchecked } from "./unchecked.mjs";

@@ -3,7 +3,7 @@
 import assert from "node:assert/strict";
 import { test } from "node:test";
 
-import { estreeDocument } from "../src/index.mjs";
+import { estreeDocument } from "../modinfo/dist/index.js";
 import { treeAnswer } from "./documents.mjs";
 import { loadParser } from "./equipment/installed_parsers.mjs";
 

@@ -10,9 +10,10 @@ import { join } from "node:path";
 import { test } from "node:test";
 import { fileURLToPath } from "node:url";
 
-import { Modinfo, estreeDocument } from "../src/index.mjs";
-import { documentCommand, lineOf } from "../src/runtime/commands.mjs";
-import { Pool } from "../src/runtime/pool.mjs";
+import { Modinfo } from "../modinfo-graph/dist/index.js";
+import { estreeDocument } from "../modinfo/dist/index.js";
+import { documentCommand, lineOf } from "./equipment/document_command.mjs";
+import { Pool } from "../modinfo-graph/dist/runtime/pool.js";
 import { mediaTypeOf } from "./equipment/document/media_types.mjs";
 import { readEstree } from "./estree_reading.mjs";
 import { PARSERS, parsed } from "./estree_parsers.mjs";
@@ -23,8 +24,8 @@ import { unchecked } from "./unchecked.mjs";
 
 /**
  * @typedef {[mediaType: string, texts: string[]]} Texts
- * @typedef {import("../src/index.mjs").Report} Report
- * @typedef {import("../src/runtime/commands.mjs").CommandName} CommandName
+ * @typedef {import("../modinfo/dist/index.js").Report} Report
+ * @typedef {import("./equipment/document_command.mjs").CommandName} CommandName
  */
 
 const notBuilt = !existsSync(MODINFO) && "build/modinfo isn't made";

@@ -13,11 +13,11 @@
  * @typedef {any} Value a node or a comment of the input, whose members depend on its type
  * @typedef {import("./any_kind.mjs").AnyArgument} AnyArgument
  * @typedef {import("./any_kind.mjs").AnyNode} AnyNode
- * @typedef {import("../src/index.mjs").ByteRange} ByteRange
- * @typedef {import("../src/index.mjs").DocumentComment} DocumentComment
- * @typedef {import("../src/index.mjs").FiledComments} FiledComments
- * @typedef {import("../src/index.mjs").JsString} JsString
- * @typedef {import("../src/index.mjs").StringLiteral} StringLiteral
+ * @typedef {import("../modinfo/dist/index.js").ByteRange} ByteRange
+ * @typedef {import("../modinfo/dist/index.js").DocumentComment} DocumentComment
+ * @typedef {import("../modinfo/dist/index.js").FiledComments} FiledComments
+ * @typedef {import("../modinfo/dist/index.js").JsString} JsString
+ * @typedef {import("../modinfo/dist/index.js").StringLiteral} StringLiteral
  */
 
 /**

@@ -9,15 +9,15 @@ import { createInterface } from "node:readline";
 import { test } from "node:test";
 import { pathToFileURL } from "node:url";
 
-import { readJobs } from "../src/cli/common/command_line.mjs";
-import { MODINFO, folderOf, linesOf, programOf, run, shell, urlOf } from "./run_commands.mjs";
+import { readJobs } from "../modinfo-graph/dist/cli/common/command_line.js";
+import { MODINFO, MODULE, folderOf, linesOf, programOf, run, shell, urlOf } from "./run_commands.mjs";
 import { fault, readSchema } from "./schema.mjs";
 
 const NAME = "modinfo-files";
 
 /**
  * @typedef {import("./any_kind.mjs").AnyDependency} AnyDependency
- * @typedef {import("../src/index.mjs").JsDocImportInfo} JsDocImportInfo
+ * @typedef {import("../modinfo/dist/index.js").JsDocImportInfo} JsDocImportInfo
  */
 
 /** A project: `src/main.ts` reaches two modules, and one only through JSDoc. */
@@ -47,13 +47,13 @@ function dependenciesOf({ info }) {
 }
 
 /**
- * The lines of files.mjs in a folder; its error output and status have to be these.
+ * The lines of modinfo-files in a folder; its error output and status have to be these.
  * @param {string[]} words
  * @param {string} cwd
  * @param {import("./run_commands.mjs").RunOptions & { stderr?: string, status?: number }} options
  */
 function answers(words, cwd, { stderr = "", status = 0, ...options } = {}) {
-  const result = run("files.mjs", words, { cwd, ...options });
+  const result = run("files", words, { cwd, ...options });
   assert.deepEqual([result.stderr, result.status], [stderr, status]);
   return linesOf(result.stdout);
 }
@@ -85,7 +85,7 @@ test("the output is the same for any number of processes", () => {
     `${String(at).padStart(3, "0")}.js`, `import "./${at}.js";\n${"a;\n".repeat((at * 37) % 500)}`,
   ]);
   const folder = folderOf(Object.fromEntries(files));
-  const outputs = ["1", "2", "5"].map((jobs) => run("files.mjs", ["--jobs", jobs, folder]).stdout);
+  const outputs = ["1", "2", "5"].map((jobs) => run("files", ["--jobs", jobs, folder]).stdout);
   const specifiers = linesOf(outputs[0]).map(({ info }) => info.dependencies[0].specifier);
   assert.deepEqual(specifiers, files.map((_, at) => `./${at}.js`));
   assert.deepEqual(outputs, Array(3).fill(outputs[0]));
@@ -94,9 +94,9 @@ test("the output is the same for any number of processes", () => {
 test("where there is nothing to read, that is reported", () => {
   const folder = folderOf({ "empty/.keep": "", "text/a.txt": "" });
   for (const words of [["empty"], ["--cycles", "text"]]) {
-    const { stdout, stderr, status } = run("files.mjs", words, { cwd: folder });
+    const { stdout, stderr, status } = run("files", words, { cwd: folder });
     assert.deepEqual([stdout, status], ["", 2]);
-    assert.match(stderr, new RegExp(`^${NAME}: ${words.at(-1)}: no file that can be read: .*\\.tsx\n$`));
+    assert.match(stderr, new RegExp(`^${NAME}: ${words.at(-1)}: no file to read: .*\\.tsx\n$`));
   }
   const [none] = answers(["none"], folder, { stderr: `${NAME}: none: no such file or folder\n`, status: 1 });
   assert.deepEqual([none.fault, none.message], ["Input", "no such file or folder"]);
@@ -159,7 +159,7 @@ test("a path with a zero byte names no file, and the answers of others are their
 test("a partner that waits for each answer gets it", async (t) => {
   const folder = folderOf({ "a.js": "", "b.js": "" });
   const env = { ...process.env, MODINFO };
-  const child = spawn(process.execPath, [programOf("files.mjs"), "-"], { cwd: folder, env });
+  const child = spawn(process.execPath, [programOf("files"), "-"], { cwd: folder, env });
   t.after(() => child.kill());
   const lines = createInterface({ input: child.stdout })[Symbol.asyncIterator]();
   for (const name of ["a.js", "b.js", "a.js"]) {
@@ -200,8 +200,8 @@ test("--resolve adds what names resolve to, wherever a module is named", () => {
 
 test("what is wrong with a configuration is reported once", () => {
   const folder = folderOf({ "tsconfig.json": "{", "a.ts": "", "b.ts": "", "c.ts": "" });
-  const { stderr, status } = run("files.mjs", ["--resolve", "--jobs", "3", "."], { cwd: folder });
-  const warning = `${NAME}: warning: ${folder}/tsconfig.json: passed over: `;
+  const { stderr, status } = run("files", ["--resolve", "--jobs", "3", "."], { cwd: folder });
+  const warning = `${NAME}: warning: ${folder}/tsconfig.json: ignored: `;
   assert.ok(stderr.startsWith(warning) && stderr.split("\n").length === 2, stderr);
   assert.equal(status, 0);
 });
@@ -211,31 +211,33 @@ test("other words are answered by the usage", () => {
   for (const words of [
     [], ["--none", "a.js"], ["--unreached", "a.js"], ["--jobs", "0", "a.js"], ["--jobs", "a", "a.js"],
     ["--entry", "."], ["--entry", "a.js", "--unreached"], ["--why", "a.js", "a.js"], ["--jobs"], ["-x", "a.js"],
-    ["--cycles", "--missing", "a.js"], ["--dot", "--json", "a.js"], ["--resolve", "--cycles", "a.js"],
+    ["--cycles", "--dot", "a.js"], ["--known", "--entry", "a.js", "--why", "a.js"], ["--dot", "--json", "a.js"], ["--resolve", "--cycles", "a.js"],
   ]) {
-    const { stdout, stderr, status } = run("files.mjs", words, { cwd: folder });
+    const { stdout, stderr, status } = run("files", words, { cwd: folder });
     assert.deepEqual([stdout, status], ["", 2], words.join(" "));
     assert.match(stderr, new RegExp(`^${NAME}: .+`));
   }
 });
 
 test("--help and --version", () => {
-  const help = run("files.mjs", ["--help"]);
+  const help = run("files", ["--help"]);
   assert.deepEqual([help.stderr, help.status], ["", 0]);
   assert.match(help.stdout, /^usage: modinfo-files /);
-  assert.deepEqual(run("files.mjs", ["-h"]), help);
-  const { stdout, status } = run("files.mjs", ["--version"]);
+  assert.deepEqual(run("files", ["-h"]), help);
+  const version = /^modinfo-files \d+\.\d+\.\d+ \((.*)\)\n$/;
+  const { stdout, status } = run("files", ["--version"]);
   assert.equal(status, 0);
-  assert.match(stdout, /^modinfo-files \d+\.\d+\.\d+\n$/);
+  assert.equal(version.exec(stdout)?.[1], `native: ${MODINFO}`);
+  assert.equal(version.exec(run("files", ["--version"], { modinfo: MODULE }).stdout)?.[1], `WebAssembly: ${MODULE}`);
 });
 
 test("a full disk is an error, a reader that ends isn't", () => {
   const folder = folderOf({ "a.js": "", "b.js": "" });
   for (const words of [".", "--entry a.js"]) {
-    const full = shell(`$node $cli/files.mjs ${words} > /dev/full`, folder);
+    const full = shell(`$node $cli ${words} > /dev/full`, folder);
     const message = "the standard output: ENOSPC: no space left on device";
     assert.deepEqual([full.stderr, full.status], [`${NAME}: ${message}\n`, 1]);
-    const ended = shell(`{ $node $cli/files.mjs ${words} || echo $? >&2; } | true`, folder);
+    const ended = shell(`{ $node $cli ${words} || echo $? >&2; } | true`, folder);
     assert.deepEqual([ended.stderr, ended.status], ["", 0]);
   }
 });
@@ -250,7 +252,7 @@ while IFS= read -r -d '' path; do
 done
 ` });
   chmodSync(join(folder, "modinfo"), 0o755);
-  const { stdout } = shell("MODINFO=./modinfo $node $cli/files.mjs --jobs 1 src | head -1; wc -l < counted", folder);
+  const { stdout } = shell("MODINFO=./modinfo $node $cli --jobs 1 src | head -1; wc -l < counted", folder);
   assert.ok(Number(stdout.split("\n")[1]) < 100, stdout);
 });
 
@@ -265,7 +267,7 @@ test("a program that doesn't read files is named", () => {
     // This error of node's is thrown, those above come later.
     [`${old}/x`, `${NAME}: ${old}/x doesn't run with files --null: spawn ENOTDIR ${hint}\n`],
   ]) {
-    const result = run("files.mjs", ["a.js"], { cwd: folder, modinfo });
+    const result = run("files", ["a.js"], { cwd: folder, modinfo });
     assert.deepEqual(result, { stdout: "", stderr: message, status: 1 });
   }
 });

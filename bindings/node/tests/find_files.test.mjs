@@ -7,7 +7,7 @@ import { join, relative } from "node:path";
 import { Readable } from "node:stream";
 import { test } from "node:test";
 
-import { findFiles, readPaths } from "../src/files/find_files.mjs";
+import { findFiles, readPaths } from "../modinfo-graph/dist/files/find_files.js";
 import { all } from "./promises.mjs";
 import { folderOf } from "./run_commands.mjs";
 

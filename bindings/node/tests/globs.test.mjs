@@ -3,7 +3,7 @@
 import assert from "node:assert/strict";
 import { test } from "node:test";
 
-import { GlobFault, globMatcher } from "../src/files/globs.mjs";
+import { GlobFault, globMatcher } from "../modinfo-graph/dist/files/globs.js";
 import { folderOf, run } from "./run_commands.mjs";
 
 test("wildcards match names, folders and texts, and nothing else", () => {
@@ -40,8 +40,8 @@ test("a glob that would mean something else is refused", () => {
   for (const glob of ["!x", "!src/a.js", "{a,{b,c}}", "{a", "{a,b}".repeat(20)]) {
     assert.throws(() => globMatcher(glob), GlobFault, glob);
   }
-  const { stderr, status } = run("files.mjs", ["--exclude", "!x", "."], { cwd: folderOf({ "a.js": "" }) });
+  const { stderr, status } = run("files", ["--exclude", "!x", "."], { cwd: folderOf({ "a.js": "" }) });
   assert.deepEqual([stderr, status], [
-    "modinfo-files: a glob can't be read: !x: a glob that begins with \"!\" takes nothing back; for a name that does, write ./!x\n", 2,
+    "modinfo-files: invalid glob: !x: a glob that begins with \"!\" isn't supported; for a name that begins with it, write ./!x\n", 2,
   ]);
 });

@@ -12,23 +12,23 @@ import { folderOf, run, urlOf } from "./run_commands.mjs";
 const NAME = "modinfo-files";
 
 /**
- * What files.mjs prints in a folder, as lines; its error output and status have to be these.
+ * What modinfo-files prints in a folder, as lines; its error output and status have to be these.
  * @param {string[]} words
  * @param {string} cwd
  * @param {{ stderr?: string, status?: number }} expected
  */
 function lines(words, cwd, { stderr = "", status = 0 } = {}) {
-  const result = run("files.mjs", words, { cwd });
+  const result = run("files", words, { cwd });
   assert.deepEqual([result.stderr, result.status], [stderr, status]);
   assert.ok(result.stdout === "" || result.stdout.endsWith("\n"));
   return result.stdout.split("\n").slice(0, -1);
 }
 
 /**
- * The modules that files.mjs prints as JSON.
+ * The modules that modinfo-files prints as JSON.
  * @param {string[]} words
  * @param {string} cwd
- * @returns {import("../src/index.mjs").GraphModule[]}
+ * @returns {import("../modinfo-graph/dist/index.js").GraphModule[]}
  */
 function modulesOf(words, cwd) {
   return JSON.parse(lines(["--json", ...words], cwd)[0]).modules;
@@ -54,7 +54,7 @@ test("--entry prints what the entry reaches, with nothing named besides", () => 
   assert.deepEqual(lines(["--entry", "src/lonely.js", "--entry", "src/c.js"], folder), ["src/lonely.js", "src/c.js"]);
   const inOther = lines(["--entry", join(folder, "src/lonely.js")], folderOf());
   assert.deepEqual(inOther, [join(folder, "src/lonely.js"), join(folder, "src/c.js")]);
-  const zeros = run("files.mjs", ["-0", "--entry", "src/lonely.js"], { cwd: folder });
+  const zeros = run("files", ["-0", "--entry", "src/lonely.js"], { cwd: folder });
   assert.equal(zeros.stdout, "src/lonely.js\0src/c.js\0");
 });
 
@@ -137,14 +137,14 @@ test("a tsconfig.json that only refers to projects leaves each its options", () 
 test("--tsconfig and --conditions", () => {
   const folder = folderOf({
     "other.json": `{"compilerOptions":{"paths":{"@/*":["./src/*"]}}}`,
-    "src/a.ts": `import "@/b"; import "#c";`, "src/b.ts": "",
+    "src/a.ts": `import "@/b"; import "#c";`, "src/b.ts": "", "src/c.ts": `import "#c";`,
     "package.json": `{"type":"module","imports":{"#c":{"special":"./s.js","default":"./d.js"}}}`,
     "s.js": "", "d.js": "",
   });
   assert.deepEqual(lines(["--entry", "src/a.ts", "--tsconfig", "other.json"], folder), [
     "src/a.ts", "src/b.ts", "d.js",
   ]);
-  assert.deepEqual(lines(["--entry", "src/a.ts", "--conditions", "special"], folder), ["src/a.ts", "s.js"]);
+  assert.deepEqual(lines(["--entry", "src/c.ts", "--conditions", "special"], folder), ["src/c.ts", "s.js"]);
 });
 
 test("--missing prints what leads to no file, and what isn't installed", () => {
@@ -230,9 +230,9 @@ test("--gitignore leaves out what git ignores", () => {
     ".gitignore": "build/\n*.gen.js\n!keep.gen.js\n", "a.js": `import "./build/b.js";`, "build/b.js": "",
     "c.gen.js": "", "keep.gen.js": "",
   });
-  const none = run("files.mjs", ["--gitignore", "."], { cwd: folder });
+  const none = run("files", ["--gitignore", "."], { cwd: folder });
   assert.deepEqual([none.stdout, none.status], ["", 1]);
-  assert.match(none.stderr, /^modinfo-files: what git ignores in \. isn't known: .*not a git repository/);
+  assert.match(none.stderr, /^modinfo-files: can't find what git ignores in \.: .*not a git repository/);
   execFileSync("git", ["init", "--quiet", folder]);
   assert.deepEqual(lines(["--json", "--gitignore", "."], folder).map((line) => JSON.parse(line).modules.length), [2]);
   assert.deepEqual(lines(["--entry", "a.js", "--gitignore"], folder), ["a.js"]);

@@ -6,7 +6,7 @@ import { chmodSync, readFileSync, readdirSync, symlinkSync } from "node:fs";
 import { join } from "node:path";
 import { test } from "node:test";
 
-import { readRegularFile } from "../src/files/regular_file.mjs";
+import { readRegularFile } from "../modinfo-graph/dist/files/regular_file.js";
 import { MODINFO, folderOf, linesOf, programOf } from "./run_commands.mjs";
 
 /** More time than any of the commands needs, so that one that never ends is a failure. */
@@ -42,10 +42,10 @@ const LEFT = "warning: a link out of the given paths is not followed (--follow f
 test("of a folder only regular files are read", () => {
   const folder = endless();
   for (const words of [["a"], ["--follow", "a"]]) {
-    const { stdout, status } = run("files.mjs", words, folder);
+    const { stdout, status } = run("files", words, folder);
     assert.deepEqual([namesOf(stdout), status], [["good.js"], 0]);
   }
-  assert.deepEqual(run("report.mjs", ["--dot", "out.dot", "a"], folder).signal, undefined);
+  assert.deepEqual(run("report", ["--dot", "out.dot", "a"], folder).signal, undefined);
   assert.match(readFileSync(join(folder, "out.dot"), "utf8"), /good\.js/);
 });
 
@@ -53,7 +53,7 @@ test("a named file that isn't regular is an error", () => {
   const folder = endless();
   const files = ["a/fifo.js", "a/to_fifo.js", "a/zero.js"];
   const errors = files.map((file) => `${file}: no regular file\n`);
-  const { stdout, stderr, status } = run("files.mjs", [...files, "b.js"], folder);
+  const { stdout, stderr, status } = run("files", [...files, "b.js"], folder);
   assert.deepEqual([stderr, status], [errors.map((each) => `modinfo-files: ${each}`).join(""), 1]);
   assert.deepEqual(linesOf(stdout).map(({ fault }) => fault), ["Input", "Input", "Input", undefined]);
 });
@@ -61,7 +61,7 @@ test("a named file that isn't regular is an error", () => {
 test("a file without an end is not waited for, though the system calls it regular", () => {
   const folder = folderOf();
   symlinkSync("/proc/kmsg", join(folder, "log.js"));
-  const { stderr, status } = run("files.mjs", ["log.js"], folder);
+  const { stderr, status } = run("files", ["log.js"], folder);
   assert.deepEqual([stderr, status], ["modinfo-files: log.js: a file of the system\n", 1]);
 });
 
@@ -75,15 +75,15 @@ test("what configures the resolution is read only where it is a regular file", (
   for (const link of endlessLinks) {
     const folder = folderOf({ ...files, "node_modules/x/index.js": "" });
     symlinkSync("/dev/zero", join(folder, link));
-    const { stdout, status, signal } = run("files.mjs", ["--resolve", "src"], folder);
+    const { stdout, status, signal } = run("files", ["--resolve", "src"], folder);
     assert.deepEqual([status, signal], [0, undefined], link);
     assert.deepEqual(namesOf(stdout), ["a.js", "b.js"], link);
   }
   const folder = folderOf({ ...files, "tsconfig.json": `{ "extends": "./base.json" }` });
   execFileSync("mkfifo", [join(folder, "base.json")]);
-  const { stdout, stderr, status } = run("files.mjs", ["--resolve", "src"], folder);
+  const { stdout, stderr, status } = run("files", ["--resolve", "src"], folder);
   assert.deepEqual([namesOf(stdout), status], [["a.js", "b.js"], 0]);
-  assert.match(stderr, /^modinfo-files: warning: .*base\.json: passed over: not a regular file\n$/);
+  assert.match(stderr, /^modinfo-files: warning: .*base\.json: ignored: not a regular file\n$/);
 });
 
 test("a link out of the given paths is followed only with --follow", () => {
@@ -98,14 +98,14 @@ test("a link out of the given paths is followed only with --follow", () => {
   const kindsOf = (stdout) => linesOf(stdout).map(({ info, fault }) => info?.dependencies[0].specifier ?? fault);
   /** @param {string} file */
   const left = (file) => `modinfo-files: ${file}: ${LEFT}\n`;
-  const without = run("files.mjs", ["a"], folder);
+  const without = run("files", ["a"], folder);
   assert.deepEqual(without, { stdout: without.stdout, stderr: left("a/to_out.js") + left("a/to_secret.js"), status: 0 });
   assert.deepEqual(kindsOf(without.stdout), ["in", "in"]);
   // What is given decides, and not what the paths are called.
-  assert.equal(run("files.mjs", ["link"], folder).stderr, left("link/to_out.js") + left("link/to_secret.js"));
-  assert.equal(run("files.mjs", ["a", "c"], folder).stderr, left("a/to_secret.js"));
-  assert.deepEqual(kindsOf(run("files.mjs", ["a/to_out.js"], folder).stdout), ["out"]);
-  const follow = run("files.mjs", ["--follow", "a"], folder);
+  assert.equal(run("files", ["link"], folder).stderr, left("link/to_out.js") + left("link/to_secret.js"));
+  assert.equal(run("files", ["a", "c"], folder).stderr, left("a/to_secret.js"));
+  assert.deepEqual(kindsOf(run("files", ["a/to_out.js"], folder).stdout), ["out"]);
+  const follow = run("files", ["--follow", "a"], folder);
   assert.deepEqual(kindsOf(follow.stdout), ["in", "in", "out", "Syntax"]);
   assert.match(follow.stderr, /^modinfo-files: a\/to_secret\.js:1:\d+: .*\n {2}\| root:x:0:0\n/);
 });
@@ -113,7 +113,7 @@ test("a link out of the given paths is followed only with --follow", () => {
 test("what a link out of the folder leads to is not in the report", () => {
   const folder = folderOf({ "a/b.js": "", secret: "the secret" });
   symlinkSync("../secret", join(folder, "a/c.js"));
-  const { stderr } = run("report.mjs", ["a"], folder);
+  const { stderr } = run("report", ["a"], folder);
   assert.ok(stderr.startsWith(`modinfo-report: a/c.js: ${LEFT}\n`), stderr);
   assert.ok(!readFileSync(join(folder, "report.html"), "utf8").includes("the secret"));
 });
@@ -121,7 +121,7 @@ test("what a link out of the folder leads to is not in the report", () => {
 test("a file that a link out of the paths leads to is read where it is named itself", () => {
   const folder = folderOf({ "a/b.js": "", "c.js": `import "d";` });
   symlinkSync("../c.js", join(folder, "a/c.js"));
-  run("report.mjs", ["--dot", "out.dot", "-"], folder, { input: "a\nc.js\n" });
+  run("report", ["--dot", "out.dot", "-"], folder, { input: "a\nc.js\n" });
   assert.match(readFileSync(join(folder, "out.dot"), "utf8"), /"c\.js"/);
 });
 
@@ -142,8 +142,8 @@ test("names are shown with their control characters escaped", () => {
   const isClean = (stderr) => assert.doesNotMatch(stderr, /[^\P{Cc}\n]|\u202e/u);
   /** @type {[name: string, words: string[], label?: string][]} */
   const runs = [
-    ["files.mjs", ["."]], ["files.mjs", [evil]], ["files.mjs", [`none${evil}`], `none${shown}`],
-    ["report.mjs", ["."]], ["report.mjs", ["-o", `none/${evil}`, "."], `none/${shown}`],
+    ["files", ["."]], ["files", [evil]], ["files", [`none${evil}`], `none${shown}`],
+    ["report", ["."]], ["report", ["-o", `none/${evil}`, "."], `none/${shown}`],
   ];
   for (const [name, words, label = shown] of runs) {
     const { stderr } = run(name, words, folder);
@@ -151,9 +151,9 @@ test("names are shown with their control characters escaped", () => {
     assert.ok(stderr.includes(`: ${label}:`), stderr);
   }
   for (const words of [[`--${evil}`], ["--reach", "./", evil]]) {
-    isClean(run("files.mjs", words, folder).stderr);
+    isClean(run("files", words, folder).stderr);
   }
-  const { stderr } = run("files.mjs", ["--resolve", "--types", "b.js"], folder);
+  const { stderr } = run("files", ["--resolve", "--types", "b.js"], folder);
   isClean(stderr);
   assert.match(stderr, /^modinfo-files: warning: .*tsconfig\.json: .*\\x1b\[32m/);
 });
@@ -161,7 +161,7 @@ test("names are shown with their control characters escaped", () => {
 test("the excerpt of a syntax error can't be taken for a line of output, and turns no direction", () => {
   const forged = "modinfo-files: src/a.js: nothing is wrong";
   const folder = folderOf({ "a.js": `let a = 1;\n${forged} \u202e ^\n` });
-  const { stderr, status } = run("files.mjs", ["a.js"], folder);
+  const { stderr, status } = run("files", ["a.js"], folder);
   assert.equal(status, 1);
   const [message, ...excerpt] = stderr.split("\n").slice(0, -1);
   assert.match(message, /^modinfo-files: a\.js:2:\d+: /);
@@ -175,21 +175,21 @@ test("a report overwrites nothing but an earlier one", () => {
   const folder = folderOf({ ...files, "d/empty.js": "" });
   symlinkSync("d", join(folder, "link"));
   for (const [words, message] of /** @type {[string[], RegExp][]} */ ([
-    [["-o", "d/a.js", "d"], /a\.js is no page of modinfo-report, and would be overwritten\n$/],
-    [["-o", "link/a.js", "d"], /is no page/], [["--dot", "./d/a.js", "link"], /is no graph of modinfo-report/],
-    [["--entry", "e.js", "-o", "e.js", "d"], /is no page/], [["-o", "package.json", "d"], /is no page/],
-    [["-o", "tsconfig.json", "d"], /is no page/], [["--dot", "package.json", "d"], /is no graph/],
-    [["-o", "index.html", "d"], /is no page/],
+    [["-o", "d/a.js", "d"], /a\.js isn't a page of modinfo-report and would be overwritten\n$/],
+    [["-o", "link/a.js", "d"], /isn't a page/], [["--dot", "./d/a.js", "link"], /isn't a graph of modinfo-report/],
+    [["--entry", "e.js", "-o", "e.js", "d"], /isn't a page/], [["-o", "package.json", "d"], /isn't a page/],
+    [["-o", "tsconfig.json", "d"], /isn't a page/], [["--dot", "package.json", "d"], /isn't a graph/],
+    [["-o", "index.html", "d"], /isn't a page/],
     [["-o", "d/empty.js", "d"], /empty\.js is a file of PATH, which the output would overwrite\n$/],
   ])) {
-    const { stderr, status } = run("report.mjs", words, folder);
+    const { stderr, status } = run("report", words, folder);
     assert.match(stderr, message);
     assert.equal(status, 2);
   }
   for (const [name, text] of Object.entries(files)) {
     assert.equal(readFileSync(join(folder, name), "utf8"), text);
   }
-  const again = [1, 2].map(() => run("report.mjs", ["--dot", "graph.dot", "d"], folder).status);
+  const again = [1, 2].map(() => run("report", ["--dot", "graph.dot", "d"], folder).status);
   assert.deepEqual(again, [0, 0]);
 });
 
@@ -198,7 +198,7 @@ test("a report writes its two outputs to two files", () => {
   symlinkSync("d", join(folder, "link"));
   for (const [output, dot] of [["r", "r"], ["r", "./r"], ["d/r", "link/r"], ["report.html"]]) {
     const words = dot ? ["-o", output, "--dot", dot] : ["--dot", output];
-    const { stderr, status } = run("report.mjs", [...words, "d"], folder);
+    const { stderr, status } = run("report", [...words, "d"], folder);
     assert.deepEqual([stderr, status], [`modinfo-report: --output and --dot name the same file: ${dot ?? output}\n`, 2]);
   }
   assert.deepEqual(readdirSync(folder).sort(), ["d", "link"]);
@@ -209,10 +209,10 @@ test("what is written is there as a whole or not at all", () => {
   const folder = folderOf({ "d/a.js": "", "kept.html": old, "target.html": old });
   chmodSync(join(folder, "kept.html"), 0o640);
   symlinkSync("target.html", join(folder, "page.html"));
-  run("report.mjs", ["-o", "page.html", "d"], folder);
+  run("report", ["-o", "page.html", "d"], folder);
   assert.match(readFileSync(join(folder, "target.html"), "utf8"), /<script type="module">/);
   // A file is full after 1 KiB, before the page ends.
-  const line = `ulimit -f 1; exec "${process.execPath}" "${programOf("report.mjs")}" --jobs 1 -o kept.html d`;
+  const line = `ulimit -f 1; exec "${process.execPath}" "${programOf("report")}" --jobs 1 -o kept.html d`;
   const { stderr, status } = spawnSync("bash", ["-c", line], {
     cwd: folder, env: { ...process.env, MODINFO }, timeout: TIME,
   });

@@ -2,25 +2,24 @@
 
 import assert from "node:assert/strict";
 import { spawnSync } from "node:child_process";
-import { chmodSync, existsSync, readdirSync, readFileSync, writeFileSync } from "node:fs";
+import { existsSync, readdirSync, readFileSync } from "node:fs";
 import { createRequire } from "node:module";
-import { join } from "node:path";
 import { test } from "node:test";
-import { setTimeout } from "node:timers/promises";
 import { fileURLToPath } from "node:url";
 
-import { Modinfo, ModinfoFault, ProgramEnd, moduleInfo } from "../src/index.mjs";
-import { MODINFO, folderOf } from "./run_commands.mjs";
+import { Modinfo } from "../modinfo-graph/dist/index.js";
+import { ModinfoFault, ProgramEnd, analyze, convert, moduleInfo, reach } from "../modinfo/dist/index.js";
+import { MODULE } from "./run_commands.mjs";
 import { unchecked } from "./unchecked.mjs";
 
 /**
- * @typedef {import("../src/index.mjs").ModuleDocument} ModuleDocument
- * @typedef {import("../src/index.mjs").ModuleInfo} ModuleInfo
+ * @typedef {import("../modinfo/dist/index.js").ModuleDocument} ModuleDocument
+ * @typedef {import("../modinfo/dist/index.js").ModuleInfo} ModuleInfo
  */
 
 const EXAMPLES = new URL("../../../examples/", import.meta.url);
 
-const isMissing = !existsSync(MODINFO) && "build/modinfo isn't made";
+const isMissing = !existsSync(MODULE) && "build/modinfo.wasm isn't made";
 
 /** @param {string} name */
 function readExample(name) {
@@ -55,32 +54,8 @@ function numbered(number) {
 
 const NUMBERS = Array.from({ length: 1000 }, (_, number) => number);
 
-/**
- * A program that is another, and notes its process and command for each start.
- * @param {string} program
- */
-function noted(program) {
-  const folder = folderOf();
-  const [path, log] = [join(folder, "modinfo"), join(folder, "log")];
-  writeFileSync(log, "");
-  writeFileSync(path, `#!/bin/sh\necho "$$ $1" >> '${log}'\nexec '${program}' "$@"\n`);
-  chmodSync(path, 0o755);
-  const starts = () => readFileSync(log, "utf8").split("\n").slice(0, -1)
-    .map((line) => line.split(" ")).map(([process, command]) => ({ process: Number(process), command }));
-  return { path, starts };
-}
-
-/** @param {number} id of a process */
-function isRunning(id) {
-  try {
-    return process.kill(id, 0);
-  } catch {
-    return false;
-  }
-}
-
 test("the examples", { skip: isMissing }, async () => {
-  const modinfo = new Modinfo({ program: MODINFO });
+  const modinfo = new Modinfo();
   for (const file of readdirSync(EXAMPLES).filter((each) => each.endsWith(".out.json"))) {
     const expected = readExample(file);
     const document = readExample(file.replace(".out.json", ".json"));
@@ -96,7 +71,7 @@ test("the examples", { skip: isMissing }, async () => {
 });
 
 test("5,000 documents and texts", { skip: isMissing }, async () => {
-  const modinfo = new Modinfo({ program: MODINFO });
+  const modinfo = new Modinfo();
   /** @param {number} number */
   const check = async (number) => {
     const { document, info } = numbered(number);
@@ -107,39 +82,23 @@ test("5,000 documents and texts", { skip: isMissing }, async () => {
   await modinfo.close();
 });
 
-test("what a process held that is killed goes to another one", { skip: isMissing }, async () => {
-  const { path, starts } = noted(MODINFO);
-  const modinfo = new Modinfo({ program: path, jobs: 1 });
+test("closing it while it is at work", { skip: isMissing }, async () => {
+  const modinfo = new Modinfo();
   const answers = NUMBERS.map((number) => modinfo.analyze(numbered(number).document));
-  await answers[500];
-  process.kill(starts()[0].process, "SIGKILL");
+  const texts = NUMBERS.map((number) => modinfo.moduleInfo(numbered(number).document.source, "file:///a.js"));
+  const wrong = modinfo.moduleInfo("(", "file:///a.js").catch(({ line, column }) => [line, column]);
+  const closed = modinfo.close();
+  await assert.rejects(modinfo.analyze(numbered(0).document), { name: "ProgramEnd", message: "modinfo is closed" });
+  await assert.rejects(modinfo.moduleInfo("", "file:///a.js"), ProgramEnd);
+  await closed;
   assert.deepEqual(await Promise.all(answers), NUMBERS.map((number) => numbered(number).info));
-  assert.equal(starts().length, 2);
+  assert.deepEqual(await Promise.all(texts), NUMBERS.map((number) => numbered(number).info));
+  assert.deepEqual(await wrong, [1, 2]);
   await modinfo.close();
 });
 
-for (const jobs of [1, 3]) {
-  test(`closing it while it is at work, ${jobs} processes`, { skip: isMissing }, async () => {
-    const { path, starts } = noted(MODINFO);
-    const modinfo = new Modinfo({ program: path, jobs });
-    const answers = NUMBERS.map((number) => modinfo.analyze(numbered(number).document));
-    const texts = NUMBERS.map((number) => modinfo.moduleInfo(numbered(number).document.source, "file:///a.js"));
-    const wrong = modinfo.moduleInfo("(", "file:///a.js").catch(({ line, column }) => [line, column]);
-    const closed = modinfo.close();
-    await assert.rejects(modinfo.analyze(numbered(0).document), { name: "ProgramEnd", message: "modinfo is closed" });
-    await assert.rejects(modinfo.moduleInfo("", "file:///a.js"), ProgramEnd);
-    await closed;
-    assert.deepEqual(await Promise.all(answers), NUMBERS.map((number) => numbered(number).info));
-    assert.deepEqual(await Promise.all(texts), NUMBERS.map((number) => numbered(number).info));
-    assert.deepEqual(await wrong, [1, 2]);
-    assert.ok(starts().filter(({ command }) => command === "analyze").length <= 2 * jobs);
-    assert.deepEqual(starts().filter(({ process }) => isRunning(process)), []);
-    await modinfo.close();
-  });
-}
-
 test("texts with a fault", { skip: isMissing }, async () => {
-  const modinfo = new Modinfo({ program: MODINFO });
+  const modinfo = new Modinfo();
   /**
    * @param {string} text
    * @param {object} fault
@@ -151,11 +110,11 @@ test("texts with a fault", { skip: isMissing }, async () => {
   };
   await refused("let a;\nlet é = ;", { fault: "Syntax", line: 2, column: 9 });
   await refused("let a;\nlet 😀 = ;", { fault: "Syntax", line: 2, column: 5 });
-  await refused("a('\ud800')", { fault: "Input", message: "Input: a lone surrogate is no UTF-8" });
+  await refused("a('\ud800')", { fault: "Input", message: "Input: a lone surrogate isn't UTF-8" });
   await refused("(".repeat(100_000), { fault: "Syntax", line: 1 });
   await refused("", { fault: "Specifier" }, ["./a.ts"]);
   const url = "file:///\ud800.ts";
-  await refused("", { fault: "Specifier", message: "Specifier: an absolute URL has no lone surrogate" }, [url]);
+  await refused("", { fault: "Specifier", message: "Specifier: an absolute URL can't have a lone surrogate" }, [url]);
   const tree = { type: "Program", start: 0, end: 0, body: [], comments: [] };
   await assert.rejects(modinfo.analyzeEstree(tree, "", url, "TypeScript"), { fault: "Specifier" });
   await assert.rejects(modinfo.analyzeEstree(tree, "\ud800", "file:///a.ts", "TypeScript"), { fault: "Input" });
@@ -166,26 +125,12 @@ test("texts with a fault", { skip: isMissing }, async () => {
   await modinfo.close();
 });
 
-test("an aborted call ends its process, and the next call has another one", { skip: isMissing }, async () => {
-  const { path, starts } = noted(MODINFO);
-  const modinfo = new Modinfo({ program: path, jobs: 1 });
-  const controller = new AbortController();
-  const large = Array.from({ length: 200_000 }, (_, at) => `import "./${at}.js";\n`).join("");
-  const call = modinfo.moduleInfo(large, "file:///a.js", undefined, { signal: controller.signal });
-  setImmediate(() => controller.abort(new Error("enough")));
-  await assert.rejects(call, { message: "enough" });
-  await assert.rejects(modinfo.moduleInfo("", "file:///a.js", undefined, { signal: controller.signal }), { message: "enough" });
-  assert.deepEqual(await modinfo.moduleInfo("", "file:///a.js"), { script: true });
-  await modinfo.close();
-  assert.deepEqual(starts().filter(({ process }) => isRunning(process)), []);
-});
-
 /** @param {string} script an ES module, in which `INDEX` is the package's */
 function outputOf(script, words = ["--input-type=module"]) {
-  const index = new URL(words.length > 0 ? "../src/index.mjs" : "../src/index.cjs", import.meta.url);
+  const index = new URL(words.length > 0 ? "../modinfo-graph/dist/index.js" : "../modinfo-graph/dist/index.cjs", import.meta.url);
   const { stdout, stderr, status } = spawnSync(process.execPath, words, {
     input: script.replace("INDEX", JSON.stringify(words.length > 0 ? index.href : fileURLToPath(index))),
-    env: { ...process.env, MODINFO },
+    env: { ...process.env, MODINFO_WASM: MODULE },
   });
   assert.deepEqual([String(stderr), status], ["", 0]);
   return String(stdout);
@@ -219,10 +164,10 @@ const AT_THE_CALL = [
 ];
 
 /** @type {[string, typeof Modinfo][]} */
-const CLASSES = [["import", Modinfo], ["require", createRequire(import.meta.url)("../src/index.cjs").Modinfo]];
+const CLASSES = [["import", Modinfo], ["require", createRequire(import.meta.url)("../modinfo-graph/dist/index.cjs").Modinfo]];
 for (const [name, Class] of CLASSES) {
   test(`documents are read at the call, by ${name}`, { skip: isMissing }, async () => {
-    const modinfo = new Class({ program: MODINFO });
+    const modinfo = new Class();
     for (const [command, document, answer] of AT_THE_CALL) {
       const [bytes, object] = [Buffer.from(JSON.stringify(document)), structuredClone(document)];
       const answers = [modinfo[command](bytes), modinfo[command](object)];
@@ -230,7 +175,7 @@ for (const [name, Class] of CLASSES) {
       Object.keys(object).forEach((member) => delete object[member]);
       assert.deepEqual(await Promise.all(answers), [answer, answer], command);
     }
-    await assert.rejects(modinfo.analyze(unchecked(undefined)), { name: "TypeError", message: /and is undefined$/ });
+    await assert.rejects(modinfo.analyze(unchecked(undefined)), { name: "TypeError", message: /not undefined$/ });
     await assert.rejects(modinfo.convert({ a: 1n }), { name: "TypeError" });
     await modinfo.close();
   });
@@ -242,7 +187,7 @@ test("the plain function", { skip: isMissing }, async () => {
 });
 
 test("the faults of modinfo", { skip: isMissing }, async () => {
-  const modinfo = new Modinfo({ program: MODINFO });
+  const modinfo = new Modinfo();
   const { document } = numbered(0);
   const [comment] = [{ kind: "line", range: [0, 2], text: "" }];
   /** @type {[command: "analyze" | "convert" | "reach", document: any, fault: string][]} */
@@ -267,46 +212,35 @@ test("the faults of modinfo", { skip: isMissing }, async () => {
   await modinfo.close();
 });
 
-test("a conversion, each command by a process of its own that its first document starts", { skip: isMissing }, async () => {
-  const { path, starts } = noted(MODINFO);
-  const modinfo = new Modinfo({ program: path, jobs: 1 });
-  assert.deepEqual(starts(), []);
-  assert.deepEqual(
-    await modinfo.convert(readExample("stored.convert.json")), readExample("stored.converted.json"),
-  );
-  assert.deepEqual(await modinfo.convert([1]), [1]);
-  assert.deepEqual(starts().map(({ command }) => command), ["convert"]);
-  assert.deepEqual(await modinfo.reach({ root: "a", modules: {} }), []);
-  assert.deepEqual(starts().map(({ command }) => command), ["convert", "reach"]);
+test("a conversion", { skip: isMissing }, async () => {
+  assert.deepEqual(await convert(readExample("stored.convert.json")), readExample("stored.converted.json"));
+  assert.deepEqual(await convert([1]), [1]);
+});
+
+test("a program that isn't there is an error of what runs it", async () => {
+  const modinfo = new Modinfo({ program: "/none/modinfo" });
+  await assert.rejects(modinfo.graph({ paths: ["."] }), { name: "ProgramEnd", message: /^\/none\/modinfo doesn't run .* ENOENT / });
   await modinfo.close();
 });
 
-test("a program that isn't there", async () => {
-  for (const jobs of [1, 2]) {
-    const modinfo = new Modinfo({ program: "/none/modinfo", jobs });
-    const missing = { name: "ProgramEnd", message: /^\/none\/modinfo can't be started: spawn .* ENOENT \(the option / };
-    await assert.rejects(modinfo.analyze("{}"), missing);
-    await assert.rejects(modinfo.reach("{}"), missing);
-    await assert.rejects(modinfo.moduleInfo("", "file:///a.js"), missing);
-    await modinfo.close();
-  }
-});
-
 test("what is no document, no text or no option", async () => {
-  const modinfo = new Modinfo({ program: MODINFO });
+  const modinfo = new Modinfo();
   /**
    * @param {Promise<unknown>} call
    * @param {string | RegExp} message
    */
   const refused = (call, message) => assert.rejects(call, { name: "TypeError", message });
-  await refused(modinfo.analyze(unchecked(undefined)), "a document is an object, or its JSON, and is undefined");
-  await refused(modinfo.reach(unchecked(() => {})), /^a document is an object, or its JSON, and is /);
+  await refused(modinfo.analyze(unchecked(undefined)), "a document must be an object or its JSON, not undefined");
+  await refused(modinfo.reach(unchecked(() => {})), /^a document must be an object or its JSON, not /);
   /** @type {Record<string, unknown>} */
   const circle = {};
   circle.circle = circle;
   await refused(modinfo.convert(circle), /circular/);
-  await refused(modinfo.moduleInfo(unchecked(1), "file:///a.js"), "the text must be a string, and is 1");
-  await refused(modinfo.moduleInfo("", unchecked({})), "specifier must be an absolute URL, and is [object Object]");
+  await refused(modinfo.moduleInfo(unchecked(1), "file:///a.js"), "the text must be a string, not 1");
+  await refused(modinfo.moduleInfo("", unchecked({})), "specifier must be an absolute URL, not [object Object]");
+  const message = "mediaType must be a string, not [object Object]: options follow it";
+  await refused(modinfo.moduleInfo("", "file:///a.js", unchecked({ signal: undefined })), message);
+  await refused(modinfo.checkSource("", "file:///a.js", unchecked({})), message);
   await modinfo.close();
   for (const options of [
     { program: "" }, { program: 1 }, { jobs: 0 }, { jobs: 1.5 }, { jobs: "2" }, { jobs: Infinity },
@@ -316,28 +250,12 @@ test("what is no document, no text or no option", async () => {
 });
 
 test("disposing of it closes it", async () => {
-  const modinfo = new Modinfo({ program: MODINFO });
+  const modinfo = new Modinfo();
   const answer = modinfo.analyze(numbered(1).document);
   await modinfo[Symbol.asyncDispose]();
   assert.deepEqual(await answer, numbered(1).info);
   await assert.rejects(modinfo.analyze(numbered(1).document), ProgramEnd);
 });
-
-/**
- * A program that refuses all documents, and reports this, or never anything.
- * @param {object} [report]
- */
-function refusing(report) {
-  const folder = folderOf({ report: report ? `${JSON.stringify(report)}\n` : "" });
-  const path = join(folder, "modinfo");
-  writeFileSync(path, `#!/bin/sh
-while read -r line; do
-  [ "$1" = check ] && cat '${folder}/report' || echo '{"fault":"Tree"}'
-done
-`);
-  chmodSync(path, 0o755);
-  return path;
-}
 
 /**
  * The fault of an error that has no report.
@@ -347,71 +265,28 @@ function faultOf(error) {
   return error instanceof ModinfoFault && !("report" in error) ? error.fault : undefined;
 }
 
-test("a fault has its report where the call asks for it", async () => {
-  const report = { fault: "Tree", pointer: "/program", expected: "a member `body`" };
-  await using(refusing(report), async (modinfo) => {
-    const message = "Tree at /program: expected a member `body`";
-    await assert.rejects(modinfo.analyze("{}", { report: true }), { name: "ModinfoFault", fault: "Tree", message, report });
-    await assert.rejects(modinfo.analyze("{}"), (error) => {
-      return faultOf(error) === "Tree" && /^ModinfoFault: Tree: .+ report .+/.test(String(error));
-    });
-    const asked = modinfo.analyze("{}", { report: true });
-    await Promise.all([modinfo.close(), assert.rejects(asked, { report })]);
+test("a fault has its report where the call asks for it", { skip: isMissing }, async () => {
+  const report = { fault: "Tree", pointer: "", expected: "a member `specifier`" };
+  const message = "Tree at the whole document: expected a member `specifier`";
+  await assert.rejects(analyze("{}", { report: true }), { name: "ModinfoFault", fault: "Tree", message, report });
+  await assert.rejects(analyze("{}"), (error) => {
+    return faultOf(error) === "Tree" && /^ModinfoFault: Tree: .+ report .+/.test(String(error));
   });
-  await using(MODINFO, async (modinfo) => {
-    assert.deepEqual(await modinfo.analyze(numbered(1).document, { report: true }), numbered(1).info);
-  });
+  assert.deepEqual(await analyze(numbered(1).document, { report: true }), numbered(1).info);
 });
-
-/** @type {[name: string, call: (modinfo: Modinfo, signal: AbortSignal) => Promise<unknown>][]} */
-const REPORTING = [
-  ["analyze", (modinfo, signal) => modinfo.analyze("{}", { report: true, signal })],
-  ["moduleInfo", (modinfo, signal) => modinfo.moduleInfo("(", "file:///a.js", undefined, { signal })],
-];
-
-for (const [name, call] of REPORTING) {
-  test(`${name} is aborted while it waits for the report`, async () => {
-    const { path, starts } = noted(refusing());
-    await using(path, async (modinfo) => {
-      const controller = new AbortController();
-      const aborted = assert.rejects(call(modinfo, controller.signal), { message: "enough" });
-      while (!starts().some(({ command }) => command === "check")) {
-        await setTimeout(10);
-      }
-      controller.abort(new Error("enough"));
-      await aborted;
-    });
-  });
-}
 
 test("the reports of modinfo itself", { skip: isMissing }, async () => {
-  await using(MODINFO, async (modinfo) => {
-    /**
-     * @param {unknown} document
-     * @param {string} message
-     */
-    const refused = (document, message) => assert.rejects(modinfo.analyze(unchecked(document), { report: true }), { message });
-    await refused("{", "Json at line 1, column 2: expected one JSON value, at most 127 deep");
-    await refused({}, "Tree at the whole document: expected a member `specifier`");
-    await refused(
-      { specifier: "a:b", mediaType: "JavaScript", source: "", program: { range: [0, 1], body: [] } },
-      "RangeOutside at /program/range: expected an end of at most 0, the source's length",
-    );
-    await assert.rejects(modinfo.reach("{}", { report: true }), { fault: "Shape" });
-    await assert.rejects(modinfo.convert("[0.5]", { report: true }), { fault: "Float" });
-  });
+  /**
+   * @param {unknown} document
+   * @param {string} message
+   */
+  const refused = (document, message) => assert.rejects(analyze(unchecked(document), { report: true }), { message });
+  await refused("{", "Json at line 1, column 2: expected one JSON value, at most 127 deep");
+  await refused({}, "Tree at the whole document: expected a member `specifier`");
+  await refused(
+    { specifier: "a:b", mediaType: "JavaScript", source: "", program: { range: [0, 1], body: [] } },
+    "RangeOutside at /program/range: expected an end of at most 0, the source's length",
+  );
+  await assert.rejects(reach("{}", { report: true }), { fault: "Shape" });
+  await assert.rejects(convert("[0.5]", { report: true }), { fault: "Float" });
 });
-
-/**
- * Hands a service to a function, and closes it.
- * @param {string} program
- * @param {(modinfo: Modinfo) => Promise<void>} run
- */
-async function using(program, run) {
-  const modinfo = new Modinfo({ program });
-  try {
-    await run(modinfo);
-  } finally {
-    await modinfo.close();
-  }
-}

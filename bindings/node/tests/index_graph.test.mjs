@@ -6,7 +6,7 @@ import { chmodSync, existsSync, readFileSync, rmSync, symlinkSync, writeFileSync
 import { join } from "node:path";
 import { after, test } from "node:test";
 
-import { Modinfo } from "../src/index.mjs";
+import { Modinfo } from "../modinfo-graph/dist/index.js";
 import { MODINFO, folderOf, urlOf } from "./run_commands.mjs";
 import { unchecked } from "./unchecked.mjs";
 
@@ -25,7 +25,7 @@ const PROJECT = {
 /**
  * The paths of a graph's modules.
  * @param {string} folder
- * @param {import("../src/index.mjs").Graph} graph
+ * @param {import("../modinfo-graph/dist/index.js").Graph} graph
  */
 const pathsOf = (folder, { modules }) => modules.map(({ specifier }) => specifier.slice(urlOf(folder, "src").length - 3));
 
@@ -87,7 +87,7 @@ test("a hook says what names lead to, and undefined leaves that to the rules", a
   const folder = folderOf({ "a.ts": `import "virtual:x"; import "@/b"; import "./c"; import "./d";`, "src/b.ts": "", "c.ts": "", "d.ts": "" });
   /** @type {unknown[]} */
   const asked = [];
-  /** @type {import("../src/index.mjs").ResolveHook} */
+  /** @type {import("../modinfo-graph/dist/index.js").ResolveHook} */
   const resolve = async (specifier, from, { kind }) => {
     asked.push([specifier, from === urlOf(folder, "a.ts"), kind]);
     const found = specifier.startsWith("@/") ? join(folder, "src", `${specifier.slice(2)}.ts`) : undefined;
@@ -103,7 +103,7 @@ test("a path with a zero byte names no file, whoever names it", async () => {
   const folder = folderOf({ "a.js": `import "b";`, "b.js": `import "c";`, "c.js": `import "d";`, "d.js": `import "e";` });
   const [zero, ...others] = ["a.js%00b.js", "c.js", "d.js"].map((name) => urlOf(folder, name).replace("%25", "%"));
   const named = await modinfo.graph({ paths: [zero, ...others], jobs: 1 });
-  /** @type {import("../src/index.mjs").ResolveHook} */
+  /** @type {import("../modinfo-graph/dist/index.js").ResolveHook} */
   const resolve = (specifier) => (specifier === "d" ? join(folder, "a.js\0b.js") : undefined);
   const led = await modinfo.graph({ paths: others, entries: [others[0]], resolve, jobs: 1 });
   for (const { modules } of [named, led]) {
@@ -135,7 +135,7 @@ test("a cache keeps what is found, and a graph takes globs, packages and pages",
   const ignoring = await modinfo.graph({ entries: [folder], ignore: ["x"], cache });
   assert.deepEqual(ignoring.modules.map(({ specifier }) => specifier), [urlOf(folder, "a.js")]);
   await assert.rejects(modinfo.graph({ paths: [folder], exclude: ["!x"] }), {
-    message: /^a glob can't be read: !x: a glob that begins with "!"/,
+    message: /^invalid glob: !x: a glob that begins with "!"/,
   });
 });
 
@@ -229,25 +229,25 @@ test("options that there aren't, and values that they can't have, are refused", 
   const specifier = "file:///a.ts";
   /** @type {[call: () => Promise<unknown>, message: RegExp][]} */
   const refused = [
-    [() => modinfo.moduleInfo("", specifier, "Jsx", unchecked({ mediatype: "Jsx" })), /^there is no option mediatype: /],
-    [() => modinfo.analyze("{}", unchecked({ sginal: 1 })), /^there is no option sginal: /],
-    [() => modinfo.check({}, unchecked({ commands: "reach" })), /^there is no option commands: /],
-    [() => modinfo.graph(unchecked({ path: "." })), /^there is no option path: /],
-    [() => modinfo.graph({}), /^paths or entries are needed/],
-    [() => modinfo.graph(unchecked({ paths: [1] })), /^a path must be a path or the URL of a file, and is 1$/],
+    [() => modinfo.moduleInfo("", specifier, "Jsx", unchecked({ mediatype: "Jsx" })), /^unknown option mediatype: /],
+    [() => modinfo.analyze("{}", unchecked({ sginal: 1 })), /^unknown option sginal: /],
+    [() => modinfo.check({}, unchecked({ commands: "reach" })), /^unknown option commands: /],
+    [() => modinfo.graph(unchecked({ path: "." })), /^unknown option path: /],
+    [() => modinfo.graph({}), /^paths or entries must be given/],
+    [() => modinfo.graph(unchecked({ paths: [1] })), /^a path must be a path or the URL of a file, not 1$/],
     [() => modinfo.graph(unchecked({ paths: ["."], types: "no" })), /^gitignore, all, types and dynamic must be true or false$/],
     [() => modinfo.graph({ paths: ["."], jobs: 0 }), /^jobs must be a whole number/],
-    [() => modinfo.graph(unchecked({ paths: ["."], resolve: "x" })), /^resolve must be a function, and is x$/],
-    [() => modinfo.graph(unchecked({ paths: ["."], cache: 1 })), /^cache must be a path or the URL of a file, and is 1$/],
-    [() => modinfo.resolve({}, { specifier: "a.ts" }), /^specifier must be the URL of a file, and is a\.ts$/],
-    [() => modinfo.resolve(unchecked(null), { specifier }), /^a ModuleInfo must be an object, and is null$/],
+    [() => modinfo.graph(unchecked({ paths: ["."], resolve: "x" })), /^resolve must be a function, not x$/],
+    [() => modinfo.graph(unchecked({ paths: ["."], cache: 1 })), /^cache must be a path or the URL of a file, not 1$/],
+    [() => modinfo.resolve({}, { specifier: "a.ts" }), /^specifier must be the URL of a file, not a\.ts$/],
+    [() => modinfo.resolve(unchecked(null), { specifier }), /^a ModuleInfo must be an object, not null$/],
     [() => modinfo.resolve({}, { specifier, conditions: ["a b"] }), /^conditions must be an array of names$/],
     [() => modinfo.reach("{}", unchecked({ signal: 1 })), /^signal must be an AbortSignal$/],
   ];
   for (const [call, message] of refused) {
     await assert.rejects(async () => call(), { name: "TypeError", message });
   }
-  assert.throws(() => new Modinfo(unchecked({ job: 2 })), { name: "TypeError", message: /^there is no option job: / });
+  assert.throws(() => new Modinfo(unchecked({ job: 2 })), { name: "TypeError", message: /^unknown option job: / });
 });
 
 test("where the program can't be started, a graph is rejected", async () => {

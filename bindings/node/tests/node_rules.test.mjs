@@ -9,10 +9,10 @@ import { tmpdir } from "node:os";
 import { dirname, join } from "node:path";
 import { test } from "node:test";
 
-import { RegularFiles } from "../src/files/regular_files.mjs";
-import { NodeRules } from "../src/graph/node_rules.mjs";
-import { PackageFolders } from "../src/graph/package_folders.mjs";
-import { PackageManifests } from "../src/graph/package_manifests.mjs";
+import { RegularFiles } from "../modinfo-graph/dist/files/regular_files.js";
+import { NodeRules } from "../modinfo-graph/dist/graph/node_rules.js";
+import { PackageFolders } from "../modinfo-graph/dist/graph/package_folders.js";
+import { PackageManifests } from "../modinfo-graph/dist/graph/package_manifests.js";
 import { CONDITIONS, askNode } from "./by_node.mjs";
 import { RandomProject } from "./random_packages.mjs";
 

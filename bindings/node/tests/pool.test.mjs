@@ -7,10 +7,10 @@ import { chmodSync, existsSync, readFileSync } from "node:fs";
 import { join } from "node:path";
 import { test } from "node:test";
 
-import { ModinfoFault, ProgramEnd } from "../src/index.mjs";
-import { documentCommand, lineOf } from "../src/runtime/commands.mjs";
-import { inOrder } from "../src/runtime/in_order.mjs";
-import { Pool } from "../src/runtime/pool.mjs";
+import { ModinfoFault, ProgramEnd } from "../modinfo/dist/index.js";
+import { documentCommand, lineOf } from "./equipment/document_command.mjs";
+import { inOrder } from "../modinfo-graph/dist/runtime/in_order.js";
+import { Pool } from "../modinfo-graph/dist/runtime/pool.js";
 import { all, settled } from "./promises.mjs";
 import { MODINFO, folderOf } from "./run_commands.mjs";
 
@@ -240,8 +240,8 @@ test("a name that no program can have is an error of each document", async () =>
 test("where no more files can be opened, each document is rejected", () => {
   const script = `
     import { openSync } from "node:fs";
-    import { documentCommand } from ${JSON.stringify(new URL("../src/runtime/commands.mjs", import.meta.url).href)};
-    import { Pool } from ${JSON.stringify(new URL("../src/runtime/pool.mjs", import.meta.url).href)};
+    import { documentCommand } from ${JSON.stringify(new URL("./equipment/document_command.mjs", import.meta.url).href)};
+    import { Pool } from ${JSON.stringify(new URL("../modinfo-graph/dist/runtime/pool.js", import.meta.url).href)};
     try { for (;;) openSync("/dev/null"); } catch {}
     const service = new Pool(documentCommand("cat", "analyze"), 2);
     const settled = await Promise.allSettled([service.run("1\\n"), service.run("2\\n")]);
@@ -261,7 +261,7 @@ test("after what is no answer nothing that the process prints is one", async () 
   const service = new Service(program);
   for (const [wrong, printed] of [["1", "modinfo"], ["2", '{"fault":2}']]) {
     const [refused, ...others] = await settled([service.answer(wrong), service.answer("5"), service.answer("6")]);
-    assert.equal(String(refused.reason), `ProgramEnd: ${program} prints what is no answer: ${printed}`);
+    assert.equal(String(refused.reason), `ProgramEnd: ${program} printed an invalid answer: ${printed}`);
     assert.deepEqual(others.map(({ value }) => String(value)), ["5", "6"]);
   }
   assert.equal(String(await service.answer("3")), "3");

@@ -4,7 +4,7 @@ import assert from "node:assert/strict";
 import { spawnSync } from "node:child_process";
 import { test } from "node:test";
 
-import { Progress } from "../src/cli/common/progress.mjs";
+import { Progress } from "../modinfo-graph/dist/cli/common/progress.js";
 import { MODINFO, folderOf, programOf } from "./run_commands.mjs";
 
 /**
@@ -48,9 +48,9 @@ test("elsewhere it prints what stays alone", () => {
 
 const hasScript = spawnSync("script", ["--version"]).status === 0;
 
-test("files.mjs on a terminal", { skip: !hasScript && "script isn't installed" }, () => {
+test("modinfo-files on a terminal", { skip: !hasScript && "script isn't installed" }, () => {
   const folder = folderOf({ "a.js": "", "b.js": "(" });
-  const command = `${process.execPath} ${programOf("files.mjs")} ${folder}`;
+  const command = `${process.execPath} ${programOf("files")} ${folder}`;
   /** @param {string} line */
   const onTerminal = (line) => String(spawnSync("script", ["-qec", line, "/dev/null"], {
     env: { ...process.env, MODINFO, SHELL: "/bin/sh" },

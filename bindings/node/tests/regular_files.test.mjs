@@ -7,8 +7,8 @@ import { join, relative } from "node:path";
 import { test } from "node:test";
 import { pathToFileURL } from "node:url";
 
-import { RegularFiles } from "../src/files/regular_files.mjs";
-import { createResolver } from "../src/graph/resolver.mjs";
+import { RegularFiles } from "../modinfo-graph/dist/files/regular_files.js";
+import { Resolver } from "../modinfo-graph/dist/graph/resolver.js";
 import { folderOf } from "./run_commands.mjs";
 
 /** A file system that keeps what it opens. */
@@ -78,7 +78,7 @@ for (const [what, place, name, prepare] of LAYOUTS) {
       make(join(folder, place));
       prepare?.(folder);
       const { opened, system } = countingSystem();
-      const resolver = createResolver({ root: folder, system });
+      const resolver = new Resolver({ root: folder, system });
       for (const nameKind of /** @type {const} */ (["import", "require", "dynamic"])) {
         for (const from of ["a.js", "deep/y.js", "other/z.js", "linked/x.js"]) {
           const { class: found } = resolver.resolve(name.replace("FOLDER", folder), join(folder, from), { kind: nameKind });
@@ -101,7 +101,7 @@ test("a file is opened once, and no other one than package.json and configuratio
     "b.ts": "", "deno.json": "{}",
   });
   const { opened, system } = countingSystem();
-  const resolver = createResolver({ root: folder, system });
+  const resolver = new Resolver({ root: folder, system });
   for (const name of ["./a.js", "./deep/x.js", "p/x", "@/x.js", "#a", "none", "./none"]) {
     resolver.resolve(name, join(folder, "b.ts"));
     resolver.resolve(name, join(folder, "deep/y.js"), { kind: "require" });
@@ -117,14 +117,16 @@ test("a tsconfig.json in few bytes has no folder walked", () => {
     "app.json": `{"include":["/usr/**/*","/proc/**/*","../../**/*","**/*"],"compilerOptions":{"paths":{"@/*":["./src/*"]}}}`,
     "src/a.ts": "", "src/b.ts": "",
   });
-  let read = 0;
+  /** @type {string[]} */
+  const read = [];
   const readdirSync = /** @type {any} */ ((/** @type {any[]} */ ...words) => {
-    read++;
+    read.push(relative(folder, words[0]));
     return /** @type {any} */ (fs.readdirSync)(...words);
   });
-  const resolver = createResolver({ root: folder, system: { ...fs, readdirSync } });
+  const resolver = new Resolver({ root: folder, system: { ...fs, readdirSync } });
   const { class: found } = resolver.resolve("@/b", join(folder, "src/a.ts"));
-  assert.deepEqual([found, read], ["file", 0]);
+  // Only the folders of the importer are looked into, for pages with an import map.
+  assert.deepEqual([found, read.sort()], ["file", ["", "src"]]);
 });
 
 test("where a link leads is known before anything is opened", () => {
@@ -136,7 +138,7 @@ test("where a link leads is known before anything is opened", () => {
   symlinkSync("../secret", join(folder, "linked"));
   symlinkSync("a.js", join(folder, "inside.js"));
   const { opened, system } = countingSystem();
-  const resolver = createResolver({ root: folder, system });
+  const resolver = new Resolver({ root: folder, system });
   const target = (/** @type {string} */ path) => ({ class: "outside", target: pathToFileURL(join(outer, path)).href });
   const resolved = (/** @type {string} */ name) => resolver.resolve(name, join(folder, "a.js"));
   assert.deepEqual(resolved("s"), target("secret"));
@@ -203,7 +205,7 @@ test("a file that is replaced by a link is not followed", () => {
 
 test("a package.json of more than 4 MiB is passed over", () => {
   const folder = folderOf({ "package.json": `{"imports":{"#a":"./a.js"}}${" ".repeat(4 * 2 ** 20)}`, "a.js": "" });
-  const resolver = createResolver({ root: folder });
+  const resolver = new Resolver({ root: folder });
   assert.deepEqual(resolver.resolve("#a", join(folder, "a.js")), { class: "missing" });
-  assert.match(resolver.takeNotices().join(), /package\.json: passed over: the file has more than 4194304 bytes/);
+  assert.match(resolver.takeNotices().join(), /package\.json: ignored: the file has more than 4194304 bytes/);
 });

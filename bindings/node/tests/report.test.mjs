@@ -6,9 +6,10 @@ import { join } from "node:path";
 import { test } from "node:test";
 import { inflateSync } from "node:zlib";
 
-import { readLibraries } from "../src/report/libraries.mjs";
-import { pageOf } from "../src/report/page.mjs";
+import { readLibraries } from "../modinfo-report/dist/libraries.js";
+import { pageOf } from "../modinfo-report/dist/page.js";
 import { folderOf, run } from "./run_commands.mjs";
+import { unchecked } from "./unchecked.mjs";
 
 const NAME = "modinfo-report";
 
@@ -25,7 +26,7 @@ const PROJECT = {
  * @param {string[]} words
  */
 function make(folder, words) {
-  return run("report.mjs", words, { cwd: folder });
+  return run("report", words, { cwd: folder });
 }
 
 /**
@@ -122,11 +123,11 @@ test("a file without an answer is reported, is in the page with its position, an
 });
 
 test("without a library the page is made without what it draws, and names the package that has it", () => {
-  const [layout, sizes] = readLibraries([folderOf()]);
-  assert.equal(layout.fault, "dagre is not installed: npm install dagre, or Debian's node-dagre-layout");
-  assert.equal(sizes.fault, "d3-hierarchy is not installed: npm install d3-hierarchy, or Debian's node-d3-hierarchy");
-  const page = pageOf({ title: "a" }, [], [layout, sizes]);
-  assert.ok(page.includes(`"absent":{"dagre":"dagre is not installed`));
+  const [layout, sizes] = readLibraries([folderOf(), folderOf()]);
+  assert.equal(layout.fault, "dagre not found: the package modinfo-report has it, as has Debian's node-dagre-layout");
+  assert.equal(sizes.fault, "d3-hierarchy not found: the package modinfo-report has it, as has Debian's node-d3-hierarchy");
+  const page = pageOf(unchecked({ title: "a" }), [], [layout, sizes]);
+  assert.ok(page.includes(`"absent":{"dagre":"dagre not found`));
   assert.ok(!page.includes('id="layout"'));
 });
 
@@ -150,19 +151,18 @@ test("what can't be written is an error", () => {
 test("other words are answered by the usage, and nothing is written", () => {
   const folder = folderOf(PROJECT);
   for (const words of [[], ["--none", "src"], ["--jobs", "0", "src"], ["--entry", "src", "src"], ["--entry"], ["-o"]]) {
-    const { stdout, stderr, status } = run("report.mjs", words, { cwd: folder });
+    const { stdout, stderr, status } = run("report", words, { cwd: folder });
     assert.deepEqual([stdout, status], ["", 2], words.join(" "));
     assert.match(stderr, new RegExp(`^${NAME}: .+`));
   }
   assert.ok(!existsSync(join(folder, "report.html")));
-  assert.match(run("report.mjs", ["--help"]).stdout, /^usage: modinfo-report /);
+  assert.match(run("report", ["--help"]).stdout, /^usage: modinfo-report /);
 });
 
 test("no text ends an element of the page", () => {
   const evil = `</script><script>x</script><!--<script>]]>&lt;\u2028`;
-  /** @type {{ title: string, [member: string]: unknown }} */
   const index = { title: "<b>&\"", evil };
-  const page = pageOf(index, [{ evil }], readLibraries([folderOf()]));
+  const page = pageOf(unchecked(index), [unchecked({ evil })], readLibraries([folderOf(), folderOf()]));
   assert.deepEqual(page.match(/<\/?(?:script|style|title|b)\b/g), [
     "<title", "</title", "<style", "</style",
     "<script", "</script", "<script", "</script", "<script", "</script",

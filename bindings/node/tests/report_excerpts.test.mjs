@@ -3,11 +3,11 @@
 import assert from "node:assert/strict";
 import { test } from "node:test";
 
-import { excerptOf, withinBounds } from "../src/report/excerpts.mjs";
+import { excerptOf, withinBounds } from "../modinfo-report/dist/excerpts.js";
 
 /**
- * @typedef {import("../src/report/marks.mjs").Mark} Mark
- * @typedef {import("../src/report/excerpts.mjs").Text} Text
+ * @typedef {import("../modinfo-report/dist/marks.js").Mark} Mark
+ * @typedef {import("../modinfo-report/dist/excerpts.js").Text} Text
  */
 
 /**

@@ -4,20 +4,20 @@ import assert from "node:assert/strict";
 import { spawnSync } from "node:child_process";
 import { test } from "node:test";
 
-import { cyclesOf } from "../src/graph/cycles.mjs";
-import { dotText, quoted } from "../src/graph/pictures.mjs";
-import { Links, countEdges, edgesOf } from "../src/report/links.mjs";
-import { listsOf } from "../src/report/lists.mjs";
-import { outsideOf } from "../src/report/outside.mjs";
-import { gridOf, shelvesOf } from "../src/report/page/layout_grid.js";
-import { curveOf, placeOfCount, pointsOnCurve } from "../src/report/page/layout_curves.js";
+import { cyclesOf } from "../modinfo-graph/dist/graph/cycles.js";
+import { dotText, quoted } from "../modinfo-graph/dist/graph/pictures.js";
+import { Links, countEdges, edgesOf } from "../modinfo-report/dist/links.js";
+import { listsOf } from "../modinfo-report/dist/lists.js";
+import { outsideOf } from "../modinfo-report/dist/outside.js";
+import { gridOf, shelvesOf } from "../modinfo-report/dist/page/layout_grid.js";
+import { curveOf, placeOfCount, pointsOnCurve } from "../modinfo-report/dist/page/layout_curves.js";
 import { folderOf } from "./run_commands.mjs";
 
 /**
- * @typedef {import("../src/report/links.mjs").Edge} Edge
- * @typedef {import("../src/report/project.mjs").Module} Module
- * @typedef {import("../src/report/rows.mjs").Row} Row
- * @typedef {import("../src/report/rows.mjs").Resolution} Resolution
+ * @typedef {import("../modinfo-report/dist/links.js").Edge} Edge
+ * @typedef {import("../modinfo-report/dist/project.js").Module} Module
+ * @typedef {import("../modinfo-report/dist/rows.js").Row} Row
+ * @typedef {import("../modinfo-graph/dist/graph/graph.cjs").Resolution} Resolution
  */
 
 /**

@@ -3,13 +3,14 @@
 import assert from "node:assert/strict";
 import { test } from "node:test";
 
-import { faultMarks, marksOf } from "../src/report/marks.mjs";
-import { withControls } from "../src/report/page/controls.js";
-import { lineSegments } from "../src/report/page/segments.js";
-import { Offsets } from "../src/report/offsets.mjs";
-import { rowsOf } from "../src/report/rows.mjs";
+import { faultMarks, marksOf } from "../modinfo-report/dist/marks.js";
+import { withControls } from "../modinfo-report/dist/page/controls.js";
+import { lineSegments } from "../modinfo-report/dist/page/segments.js";
+import { Offsets } from "../modinfo-report/dist/offsets.js";
+import { rowsOf } from "../modinfo-report/dist/rows.js";
+import { unchecked } from "./unchecked.mjs";
 
-/** @typedef {import("../src/report/rows.mjs").Range} Range */
+/** @typedef {import("../modinfo/dist/types/module_info.cjs").PositionRange} Range */
 
 /**
  * A static dependency with this range.
@@ -85,7 +86,7 @@ test("each part of a ModuleInfo is marked, in the order of the source", () => {
     `"./r.d.ts"`, "preact", `"./t.d.ts"`, `"./a.js"`, `"./j.js"`,
     `b ? require("./i.js") : c`, `"./i.js"`, "a.map",
   ]);
-  const rows = rowsOf(info);
+  const rows = rowsOf(unchecked(info));
   assert.deepEqual(rows.map(({ kind, name }) => [kind, name]), [
     ["pragma", "./r.d.ts"], ["pragma", "preact"], ["static", "./a.js"], ["jsdoc", "./j.js"],
     ["dynamic", null], ["require", "./i.js"], ["pragma", "a.map"],
@@ -97,9 +98,9 @@ test("each part of a ModuleInfo is marked, in the order of the source", () => {
 test("kinds have the names of ModuleInfo", () => {
   const range = [[0, 0], [0, 0]];
   /** @type {(type: string, names: (string | undefined)[]) => string[]} */
-  const kinds = (type, names) => names.map((kind) => rowsOf({
+  const kinds = (type, names) => names.map((kind) => rowsOf(unchecked({
     dependencies: [{ type, kind, specifierRange: range, argumentRange: range }],
-  })[0].kind);
+  }))[0].kind);
   assert.deepEqual(kinds("static", ["import", "importDefer", "importSource", "export"]), Array(4).fill("static"));
   assert.deepEqual(kinds("static", ["importType", "exportType", "maybeTsModuleAugmentation"]), Array(3).fill("type"));
   assert.deepEqual(kinds("static", ["importEquals", "exportEquals"]), Array(2).fill("require"));
@@ -122,7 +123,7 @@ test("the position of a syntax error is the character there, or the end of its l
 
 /**
  * @param {string} text
- * @param {import("../src/report/page/segments.js").Mark[]} marks
+ * @param {import("../modinfo-report/dist/page_data.js").MarkDetails[]} marks
  * @returns {[string, number[]][][]} the lines of the text, each as its pieces with the rows that mark them
  */
 function lines(text, marks) {

@@ -6,12 +6,12 @@ import { dirname, join, relative } from "node:path";
 import { test } from "node:test";
 import { fileURLToPath } from "node:url";
 
-import { matchesName, matchesPath } from "../src/files/wildcards.mjs";
-import { parseWithComments } from "../src/graph/json_with_comments.mjs";
-import { createResolver } from "../src/graph/resolver.mjs";
+import { matchesName, matchesPath } from "../modinfo-graph/dist/files/wildcards.js";
+import { parseWithComments } from "../modinfo-graph/dist/graph/json_with_comments.js";
+import { Resolver } from "../modinfo-graph/dist/graph/resolver.js";
 import { folderOf } from "./run_commands.mjs";
 
-/** @typedef {import("../src/graph/resolver.mjs").NameKind} NameKind */
+/** @typedef {import("../modinfo-graph/dist/graph/references.js").Syntax} NameKind */
 
 /**
  * What some names in a module lead to: the class unless it is `file` or `package`, the path in the
@@ -24,7 +24,7 @@ import { folderOf } from "./run_commands.mjs";
  */
 function found(folder, module, names, options = {}) {
   const { kind, conditions, notices = [] } = options;
-  const resolver = createResolver({ root: folder, conditions });
+  const resolver = new Resolver({ root: folder, conditions });
   const all = names.map((name) => {
     const resolved = /** @type {any} */ (resolver.resolve(name, join(folder, module), { kind }));
     const { class: word, file, types, by = "node" } = resolved;
@@ -291,8 +291,8 @@ test("a deno.json: its import map, scopes, workspace, and files as ES modules", 
     "member/mod.ts": "", "member/sub.ts": "", "src/main.ts": "", "src/new.ts": "", "src/b.ts": "", "scoped/a.ts": "", "scoped/own/b.ts": "",
   });
   const notices = [
-    `deno.json: "bad" of "imports" is passed over: it is no text`,
-    "broken/deno.json: passed over: it is no object",
+    `deno.json: "bad" of "imports" is ignored: not a string`,
+    "broken/deno.json: ignored: not an object",
   ];
   const names = [
     "@std/fs", "@std/path", "@std/path/posix", "chalk", "~/b.ts", "r", "./old.ts", "node", "@m/member", "@m/member/sub", "./b.ts", "own", "bad",
@@ -318,7 +318,7 @@ test("what is kept of a name is for files of one folder with the same rules, and
     "node_modules/p/one.mjs": "", "node_modules/p/two.cjs": "",
     ...Object.fromEntries(["", "deno/"].flatMap((each) => files.map((name) => [each + name, ""]))),
   });
-  const resolver = createResolver({ root: folder });
+  const resolver = new Resolver({ root: folder });
   /** @type {[from: string, name: string, kind: NameKind, expected: string][]} */
   const expected = [
     ["a.ts", "x", "import", "one.ts"], ["b.ts", "x", "import", "two.ts"], ["a.ts", "x", "import", "one.ts"],
@@ -357,25 +357,25 @@ test("what is wrong with a manifest is a notice that names it, and leaves what e
   const manifests = [
     [`{"imports":{"__proto__":"./b.js","#a":"./b.js"},"__proto__":{"name":"x"}}`, undefined, "b.js"],
     [`{"imports":{"#a":{"__proto__":"./c.js","default":"./b.js"}}}`, undefined, "b.js"],
-    [`{"imports":["#a"]}`, /"imports" is no object$/, "missing"],
-    [`{"imports":5}`, /"imports" is no object$/, "missing"],
-    [`{"imports":{"#a":5}}`, /5 is no target$/, "missing"],
+    [`{"imports":["#a"]}`, /"imports" must be an object$/, "missing"],
+    [`{"imports":5}`, /"imports" must be an object$/, "missing"],
+    [`{"imports":{"#a":5}}`, /5 isn't a valid target$/, "missing"],
     [`{"imports":{"#a":["#a",5]}}`, undefined, "missing"],
     [`{"imports":{"#a":"#b","#b":"#a"}}`, undefined, "missing"],
-    [`{"imports":{"#a":"../b.js"}}`, /"\.\.\/b\.js" is no target: it leads out of the package, or begins without "\.\/"$/, "missing"],
-    [`{"imports":{"#a":{"0":"./b.js"}}}`, /a number is no condition$/, "missing"],
+    [`{"imports":{"#a":"../b.js"}}`, /"\.\.\/b\.js" isn't a valid target: it leaves the package, or lacks "\.\/"$/, "missing"],
+    [`{"imports":{"#a":{"0":"./b.js"}}}`, /a condition can't be a number$/, "missing"],
     [`{"imports":{"#a":${deep(900)}}}`, undefined, "b.js"],
     [`{"imports":{"#a":${deep(100_000)}}}`, /more than 1000 conditions or lists are in each other$/, "missing"],
     [`{"imports":{"#a":${"[".repeat(100_000)}${"]".repeat(100_000)}}}`, /more than 1000 conditions or lists/, "missing"],
-    [`[]`, /passed over: it is no object$/, "missing"],
-    [`null`, /passed over: it is no object$/, "missing"],
-    [`{"imports":`, /passed over: .*JSON/, "missing"],
-    ["", /passed over: .*JSON/, "missing"],
+    [`[]`, /ignored: not an object$/, "missing"],
+    [`null`, /ignored: not an object$/, "missing"],
+    [`{"imports":`, /ignored: .*JSON/, "missing"],
+    ["", /ignored: .*JSON/, "missing"],
     [`{"name":{},"main":[],"type":5,"exports":5,"browser":[5],"workspaces":{"packages":5},"imports":{"#a":"./b.js"}}`, undefined, "b.js"],
   ];
   for (const [manifest, notice, expected] of manifests) {
     const folder = folderOf({ "package.json": manifest, "a.js": "", "b.js": "" });
-    const resolver = createResolver({ root: folder, conditions: ["browser"] });
+    const resolver = new Resolver({ root: folder, conditions: ["browser"] });
     for (const kind of /** @type {const} */ (["import", "require"])) {
       const resolved = /** @type {any} */ (resolver.resolve("#a", join(folder, "a.js"), { kind }));
       const path = resolved.file === undefined ? resolved.class : relative(folder, fileURLToPath(resolved.file));
@@ -391,16 +391,16 @@ test("what is wrong with a manifest is a notice that names it, and leaves what e
 test("what is wrong with a tsconfig.json is a notice, and the rest of it counts", () => {
   /** @type {[configuration: string, notice: string | undefined][]} */
   const configurations = [
-    [`{"compilerOptions":{"paths":{"a":5,"@/*":["./*"]}}}`, `"a" of "paths" is passed over: it is no list of texts`],
-    [`{"compilerOptions":{"paths":{"a":"./b.ts","@/*":["./*"]}}}`, `"a" of "paths" is passed over: it is no list of texts`],
-    [`{"compilerOptions":{"baseUrl":5,"paths":{"@/*":["./*"]}}}`, `"baseUrl" is passed over: it is no text`],
-    [`{"compilerOptions":{"rootDirs":{},"paths":{"@/*":["./*"]}}}`, `"rootDirs" is passed over: it is no list of texts`],
+    [`{"compilerOptions":{"paths":{"a":5,"@/*":["./*"]}}}`, `"a" of "paths" is ignored: not a list of strings`],
+    [`{"compilerOptions":{"paths":{"a":"./b.ts","@/*":["./*"]}}}`, `"a" of "paths" is ignored: not a list of strings`],
+    [`{"compilerOptions":{"baseUrl":5,"paths":{"@/*":["./*"]}}}`, `"baseUrl" is ignored: not a string`],
+    [`{"compilerOptions":{"rootDirs":{},"paths":{"@/*":["./*"]}}}`, `"rootDirs" is ignored: not a list of strings`],
     [`{"references":5,"compilerOptions":{"paths":{"@/*":["./*"]}}}`, `"references" has more than objects with a "path"`],
     [`{"extends":"./tsconfig.json","compilerOptions":{"paths":{"@/*":["./*"]}}}`,
-      `"extends" has "./tsconfig.json", which isn't there, or extends this one`],
+      `"extends" has "./tsconfig.json", which isn't found or extends this file`],
     [`{"extends":[${"[".repeat(100_000)}${"]".repeat(100_000)}],"compilerOptions":{"paths":{"@/*":["./*"]}}}`,
-      `"extends" has what is no text, which isn't there, or extends this one`],
-    [`{"extends":"none","compilerOptions":{"paths":{"@/*":["./*"]}}}`, `"extends" has "none", which isn't there, or extends this one`],
+      `"extends" has a value that isn't a string, which isn't found or extends this file`],
+    [`{"extends":"none","compilerOptions":{"paths":{"@/*":["./*"]}}}`, `"extends" has "none", which isn't found or extends this file`],
     [`{"include":5,"files":{},"exclude":[5],"compilerOptions":{"paths":{"@/*":["./*"],"__proto__":["./x"]}}}`, undefined],
   ];
   for (const [configuration, notice] of configurations) {
@@ -409,7 +409,7 @@ test("what is wrong with a tsconfig.json is a notice, and the rest of it counts"
     assert.deepEqual(found(folder, "a.ts", ["@/b", "__proto__"], { notices })[0], "b.ts by tsconfig", configuration);
   }
   const folder = folderOf({ "tsconfig.json": `{"compilerOptions":5}`, "a.ts": "" });
-  found(folder, "a.ts", ["./a"], { notices: [`tsconfig.json: "compilerOptions" is no object`] });
+  found(folder, "a.ts", ["./a"], { notices: [`tsconfig.json: "compilerOptions" must be an object`] });
 });
 
 test("wildcards take time that grows as pattern times path", () => {
@@ -442,7 +442,7 @@ test("long names, and many of them, take no long time and no memory without end"
   const folder = folderOf({
     "package.json": `{"name":"own","exports":{"./*":"./a/*"},"imports":{"#*":"./a/*.js"}}`, "a/b.js": "", "node_modules/p/index.js": "",
   });
-  const resolver = createResolver({ root: folder });
+  const resolver = new Resolver({ root: folder });
   const begin = process.cpuUsage().user;
   const parts = ["a/", "../", "./", "a/../", "%61/", "node_modules/", "a", "*", "@a/", "\\", "?", "é", "!", "//"];
   for (const part of parts) {

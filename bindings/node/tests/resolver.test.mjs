@@ -6,7 +6,7 @@ import { join, relative } from "node:path";
 import { test } from "node:test";
 import { fileURLToPath } from "node:url";
 
-import { createResolver } from "../src/graph/resolver.mjs";
+import { Resolver } from "../modinfo-graph/dist/graph/resolver.js";
 import { folderOf } from "./run_commands.mjs";
 
 /**
@@ -19,15 +19,15 @@ const required = (argument) => ({ type: "dynamic", kind: "require", argument });
 /** @param {string} argument */
 const dynamic = (argument) => ({ type: "dynamic", argument });
 
-/** @typedef {import("../src/index.mjs").Resolution} Resolution */
+/** @typedef {import("../modinfo-graph/dist/index.js").Resolution} Resolution */
 
 /**
  * Resolves the names of modules, and sets the member `resolved` of all that names one in a copy.
- * @param {import("../src/graph/resolver.mjs").ResolverOptions} [options]
+ * @param {import("../modinfo-graph/dist/graph/resolver.js").ResolverOptions} [options]
  * @returns {(info: object, path: string) => { info: any, notices: string[] }}
  */
 function resolverOf(options) {
-  const resolver = createResolver({ types: true, ...options });
+  const resolver = new Resolver({ types: true, ...options });
   return (info, path) => {
     const copy = structuredClone(info);
     resolver.resolveInfo(copy, path);
@@ -247,7 +247,7 @@ test("what is wrong with a configuration is reported once", () => {
   /** @param {string} path */
   const noticesOf = (path) => by({ dependencies: [imported("./c.js")] }, join(folder, path)).notices;
   const [first, second, ...others] = noticesOf("a/b.ts");
-  assert.match(first, /^\/.*base\.json: passed over: .*JSON/);
+  assert.match(first, /^\/.*base\.json: ignored: .*JSON/);
   assert.match(second, /^\/.*a\/tsconfig\.json: Argument for '--module' option must be: /);
   assert.deepEqual(others, []);
   assert.deepEqual(noticesOf("a/c.ts"), []);

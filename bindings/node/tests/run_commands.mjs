@@ -19,6 +19,9 @@ import { fileURLToPath, pathToFileURL } from "node:url";
 /** The program, which the tests need. */
 export const MODINFO = process.env.MODINFO ?? fileURLToPath(new URL("../../../build/modinfo", import.meta.url));
 
+/** The WebAssembly module, which the tests need too. */
+export const MODULE = process.env.MODINFO_WASM ?? fileURLToPath(new URL("../../../build/modinfo.wasm", import.meta.url));
+
 /**
  * A folder that is gone after the tests.
  * @param {Record<string, string | Uint8Array>} [files] by their paths in it
@@ -43,15 +46,16 @@ export function urlOf(folder, path) {
 }
 
 /**
- * @param {string} name of a file in src/cli/
+ * @param {string} name of the program: `files` or `report`
  * @returns {string} its path
  */
 export function programOf(name) {
-  return fileURLToPath(new URL(`../src/cli/${name}`, import.meta.url));
+  const path = name === "report" ? "modinfo-report/dist/cli.js" : "modinfo-graph/dist/cli/files.js";
+  return fileURLToPath(new URL(`../${path}`, import.meta.url));
 }
 
 /**
- * @param {string} name of a file in src/cli/
+ * @param {string} name of the program: `files` or `report`
  * @param {string[]} words
  * @param {RunOptions} options
  * @returns {Ended}
@@ -74,7 +78,7 @@ export function run(name, words, { cwd, input = "", modinfo = MODINFO } = {}) {
  * @returns {Ended}
  */
 export function shell(line, cwd) {
-  const env = { ...process.env, MODINFO, node: process.execPath, cli: programOf(".") };
+  const env = { ...process.env, MODINFO, node: process.execPath, cli: programOf("files") };
   const { stdout, stderr, status } = spawnSync("bash", ["-c", line], { cwd, env });
   return { stdout: String(stdout), stderr: String(stderr), status };
 }

@@ -1,8 +1,8 @@
-/** The types of the package against the schemas, and the modules against their own types. */
+/** The types of the packages against the schemas, and the tests against the types of the packages. */
 
 import assert from "node:assert/strict";
-import { copyFileSync, existsSync, mkdirSync } from "node:fs";
-import { dirname, join } from "node:path";
+import { copyFileSync, existsSync } from "node:fs";
+import { join } from "node:path";
 import { test } from "node:test";
 import { fileURLToPath } from "node:url";
 
@@ -10,9 +10,9 @@ import { folderOf } from "./run_commands.mjs";
 import { readSchema } from "./schema.mjs";
 import { check, compile, parserFolder } from "./compile.mjs";
 
-const PACKAGE = fileURLToPath(new URL("..", import.meta.url));
+const PACKAGES = fileURLToPath(new URL("..", import.meta.url));
 /** Where npm and Debian's packages put the types of node. */
-const NODE_TYPES = [join(PACKAGE, "node_modules/@types/node"), "/usr/share/nodejs/@types/node"];
+const NODE_TYPES = [join(PACKAGES, "node_modules/@types/node"), "/usr/share/nodejs/@types/node"];
 
 const skip = !parserFolder("typescript") && "there is no TypeScript";
 
@@ -146,12 +146,11 @@ test("the types are what the schemas say", { skip }, () => {
   const files = {};
   const checks = [SAME];
   for (const [name, file, type] of [
-    ["module-info", "document/module_info", "ModuleInfo"],
-    ["document", "document/module_document", "ModuleDocument"],
-    ["report", "runtime/check_report", "Report"],
+    ["module-info", "module_info", "ModuleInfo"],
+    ["document", "module_document", "ModuleDocument"],
+    ["report", "check_report", "Report"],
   ]) {
-    mkdirSync(join(folder, dirname(file)), { recursive: true });
-    copyFileSync(join(PACKAGE, `src/${file}.d.cts`), join(folder, `${file}.d.cts`));
+    copyFileSync(join(PACKAGES, `modinfo/dist/types/${file}.d.cts`), join(folder, `${file}.d.cts`));
     checks.push(`import type { ${type} } from "./${file}.cjs";`);
     for (const [at, change] of [() => {}, ...CHANGES[name]].entries()) {
       const schema = readSchema(name);
@@ -166,6 +165,6 @@ test("the types are what the schemas say", { skip }, () => {
 
 const noTypes = !NODE_TYPES.some(existsSync) && "node's types aren't there";
 
-test("the modules keep the types that their comments and declarations say", { skip: skip || noTypes }, () => {
-  assert.equal(check(join(PACKAGE, "tsconfig.json")), "");
+test("the tests keep the types that their comments and the packages say", { skip: skip || noTypes }, () => {
+  assert.equal(check(join(PACKAGES, "tests/tsconfig.json")), "");
 });

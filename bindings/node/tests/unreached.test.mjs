@@ -7,8 +7,9 @@ import { join } from "node:path";
 import { test } from "node:test";
 import { fileURLToPath } from "node:url";
 
-import { entryPoints } from "../src/graph/entry_points.mjs";
-import { looseImports } from "../src/graph/loose_references.mjs";
+import { commentsOf, literalsOf } from "../modinfo-graph/dist/graph/literals.js";
+import { looseImports } from "../modinfo-graph/dist/graph/loose_references.js";
+import { scriptsOf } from "../modinfo-graph/dist/graph/scripts.js";
 import { folderOf, run, urlOf } from "./run_commands.mjs";
 
 const NAME = "modinfo-files";
@@ -20,7 +21,7 @@ const NAME = "modinfo-files";
  */
 function unreached(files, words = []) {
   const entry = "main.ts" in files ? "main.ts" : "main.js";
-  const { stdout, stderr, status } = run("files.mjs", ["--entry", entry, "--unreached", ...words, "."], {
+  const { stdout, stderr, status } = run("files", ["--entry", entry, "--unreached", ...words, "."], {
     cwd: folderOf(files),
   });
   return { lines: stdout.split("\n").slice(0, -1), stderr, status };
@@ -46,7 +47,7 @@ const PROJECT = {
 
 /** @param {string[]} words */
 function ofProject(words) {
-  const { stdout, status, stderr } = run("files.mjs", words, { cwd: folderOf(PROJECT) });
+  const { stdout, status, stderr } = run("files", words, { cwd: folderOf(PROJECT) });
   return withStatus(stdout.split("\n").slice(0, -1), status ?? -1, stderr);
 }
 
@@ -73,7 +74,7 @@ test("with --types a declaration file is reached with the JavaScript of which it
     "a.mjs": `import "./b.mjs";`, "a.d.mts": "", "b.mjs": "", "b.d.mts": "", "c.d.ts": "", "d.jsx": "", "d.d.ts": "",
   });
   const words = ["--entry", "a.mjs", "--entry", "d.jsx", "--unreached", "--types", "."];
-  const { stdout, status } = run("files.mjs", words, { cwd: folder });
+  const { stdout, status } = run("files", words, { cwd: folder });
   assert.deepEqual([stdout, status], ["c.d.ts\n", 1]);
 });
 
@@ -94,8 +95,11 @@ test("what the known parts of an argument match may be reached, and what that le
 });
 
 test("an argument of which too little is known is no reason", () => {
-  const files = { "main.js": "import(x); import(`${x}.js`); import(`lodash/${x}`); import(`${a}/${b}`);", "a.js": "" };
+  const files = { "main.js": "import(x); import(`lodash/${x}`); import(`${a}/${b}`);", "a.js": "" };
   assert.deepEqual(unreached(files), withStatus(["a.js"], 1));
+  assert.deepEqual(unreached({ "b/main.js": "import(`${x}.js`)", "b/a.ts": "", "b/c/d.js": "", "e.js": "", "main.js": `import "./b/main.js"` }), withStatus([
+    "e.js", ...["b/a.ts", "b/c/d.js"].map((each) => `${each}: may be reached: template of ${"${..}"}.js at b/main.js:1:8`),
+  ], 1));
   assert.deepEqual(unreached({ "main.js": "import(`${x}/plugin.js`)", "a/plugin.ts": "", "a/other.ts": "" }), withStatus([
     "a/other.ts", "a/plugin.ts: may be reached: template of ${..}/plugin.js at main.js:1:8",
   ], 1));
@@ -134,7 +138,7 @@ test("a call in a module that isn't reached is no reason", () => {
   ], 1));
 });
 
-test("scripts of pages and components are reasons", () => {
+test("what a page's scripts name may be reached, and a component is dead where nothing names it", () => {
   const files = {
     "main.js": `import "./App.vue";`, "App.vue": `<script setup>\nimport A from "./a";\n</script>`, "a.ts": "",
     "B.svelte": `<script>import("./b.js")</script>`, "b.js": "", "c.astro": `---\nimport "./c.js";\n---\n`, "c.js": "",
@@ -142,9 +146,8 @@ test("scripts of pages and components are reasons", () => {
     "f/g.html": `<script src=h/i.js?j></script>`, "f/h/i.js": "",
   };
   assert.deepEqual(unreached(files), withStatus([
-    "e.js", "a.ts: may be reached: script of ./a at App.vue:2:10", "b.js: may be reached: script of ./b.js at B.svelte:1:9",
-    "c.js: may be reached: script of ./c.js at c.astro:2:1", "d.js: may be reached: script of /d.js at d.html:1:1",
-    "f/h/i.js: may be reached: script of h/i.js?j at f/g.html:1:1",
+    "B.svelte", "b.js", "c.astro", "c.js", "e.js", "d.js: may be reached: script of /d.js at d.html:1:27",
+    "f/h/i.js: may be reached: script of h/i.js?j at f/g.html:1:13",
   ], 1));
 });
 
@@ -163,7 +166,7 @@ test("a relative name of a reached module that leads nowhere is in the last line
   assert.deepEqual(unreached(files), withStatus(["a.js"], 1, note));
   const { "a.js": _, ...main } = files;
   assert.deepEqual(unreached(main), withStatus([], 1, note));
-  const listed = run("files.mjs", ["--entry", "main.js"], { cwd: folderOf(files) });
+  const listed = run("files", ["--entry", "main.js"], { cwd: folderOf(files) });
   assert.deepEqual([listed.stdout, listed.stderr, listed.status], ["main.js\n", note, 1]);
   assert.deepEqual(unreached({ ...files, "main.js": "", "b.js": files["main.js"] }), withStatus(["a.js", "b.js"], 1));
 });
@@ -177,7 +180,7 @@ test("--exclude follows and doesn't list", () => {
   assert.deepEqual(unreached(files, ["--exclude", "gen", "--exclude", "*.test.js"]), withStatus([
     "helper.js: may be reached: excluded of ./helper.js at x.test.js:1:8",
   ]));
-  const listed = run("files.mjs", ["--entry", "main.js", "--exclude", "gen"], { cwd: folderOf(files) });
+  const listed = run("files", ["--entry", "main.js", "--exclude", "gen"], { cwd: folderOf(files) });
   assert.deepEqual([listed.stdout, listed.status], ["main.js\nb.js\n", 0]);
 });
 
@@ -198,14 +201,14 @@ test("--ignore doesn't follow, and what an ignored file that is reached names ma
   assert.deepEqual(unreached(files, ["--ignore", "gen"]), withStatus([
     "d.js", "b.js: may be reached: ignored of ../b.js at gen/a.js:1:1",
   ], 1));
-  const listed = run("files.mjs", ["--entry", "main.js", "--ignore", "gen"], { cwd: folderOf(files) });
+  const listed = run("files", ["--entry", "main.js", "--ignore", "gen"], { cwd: folderOf(files) });
   assert.deepEqual([listed.stdout, listed.status], ["main.js\n", 0]);
 });
 
 test("--gitignore follows and doesn't list", () => {
   const folder = folderOf({ ".gitignore": "gen\n", "main.js": `import "./gen/a";`, "gen/a.js": `import "../b";`, "b.js": "" });
   execFileSync("git", ["init", "--quiet", folder]);
-  const { stdout, status } = run("files.mjs", ["--entry", "main.js", "--unreached", "--gitignore", "."], { cwd: folder });
+  const { stdout, status } = run("files", ["--entry", "main.js", "--unreached", "--gitignore", "."], { cwd: folder });
   assert.deepEqual([stdout, status], ["", 0]);
 });
 
@@ -214,7 +217,7 @@ test("--no-dynamic doesn't count import(..)", () => {
   assert.deepEqual(unreached(files), withStatus([]));
   assert.deepEqual(unreached(files, ["--no-dynamic"]), withStatus(["a.js"], 1));
   const folder = folderOf({ "a.js": `import("./b.js");`, "b.js": `import "./a.js";` });
-  const status = (/** @type {string[]} */ words) => run("files.mjs", ["--cycles", ...words, "."], { cwd: folder }).status;
+  const status = (/** @type {string[]} */ words) => run("files", ["--cycles", ...words, "."], { cwd: folder }).status;
   assert.deepEqual([status([]), status(["--no-dynamic"])], [1, 0]);
 });
 
@@ -222,7 +225,7 @@ test("the classes as JSON", () => {
   const folder = folderOf({
     "main.ts": `import type { T } from "./t";\nimport(\`./p/\${x}\`);`, "t.ts": "", "p/a.js": "", "dead.js": "",
   });
-  const { stdout } = run("files.mjs", ["--entry", "main.ts", "--unreached", "--json", "."], { cwd: folder });
+  const { stdout } = run("files", ["--entry", "main.ts", "--unreached", "--json", "."], { cwd: folder });
   const url = (/** @type {string} */ path) => urlOf(folder, path);
   assert.deepEqual(JSON.parse(stdout), {
     entries: [url("main.ts")], unreached: [url("dead.js")],
@@ -245,7 +248,7 @@ test("the classes as JSON", () => {
  * @param {string} entry
  */
 function reached(folder, entry) {
-  const { stdout, stderr, status } = run("files.mjs", ["--entry", entry], { cwd: folder });
+  const { stdout, stderr, status } = run("files", ["--entry", entry], { cwd: folder });
   return { lines: stdout.split("\n").slice(0, -1), stderr, status };
 }
 
@@ -280,7 +283,7 @@ test("a script without an ending that a package.json names is searched, and its 
   };
   const folder = folderOf(files);
   assert.deepEqual(reached(folder, "."), withStatus(["lib/index.js", "lib/cli.js", "lib/b.mjs", "lib/deep.js"]));
-  const { stdout, status } = run("files.mjs", ["--entry", ".", "--unreached", "."], { cwd: folder });
+  const { stdout, status } = run("files", ["--entry", ".", "--unreached", "."], { cwd: folder });
   assert.deepEqual([stdout, status], ["dead.js\nlib/x.js: may be reached: script of ../lib/${..} at bin/a:2:68\n", 1]);
   const alone = folderOf({ ...files, "package.json": `{"bin":"bin/a"}`, "bin/b": Buffer.of(0x7f, 0x45, 0x4c, 0x46, 0) });
   assert.deepEqual(reached(alone, "."), withStatus(["lib/cli.js", "lib/deep.js"]));
@@ -292,11 +295,11 @@ test("a script without an ending that a package.json names is searched, and its 
 test("an entry of a package.json that isn't there is said, and it is an error where there is no other", () => {
   const some = folderOf({ "package.json": `{"main":"./a.js","bin":"./dist/b.js"}`, "a.js": "" });
   assert.deepEqual(reached(some, "."), {
-    lines: ["a.js"], stderr: `${NAME}: warning: package.json: ./dist/b.js: an entry that isn't there\n`, status: 1,
+    lines: ["a.js"], stderr: `${NAME}: warning: package.json: ./dist/b.js: entry not found\n`, status: 1,
   });
   for (const [files, message] of /** @type {[Record<string, string>, string][]} */ ([
-    [{ "package.json": `{"main":"./dist/b.js"}` }, "package.json: what it names isn't there: ./dist/b.js"],
-    [{ "package.json": `{"main":"a\\u0000.js"}` }, "package.json: what it names isn't there: ./a\\x00.js"],
+    [{ "package.json": `{"main":"./dist/b.js"}` }, "package.json: files not found: ./dist/b.js"],
+    [{ "package.json": `{"main":"a\\u0000.js"}` }, "package.json: files not found: ./a\\x00.js"],
     [{ "package.json": "[" }, "package.json: Unexpected end of JSON input"],
     [{ "a.js": "" }, "package.json: no such file: an entry is a file, or a folder with a package.json"],
   ])) {
@@ -311,7 +314,7 @@ test("the scripts of a page are entries", () => {
     "web/src/main.ts": `import "./a";`, "web/src/a.ts": "", "web/inline.js": "", "web/old.js": "",
   });
   assert.deepEqual(reached(folder, join("web", "index.html")).lines, [
-    "web/inline.js", "web/src/main.ts", "web/src/a.ts",
+    "web/index.html", "web/src/main.ts", "web/inline.js", "web/src/a.ts",
   ]);
 });
 
@@ -324,7 +327,7 @@ test("a script of a page has a URL that is relative to the page, in any spelling
     `<script integrity="sha512-${"A".repeat(86)}==" crossorigin src="js/app.js"></script>`,
   ]) {
     const folder = folderOf({ "index.html": script, "js/app.js": "", "old.js": "", "index.js": "" });
-    assert.deepEqual(reached(folder, "index.html"), withStatus(["js/app.js"]), script);
+    assert.deepEqual(reached(folder, "index.html"), withStatus(["index.html", "js/app.js"]), script);
   }
 });
 
@@ -372,12 +375,14 @@ test("what bundlers' rules and configurations find counts as reached", () => {
   }
 });
 
-test("the scripts of the package itself are all in use", () => {
-  const folder = fileURLToPath(new URL("..", import.meta.url));
-  const words = ["--entry", ".", "--unreached", "src"];
-  const { stdout, status } = run("files.mjs", words, { cwd: folder });
-  assert.deepEqual([stdout.split("\n").filter((line) => line !== "" && !line.includes(": ")), status], [[], 0]);
-});
+for (const name of ["modinfo", "modinfo-graph", "modinfo-report"]) {
+  test(`the sources of ${name} are all in use`, () => {
+    const cwd = fileURLToPath(new URL(`../${name}`, import.meta.url));
+    const { stdout, stderr, status } = run("files", ["--entry", ".", "--unreached", "src"], { cwd });
+    assert.deepEqual(stdout.split("\n").filter((line) => line !== "" && !line.includes(": ")), []);
+    assert.deepEqual([stderr, status], ["", 0]);
+  });
+}
 
 test("the page of a report has the classes and the cycles that the command has", () => {
   const folder = folderOf({
@@ -386,9 +391,9 @@ test("the page of a report has the classes and the cycles that the command has",
     "t.ts": `import type { U } from "./u";`, "u.ts": `import { T } from "./t";`, "p/one.ts": "", "dead.ts": "",
   });
   const ask = (/** @type {string[]} */ words) => {
-    return JSON.parse(run("files.mjs", ["--json", "--entry", "main.tsx", ...words, "."], { cwd: folder }).stdout);
+    return JSON.parse(run("files", ["--json", "--entry", "main.tsx", ...words, "."], { cwd: folder }).stdout);
   };
-  run("report.mjs", ["--entry", "main.tsx", "."], { cwd: folder });
+  run("report", ["--entry", "main.tsx", "."], { cwd: folder });
   const page = readFileSync(join(folder, "report.html"), "utf8");
   const index = JSON.parse(/id="data">(.*?)<\/script>/s.exec(page)?.[1] ?? "");
   const keyOf = (/** @type {number} */ at) => {
@@ -413,7 +418,7 @@ test("the page of a report has the classes and the cycles that the command has",
 
 test("a cycle of TypeScript files may be of types alone, and the last line says so", () => {
   const files = { "a.ts": `import { B } from "./b";`, "b.ts": `import { A } from "./a";` };
-  const cycles = (/** @type {Record<string, string>} */ each) => run("files.mjs", ["--cycles", "."], { cwd: folderOf(each) });
+  const cycles = (/** @type {Record<string, string>} */ each) => run("files", ["--cycles", "."], { cwd: folderOf(each) });
   const why = "a compiler removes imports of TypeScript whose names are types";
   assert.deepEqual(cycles(files), {
     stdout: "a.ts -> b.ts -> a.ts\n", stderr: `${NAME}: 1 of 1 cycles may be of types alone: ${why}\n`, status: 1,
@@ -424,14 +429,23 @@ test("a cycle of TypeScript files may be of types alone, and the last line says 
   assert.deepEqual([stdout, status], ["", 0]);
 });
 
-test("texts that are made to take long are searched in a moment", async () => {
+test("texts that are made to take long are searched in a moment", () => {
   const parts = ["<script src=", "new ", "import . meta", "import.meta.glob<", "jest.mock<", "`${", "<script ", "require ", "__dirname,\"a\"", "from "];
-  const begun = performance.now();
+  const begun = process.cpuUsage();
   for (const part of parts) {
     looseImports(part.repeat(200_000 / part.length), "script");
     looseImports(`${part}${" ".repeat(200_000)}`, "script");
   }
-  const page = join(folderOf({ "a.html": `<script src=/a.js></script>${"<!--".repeat(200_000)}` }), "a.html");
-  assert.deepEqual(await entryPoints([page], () => "/a.js"), { files: ["/a.js"], absent: [], texts: [] });
-  assert.ok(performance.now() - begun < 20_000);
+  for (const part of ["<!--", "<script ", "<script a='", "<script src=a>", "<a><b>", "<a1 ", "import a\n\n", "{/*", "```\n"]) {
+    for (const path of ["a.html", "a.vue", "a.astro", "a.mdx"]) {
+      scriptsOf(part.repeat(200_000 / part.length), path);
+    }
+  }
+  const page = `<script src=/a.js></script>${"<!--".repeat(200_000)}`;
+  assert.deepEqual(scriptsOf(page, "a.html").sources.map(({ name }) => name), ["/a.js"]);
+  for (const part of [`"./`, `'a/`, "/[", "`${", "/*", "//", `"*`, "'"]) {
+    literalsOf(part.repeat(200_000 / part.length));
+    commentsOf(part.repeat(200_000 / part.length))(0);
+  }
+  assert.ok(process.cpuUsage(begun).user < 20_000_000);
 });

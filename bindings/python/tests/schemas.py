@@ -5,7 +5,7 @@ import json
 import re
 from collections.abc import Mapping
 from types import NoneType, UnionType
-from typing import Any, ClassVar, Literal, Union, get_args, get_origin, get_type_hints, is_typeddict
+from typing import Any, Literal, Union, get_args, get_origin, get_type_hints, is_typeddict
 
 from repository import ROOT
 
@@ -75,18 +75,15 @@ def typed(annotation: Any) -> Any:
 
 
 def typed_dataclass(annotation: Any) -> Any:
-    """An array for a pair, an object for another dataclass: its fields are members in camel case, and a tag is an
-    attribute of the class."""
+    """An array for a pair, an object for another dataclass: its fields are members in camel case, and no call sets a
+    tag."""
     hints = get_type_hints(annotation)
-    defaults = {each.name: each.default for each in dataclasses.fields(annotation)}
     if annotation.__base__.__name__ == "Pair":
         [part] = set(map(typed, hints.values()))
         return "array", part
     members = set()
-    for name, hint in hints.items():
-        is_tag = get_origin(hint) is ClassVar
-        required = is_tag or defaults[name] is dataclasses.MISSING
-        hint = get_args(hint)[0] if is_tag else hint
-        part = typed(hint) - ({("type", "null")} if not required else set())
-        members.add((re.sub("_(.)", lambda found: found[1].upper(), name), required, part))
+    for each in dataclasses.fields(annotation):
+        required = not each.init or each.default is dataclasses.MISSING
+        part = typed(hints[each.name]) - ({("type", "null")} if not required else set())
+        members.add((re.sub("_(.)", lambda found: found[1].upper(), each.name), required, part))
     return "object", frozenset(members)

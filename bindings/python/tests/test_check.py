@@ -155,7 +155,8 @@ def test_a_case(name: str, command: modinfo.Command, document: bytes, report: by
 
 @pytest.mark.parametrize("command", ["", "check", "Analyze", "analyze ", None, 1], ids=repr)
 def test_another_command(command: Any) -> None:
-    with pytest.raises(ValueError, match="^a command is analyze, analyze_estree, analyze_source, convert, reach, not "):
+    names = "analyze, analyze_estree, analyze_source, convert, reach"
+    with pytest.raises(ValueError, match=f"^command must be one of {names}, not "):
         modinfo.check({}, command)
 
 

@@ -1,8 +1,10 @@
 import json
+import subprocess
+import sys
 from pathlib import Path
 
 import pytest
-from repository import EXAMPLES, examples
+from repository import EXAMPLES, ROOT, SOURCES, examples
 
 import modinfo
 
@@ -18,3 +20,22 @@ def test_that_every_example_is_there() -> None:
     answers = [*EXAMPLES.glob("*.out.json"), *EXAMPLES.glob("*.converted.json"), *EXAMPLES.glob("*.reached.json")]
     assert sorted(expected for _, _, expected in examples()) == sorted(answers)
     assert {command for command, _, _ in examples()} == {"analyze", "convert", "reach"}
+
+
+def test_the_job_s_table(tmp_path: Path) -> None:
+    """Whatever the order of the files. A file with a fault is named, and the others are counted."""
+    job = [sys.executable, EXAMPLES / "job/job.py"]
+    names = [str(path.relative_to(ROOT)) for path, _ in SOURCES]
+    for order in names, names[::-1]:
+        done = subprocess.run([*job, *order], cwd=ROOT, capture_output=True, text=True, check=False)
+        assert (done.stdout, done.stderr) == ((EXAMPLES / "job/expected").read_text(), "")
+        assert done.returncode == 0
+    specifiers = [f"p{number:02}/x" for number in range(1, 22)] + ["p03", "node:p03", "@s/n/x", "@s/n"]
+    others = ["./p04", "/p04", "https://p04", "#p04", "", ".."]
+    (tmp_path / "a.ts").write_text("".join(f"import {each!r};\n" for each in specifiers + others))
+    (tmp_path / "b.ts").write_text("import {")
+    (tmp_path / "c.ts").write_text("require(`${x}`);")
+    done = subprocess.run([*job, "c.ts", "b.ts", "a.ts"], cwd=tmp_path, capture_output=True, text=True, check=False)
+    counted = [f"1 p{number:02}\n" for number in range(1, 22) if number != 3]
+    assert done.stdout == "3 p03\n2 @s/n\n" + "".join(counted[:18]) + "\nc.ts\n"
+    assert done.stderr.startswith("b.ts: Syntax at line 1, ") and done.returncode == 1

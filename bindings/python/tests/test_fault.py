@@ -41,8 +41,13 @@ LINES: list[tuple[FaultReport | None, str]] = [
         "Tree at /\\x1b[2J\\n\\x9b\\ud800\\u2028é: expected a",
     ),
     (
-        {"fault": "Syntax", "pointer": "/source", "at": {"line": 2, "column": 6, "offset": 24}, "expected": "no `x`"},
-        "Syntax at line 3, column 7 (offset 24): no `x`",
+        {
+            "fault": "Syntax",
+            "pointer": "/source",
+            "at": {"line": 2, "column": 6, "offset": 24},
+            "expected": "valid syntax: a",
+        },
+        "Syntax at line 3, column 7 (offset 24): a",
     ),
     (None, "OutOfMemory: an allocation failed"),
 ]
@@ -60,7 +65,7 @@ def test_what_a_fault_has() -> None:
     fault = modinfo.Fault(
         "Json", {"fault": "Json", "at": {"line": 2, "column": 6, "offset": 24}, "expected": "a value"}
     )
-    assert (fault.message, fault.line, fault.character) == ("a value", 2, 6)
+    assert (fault.message, fault.line, fault.character) == ("expected a value", 2, 6)
     fault = modinfo.Fault("Input", message="No such file")
     assert (str(fault), fault.line, fault.character, fault.report) == ("Input: No such file", None, None, None)
     assert isinstance(fault, modinfo.Error)

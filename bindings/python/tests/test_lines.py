@@ -28,13 +28,14 @@ Function = Callable[[Iterable[bytes], int], Iterator[bytes]]
 FUNCTIONS: dict[str, Function] = {
     "analyze": modinfo.analyze_lines,
     "analyze --estree": modinfo.analyze_estree_lines,
-    "analyze --source": lambda lines, jobs: modinfo._lines("analyze_source", lines, jobs),
+    "analyze --source": modinfo.analyze_source_lines,
     "convert": modinfo.convert_lines,
     "reach": modinfo.reach_lines,
     "check": lambda lines, jobs: modinfo.check_lines(lines, jobs=jobs),
     "check analyze": lambda lines, jobs: modinfo.check_lines(lines, "analyze", jobs),
     "check --estree": modinfo.check_estree_lines,
     "check analyze --estree": lambda lines, jobs: modinfo.check_lines(lines, "analyze_estree", jobs),
+    "check --source": modinfo.check_source_lines,
     "check convert": lambda lines, jobs: modinfo.check_lines(lines, "convert", jobs),
     "check reach": lambda lines, jobs: modinfo.check_lines(lines, "reach", jobs),
 }
@@ -45,6 +46,15 @@ ALL_CASES = [(call, *case) for call in FUNCTIONS for case in cases_of_lines(call
 @pytest.mark.parametrize("call, lines, wanted", ALL_CASES)
 def test_a_case_of_lines(call: str, lines: bytes, wanted: bytes, jobs: int) -> None:
     assert b"".join(FUNCTIONS[call](io.BytesIO(lines), jobs)) == wanted
+
+
+@pytest.mark.parametrize("jobs", [1, 2])
+def test_reports_on_lines_with_texts(jobs: int) -> None:
+    """As those on one document each."""
+    lines = [b'{"specifier":"file:///a.ts","source":"import {"}', b'{"specifier":"a:b","source":""}\n', b"{"]
+    found = list(map(json.loads, modinfo.check_source_lines(lines, jobs)))
+    assert found == [modinfo.check(line, "analyze_source") for line in lines]
+    assert [report.get("fault") for report in found] == ["Syntax", None, "Json"]
 
 
 def test_that_there_are_cases_of_several_lines() -> None:
@@ -82,21 +92,20 @@ def test_a_line_that_is_no_bytes(before: int, jobs: int) -> None:
     answers = modinfo.analyze_lines([*[b"{"] * before, "{}"], jobs)  # type: ignore[list-item]
     for _ in range(before):
         assert next(answers) == b'{"fault":"Json"}\n'
-    with pytest.raises(TypeError, match="a line is bytes, not str"):
+    with pytest.raises(TypeError, match="a line must be bytes, not str"):
         next(answers)
     assert list(answers) == []
 
 
 @pytest.mark.parametrize("jobs", [0, -1])
 def test_a_number_of_jobs_that_is_none(jobs: int) -> None:
-    with pytest.raises(ValueError, match="jobs is a number above zero"):
+    with pytest.raises(ValueError, match="jobs must be above zero"):
         modinfo.analyze_lines([], jobs)
 
 
 def test_another_command() -> None:
-    with pytest.raises(
-        ValueError, match="^a command is analyze, analyze_estree, analyze_source, convert, reach, not 'check'$"
-    ):
+    names = "analyze, analyze_estree, analyze_source, convert, reach"
+    with pytest.raises(ValueError, match=f"^command must be one of {names}, not 'check'$"):
         modinfo.check_lines([], "check")  # type: ignore[arg-type]
 
 
@@ -164,7 +173,7 @@ def test_keyed_documents(jobs: int) -> None:
     ]
     keyed = [(key, str(fault).split(" ")[0]) for key, fault in modinfo.analyze_many(broken, jobs)]
     assert keyed == [("file:///a", "Tree"), ("a:b", "Json"), ("", "Json"), ("", "Tree"), ("", "Tree"), ("", "Input")]
-    with pytest.raises(TypeError, match="^a document is a mapping, a str or bytes, not int$"):
+    with pytest.raises(TypeError, match="^a document must be a mapping, a str or bytes, not int$"):
         list(modinfo.analyze_many([1], jobs))  # type: ignore[list-item]
 
 

@@ -29,7 +29,7 @@ def printed(program: str, folder: Path) -> str:
     return run.stdout
 
 
-PROGRAMS = re.findall(r"```python\n([^`]*?)```\n\nIt prints\n\n```\n(.*?)```\n", README, re.DOTALL)
+PROGRAMS = re.findall(r"```python\n(.*?)```\n\nIt prints\n\n```\n(.*?)```\n", README, re.DOTALL)
 
 
 @pytest.mark.parametrize("program, output", PROGRAMS, ids=range(len(PROGRAMS)))

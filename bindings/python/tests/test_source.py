@@ -1,43 +1,37 @@
-"""From source texts and files to what they depend on."""
+"""From source texts to what they depend on."""
 
-import json
-import os
 import re
-import shutil
-import socket
-import subprocess
+from collections.abc import Callable
 from pathlib import Path
 from typing import Any, get_args
 
 import pytest
-from repository import EXAMPLES, ROOT
+from repository import ROOT, SOURCES, output_of
 
 import modinfo
-
-# Sources of the examples, and what comes out of them.
-ENDINGS = {".ts", ".tsx", ".js", ".mjs"}
-SOURCES = [
-    (path, json.loads(path.with_suffix(".out.json").read_text()))
-    for path in sorted(EXAMPLES.iterdir())
-    if path.suffix in ENDINGS and path.with_suffix(".out.json").exists()
-]
 
 
 @pytest.mark.parametrize("path, wanted", SOURCES, ids=lambda part: getattr(part, "name", ""))
 def test_an_example(path: Path, wanted: dict[str, Any]) -> None:
     text = path.read_text()
+    line = output_of(path).read_text().removesuffix("\n")
     for form in text, text.encode(), bytearray(text.encode()), memoryview(text.encode()):
         assert modinfo.module_info(form, path.as_uri()).to_dict() == wanted
+        assert modinfo.module_info_json(form, path.as_uri()) == line
+        assert modinfo.check_source(form, path.as_uri()) == {"valid": True}
 
 
 def test_a_media_type() -> None:
     """A cast with angle brackets is TypeScript, and no TSX."""
     text = "let a = <T>b;"
-    assert modinfo.module_info(text, "file:///a", "TypeScript") == modinfo.module_info(text, "file:///a.ts")
-    with pytest.raises(modinfo.Fault, match="^Syntax "):
-        modinfo.module_info(text, "file:///a.ts", "Tsx")
-    with pytest.raises(ValueError, match="^a media type is one of JavaScript, Jsx, .*, Other, not 'ts'$"):
-        modinfo.module_info(text, "file:///a.ts", "ts")  # type: ignore[arg-type]
+    for function in modinfo.module_info, modinfo.module_info_json, modinfo.check_source:
+        assert function(text, "file:///a", "TypeScript") == function(text, "file:///a.ts")
+        with pytest.raises(ValueError, match="^media_type must be one of JavaScript, Jsx, .*, Other, not 'ts'$"):
+            function(text, "file:///a.ts", "ts")  # type: ignore[arg-type]
+    for refused in modinfo.module_info, modinfo.module_info_json:
+        with pytest.raises(modinfo.Fault, match="^Syntax "):
+            refused(text, "file:///a.ts", "Tsx")
+    assert "fault" in modinfo.check_source(text, "file:///a.ts", "Tsx")
 
 
 def test_that_media_types_have_the_numbers_of_the_header() -> None:
@@ -52,7 +46,8 @@ def test_a_syntax_error() -> None:
     fault = refused.value
     assert (fault.name, fault.line, fault.character) == ("Syntax", 1, 8)
     assert fault.message and str(fault) == f"Syntax at line 2, column 9 (offset 14): {fault.message}"
-    assert fault.report is not None and fault.report["expected"] == fault.message
+    assert fault.report == modinfo.check_source("// é\nimport {", "file:///a.ts")
+    assert fault.report["pointer"] == "/source" and fault.report["expected"] in fault.message
 
 
 @pytest.mark.parametrize(
@@ -62,99 +57,74 @@ def test_a_syntax_error() -> None:
     ids=ascii,
 )
 def test_another_fault(text: str | bytes, specifier: str, name: str) -> None:
-    with pytest.raises(modinfo.Fault) as refused:
-        modinfo.module_info(text, specifier)
-    assert (refused.value.name, refused.value.line) == (name, None)
-
-
-@pytest.mark.parametrize("text", [None, 1, ["import 'a'"]], ids=repr)
-def test_a_text_of_another_type(text: Any) -> None:
-    with pytest.raises(TypeError, match=f"not {type(text).__name__}$"):
-        modinfo.module_info(text, "file:///a.ts")
-
-
-@pytest.mark.parametrize("specifier", [None, b"file:///a.ts"], ids=repr)
-def test_a_specifier_of_another_type(specifier: Any) -> None:
-    with pytest.raises(TypeError, match=f"^a specifier is a str, not {type(specifier).__name__}$"):
-        modinfo.module_info("", specifier)
-
-
-@pytest.mark.parametrize("jobs", [1, 3])
-def test_files(jobs: int, tmp_path: Path) -> None:
-    """Neither a pipe nor a socket is waited for."""
-    (tmp_path / "bad.ts").write_text("import {")
-    (tmp_path / "bytes.ts").write_bytes(b"\xff")
-    (tmp_path / "folder.ts").mkdir()
-    os.mkfifo(tmp_path / "pipe.ts")
-    with open(tmp_path / "large.ts", "wb") as large:
-        large.truncate((64 << 20) + 1)
-    with socket.socket(socket.AF_UNIX) as unix:
-        unix.bind(str(tmp_path / "socket.ts"))
-        names = ["bad.ts", "bytes.ts", "folder.ts", "pipe.ts", "large.ts", "socket.ts", "none.ts", "a\0.ts"]
-        paths = [*(path for path, _ in SOURCES), *(tmp_path / name for name in names)]
-        found = list(modinfo.files(paths, jobs))
-    infos, faults = found[: len(SOURCES)], found[len(SOURCES) :]
-    assert infos == [(path.as_uri(), modinfo.ModuleInfo.from_dict(wanted)) for path, wanted in SOURCES]
-    assert [specifier for specifier, _ in faults[:-1]] == [(tmp_path / name).as_uri() for name in names[:-1]]
-    assert [fault.name for _, fault in faults if isinstance(fault, modinfo.Fault)] == ["Syntax"] + ["Input"] * 7
-    # A list of faults doesn't hold the texts that were read.
-    assert all(
-        fault.__traceback__ is fault.__context__ is None for _, fault in faults if isinstance(fault, modinfo.Fault)
-    )
-
-
-def test_the_url_of_a_file(tmp_path: Path, monkeypatch: pytest.MonkeyPatch) -> None:
-    """As node has it, but for the tilde, which RFC 3986 doesn't escape."""
-    name = "".join(sorted({*map(chr, range(33, 127)), "é", "日", " "} - {"/", "\\"})) + ".ts"
-    (tmp_path / name).write_text("")
-    monkeypatch.chdir(tmp_path)
-    [(specifier, info)] = modinfo.files([name])
-    assert info == modinfo.ModuleInfo(script=True) and modinfo.file_url(name) == specifier
-    if not shutil.which("node"):
-        pytest.skip("node isn't here")
-    program = "console.log(require('url').pathToFileURL(process.argv[1]).href)"
-    printed = subprocess.run(["node", "-e", program, name], capture_output=True, text=True, check=True).stdout
-    assert specifier == printed.strip().replace("%7E", "~")
-
-
-def test_the_bytes_of_a_file(tmp_path: Path) -> None:
-    (tmp_path / "a").write_bytes(b"\xff\r\n")
-    assert modinfo.read_file(tmp_path / "a") == b"\xff\r\n"
-    assert modinfo.read_file(f"/proc/self/root{tmp_path}/a") == b"\xff\r\n"
+    for function in modinfo.module_info, modinfo.module_info_json:
+        with pytest.raises(modinfo.Fault) as refused:
+            function(text, specifier)
+        assert (refused.value.name, refused.value.line) == (name, None)
 
 
 @pytest.mark.parametrize(
-    "path, message",
+    "text, line, column, offset",
     [
-        ("/dev", "a folder: name the files in it"),
-        ("/dev/zero", "no regular file"),
-        ("/proc/self/status", "in /proc or /sys"),
-        ("/dev/../sys/devices/system/cpu/online", "in /proc or /sys"),
+        (b"\xff", 0, 0, 0),
+        ("a\n\u00e9\n\u65e5\ud800", 2, 1, 8),
+        (b"\r\xe6\x97", 0, 1, 1),
+        (memoryview(b"a\xf0\x9f\x98\x80\xf0\x9f\x98"), 0, 2, 5),
     ],
+    ids=ascii,
 )
-def test_a_file_that_is_not_read(path: str, message: str, tmp_path: Path) -> None:
-    """Nor through a link."""
-    (tmp_path / "link").symlink_to(path)
-    for each in path, tmp_path / "link":
-        with pytest.raises(modinfo.Fault, match=f"^Input: {message}$"):
-            modinfo.read_file(each)
+def test_the_report_on_a_text_that_is_not_utf_8(text: Any, line: int, column: int, offset: int) -> None:
+    """Where the text stops being UTF-8."""
+    at = {"line": line, "column": column, "offset": offset}
+    assert modinfo.check_source(text, "file:///a.ts") == {"fault": "Input", "at": at, "expected": "UTF-8"}
 
 
-@pytest.mark.parametrize("paths", ["a.ts", b"a.ts", Path("a.ts")], ids=repr)
-def test_one_path_for_a_list(paths: Any) -> None:
-    with pytest.raises(TypeError, match="^paths are a list of paths, not a "):
-        modinfo.files(paths)
+@pytest.mark.parametrize("specifier", ["a.ts", "", "file:///\ud800.ts"], ids=ascii)
+def test_the_report_on_a_specifier(specifier: str) -> None:
+    report = modinfo.check_source("", specifier)
+    assert report == {"fault": "Specifier", "pointer": "/specifier", "expected": "an absolute URL"}
 
 
-def test_that_files_are_read_as_they_are_asked_for(tmp_path: Path) -> None:
-    (tmp_path / "a.ts").write_text("")
-    read = 0
+FUNCTIONS: list[Callable[..., Any]] = [modinfo.module_info, modinfo.module_info_json, modinfo.check_source]
 
-    def paths() -> Any:
-        nonlocal read
-        for read in range(1, 100_000):
-            yield tmp_path / "a.ts"
 
-    found = modinfo.files(paths(), jobs=2)
-    next(found)
-    assert read <= 4
+@pytest.mark.parametrize("function", FUNCTIONS)
+@pytest.mark.parametrize("text", [None, 1, ["import 'a'"]], ids=repr)
+def test_a_text_of_another_type(text: Any, function: Callable[..., Any]) -> None:
+    with pytest.raises(TypeError, match=f"not {type(text).__name__}$"):
+        function(text, "file:///a.ts")
+
+
+@pytest.mark.parametrize("function", FUNCTIONS)
+@pytest.mark.parametrize("specifier", [None, b"file:///a.ts"], ids=repr)
+def test_a_specifier_of_another_type(specifier: Any, function: Callable[..., Any]) -> None:
+    with pytest.raises(TypeError, match=f"^specifier must be a str, not {type(specifier).__name__}$"):
+        function("", specifier)
+
+
+@pytest.mark.parametrize("jobs", [1, 3])
+def test_many_texts(jobs: int) -> None:
+    """In their order, those with a fault too."""
+    texts = [(path.read_bytes(), path.as_uri()) for path, _ in SOURCES] * 20
+    infos = [(path.as_uri(), modinfo.ModuleInfo.from_dict(wanted)) for path, wanted in SOURCES] * 20
+    assert list(modinfo.module_info_many(texts, jobs)) == infos
+    others: list[Any] = [("let a = <T>b;", "a:b", "Tsx"), ("let a = <T>b;", "a:b", "Mts"), (b"\xff", "a:c"), ("", "")]
+    found = list(modinfo.module_info_many(iter(others), jobs))
+    assert [specifier for specifier, _ in found] == ["a:b", "a:b", "a:c", ""]
+    assert [getattr(each, "name", each) for _, each in found] == [
+        "Syntax",
+        modinfo.ModuleInfo(script=True),
+        "Input",
+        "Specifier",
+    ]
+    # A list of faults doesn't hold the texts that were read.
+    assert all(each.__traceback__ is None for _, each in found if isinstance(each, modinfo.Fault))
+
+
+@pytest.mark.parametrize("jobs", [1, 3])
+def test_a_wrong_one_of_many_texts(jobs: int) -> None:
+    texts: list[Any] = [("", "a:b"), ("", "a:c", "ts")]
+    found = modinfo.module_info_many(texts, jobs)
+    assert next(found) == ("a:b", modinfo.ModuleInfo(script=True))
+    with pytest.raises(ValueError, match="^media_type must be one of "):
+        next(found)

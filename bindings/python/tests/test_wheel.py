@@ -1,9 +1,13 @@
 """How the wheel is made, by Debian's Python, in copies of the sources."""
 
+import email
+import hashlib
+import json
 import os
 import re
 import shutil
 import subprocess
+import tarfile
 import tempfile
 import zipfile
 from collections.abc import Iterator
@@ -26,11 +30,22 @@ def room() -> Iterator[Path]:
         yield Path(name)
 
 
+SUMMARY = "What one JavaScript or TypeScript module depends on, from its text"
+
+
+def stamp_of(room: Path, kind: str) -> str:
+    """What tools/build_library and tools/build_unchecked write beside a library, by tools/sources.py."""
+    file = hashlib.sha256((room / "library/libmodinfo.so").read_bytes()).hexdigest()
+    return f"{kind}\nsources 0123\nfile {file}\n"
+
+
 def copy_of(room: Path) -> Path:
+    """A copy of the package, and of the library with a stamp of a proved one."""
     copy = room / "bindings/python"
     shutil.copytree(SOURCES, copy, ignore=shutil.ignore_patterns("__pycache__", "*.egg-info", "build"))
     (room / "library").mkdir()
     shutil.copy(LIBRARY, room / "library")
+    (room / "library/libmodinfo.so.origin").write_text(stamp_of(room, "proved"))
     return copy
 
 
@@ -70,16 +85,63 @@ def test_that_a_wheel_is_tagged_by_what_its_library_needs(room: Path) -> None:
     assert made(room).name.endswith(f"-py3-none-manylinux_{major}_{minor}_{os.uname().machine}.whl")
 
 
-def test_that_a_wheel_says_where_its_library_comes_from(room: Path) -> None:
-    """By the stamp beside the library; a library without a stamp has none in the wheel either."""
+def metadata_of(wheel: Path) -> tuple[str, str, str]:
+    """The summary, the keywords and the first line of the description."""
+    with zipfile.ZipFile(wheel) as archive:
+        [name] = [name for name in archive.namelist() if name.endswith("/METADATA")]
+        found = email.message_from_bytes(archive.read(name))
+    keywords = found["Keywords"].removeprefix("javascript,typescript,dependencies,imports,")
+    return found["Summary"], keywords, found.get_payload(decode=True).decode().splitlines()[0]
+
+
+def test_that_a_wheel_says_that_its_library_is_proved(room: Path) -> None:
+    done = run(copy_of(room) / "make_wheel", room, library=room / "library")
+    assert (done.returncode, done.stderr) == (0, "")
+    claim = json.loads((ROOT / "docs/commands.json").read_text())["claim"]
+    proved = f"{SUMMARY}. {claim}", "modinfo-build=proved,modinfo-sources=0123"
+    assert metadata_of(made(room)) == (*proved, "# modinfo for Python")
+    with zipfile.ZipFile(made(room)) as wheel:
+        assert wheel.read("modinfo/libmodinfo.so.origin").decode() == stamp_of(room, "proved")
+
+
+def test_a_library_that_was_installed(room: Path) -> None:
+    """By tools/install, whose file for pkg-config has whether the library is proved."""
     copy = copy_of(room)
-    run(copy / "make_wheel", room / "without", library=room / "library")
-    stamp = "unchecked\nsources 0\nfile 0\n"
-    (room / "library/libmodinfo.so.origin").write_text(stamp)
-    run(copy / "make_wheel", room / "with", library=room / "library")
-    with zipfile.ZipFile(made(room / "without")) as without, zipfile.ZipFile(made(room / "with")) as wheel:
-        assert set(wheel.namelist()) - set(without.namelist()) == {"modinfo/libmodinfo.so.origin"}
-        assert wheel.read("modinfo/libmodinfo.so.origin").decode() == stamp
+    (room / "library/libmodinfo.so.origin").unlink()
+    (room / "library/pkgconfig").mkdir()
+    page = (ROOT / "packaging/modinfo.pc.in").read_text()
+    for kind, status in ("proved", 0), ("unchecked", 1):
+        (room / "library/pkgconfig/modinfo.pc").write_text(page.replace("@BUILD@", kind).replace("@SOURCES@", "0123"))
+        assert run(copy / "make_wheel", room / kind, library=room / "library").returncode == status
+    assert metadata_of(made(room / "proved"))[1] == "modinfo-build=proved,modinfo-sources=0123"
+
+
+def test_that_an_unchecked_library_is_refused(room: Path) -> None:
+    """Without a stamp, with the stamp of another file, and by its stamp. With --unchecked the wheel says it first."""
+    copy = copy_of(room)
+    stamp = room / "library/libmodinfo.so.origin"
+    stamp.unlink()
+    for text in None, "proved\nsources 0123\nfile 0\n", stamp_of(room, "unchecked"):
+        if text is not None:
+            stamp.write_text(text)
+        done = run(copy / "make_wheel", room, library=room / "library")
+        assert done.returncode == 1 and not list(room.glob("*.whl"))
+        refused = "libmodinfo.so isn't proved, by the stamp beside it: run tools/build_library, or say --unchecked"
+        assert refused in done.stderr
+    done = run(copy / "make_wheel", "--unchecked", room, library=room / "library")
+    assert (done.returncode, done.stderr) == (0, "")
+    warning = "This build is unchecked: nothing is proved of it."
+    assert metadata_of(made(room)) == (
+        f"{SUMMARY}. {warning}",
+        "modinfo-build=unchecked,modinfo-sources=0123",
+        warning,
+    )
+
+
+@pytest.mark.parametrize("words", [[], ["--other"], ["a", "b"], ["--unchecked"]], ids=str)
+def test_words_that_are_no_usage(words: list[str]) -> None:
+    done = run(SOURCES / "make_wheel", *words, library=LIBRARY.parent)
+    assert (done.returncode, done.stderr) == (2, "usage: bindings/python/make_wheel [--unchecked] FOLDER\n")
 
 
 def test_a_checkout_that_cannot_be_written_to(room: Path) -> None:
@@ -116,6 +178,9 @@ def test_an_archive_of_the_sources(room: Path) -> None:
     done = run(PYTHON, "-c", build, library=None)
     assert done.returncode == 0, done.stderr
     [archive] = room.glob("modinfo-*.tar.gz")
+    with tarfile.open(archive) as sources:
+        member = sources.extractfile(f"{archive.name.removesuffix('.tar.gz')}/PKG-INFO")
+        assert member is not None and email.message_from_bytes(member.read())["Summary"] == SUMMARY
     without = pip("wheel", "--wheel-dir", room / "without", archive, library=None)
     assert without.returncode != 0
     assert "set MODINFO_LIB_DIR to the folder of libmodinfo.so" in without.stderr

@@ -31,16 +31,38 @@ def of_a_tree(source: str, program: dict[str, object], comments: list[dict[str, 
     return modinfo.analyze_estree("file:///a.js", "JavaScript", source, program)
 
 
+def shown(dependency: modinfo.Dependency) -> list[str]:
+    if dependency.type == "static":
+        return [f"{dependency.specifier} in line {dependency.specifier_range.start.line}"]
+    if isinstance(dependency.argument, str):
+        return [dependency.argument]
+    parts: tuple[modinfo.TemplatePart, ...] = dependency.argument or ()
+    return [part.value for part in parts if part.type == "string"]
+
+
 def of_a_text(text: str) -> list[str]:
     found = []
     for dependency in modinfo.module_info(text, "file:///a.ts").dependencies:
-        if isinstance(dependency, modinfo.StaticDependency):
-            found.append(f"{dependency.specifier} in line {dependency.specifier_range.start.line}")
-        elif isinstance(dependency.argument, str):
-            found.append(dependency.argument)
-        elif dependency.argument is not None:
-            found += [part.value for part in dependency.argument if part.type == "string"]
+        found += shown(dependency)
+        if isinstance(dependency, modinfo.DynamicDependency) and dependency.has_unknown_argument:
+            found.append("nothing is known")
     return found
+
+
+def kinds(info: modinfo.ModuleInfo) -> dict[modinfo.StaticKind | modinfo.DynamicKind, int]:
+    found: dict[modinfo.StaticKind | modinfo.DynamicKind, int] = {}
+    for dependency in info.dependencies:
+        found[dependency.kind] = found.get(dependency.kind, 0) + 1
+    return found
+
+
+def values_of(attributes: modinfo.ImportAttributes | None) -> list[modinfo.ImportAttribute]:
+    return list(attributes.known.values()) if isinstance(attributes, modinfo.KnownAttributes) else []
+
+
+def modes(info: modinfo.ModuleInfo) -> list[modinfo.ResolutionMode | None]:
+    references: tuple[modinfo.Reference, ...] = info.ts_references
+    return [each.resolution_mode for each in references if each.type == "types"]
 
 
 def specifiers(info: modinfo.ModuleInfoDict) -> list[str]:
@@ -66,7 +88,9 @@ def place(fault: modinfo.Fault) -> str | None:
 
 def all_of(paths: list[str], documents: list[ModuleDocument | bytes]) -> dict[str, modinfo.ModuleInfo]:
     found = {}
-    for specifier, info in [*modinfo.files(paths, jobs=2), *modinfo.analyze_many(documents)]:
+    read = [*modinfo.files(paths, jobs=2, media_type="Tsx")]
+    read += modinfo.module_info_many([("import 0", "file:///a.ts"), (b"import(0)", "file:///b", "TypeScript")])
+    for specifier, info in [*read, *modinfo.analyze_many(documents)]:
         if isinstance(info, modinfo.Fault):
             print(f"{specifier}:{info.line}: {info.message}")
         else:

@@ -35,13 +35,13 @@ pub fn lines(call: Call<'_>) -> Result<String, Fault> {
 }
 
 /// The value of an answer. Only a later library writes one that can't be read.
-pub fn value<T: DeserializeOwned>(json: &str) -> Result<T, Error> {
-    serde_json::from_str(json).map_err(|error| Error::new(Fault::Unknown(error.to_string()), None))
+pub fn value<T: DeserializeOwned>(json: &str) -> Result<T, Fault> {
+    serde_json::from_str(json).map_err(|error| Fault::Unknown(error.to_string()))
 }
 
 /// The JSON of a value.
 pub fn json<T: Serialize>(value: &T) -> Result<Vec<u8>, Error> {
-    serde_json::to_vec(value).map_err(|error| Error::new(Fault::Unknown(error.to_string()), None))
+    serde_json::to_vec(value).map_err(|error| Fault::Unknown(error.to_string()).into())
 }
 
 /// Removes the line feed. The room was as long as the document, so the text is copied where there is memory for it.

@@ -11,6 +11,7 @@ pair! {
 
 /// The phase: `import`, `import source` or `import defer`.
 #[derive(Copy, Clone, Debug, PartialEq, Eq, Deserialize, Serialize, Default)]
+#[non_exhaustive]
 #[serde(rename_all = "camelCase")]
 pub enum ImportPhase {
     /// `evaluation`
@@ -44,6 +45,7 @@ pub struct StringLiteral {
 
 /// What is called: a kind of `import`, an expression, or `super`.
 #[derive(Copy, Clone, Debug, PartialEq, Eq, Deserialize, Serialize)]
+#[non_exhaustive]
 #[serde(rename_all = "camelCase")]
 pub enum Callee {
     /// `import`
@@ -106,6 +108,7 @@ pub struct DocumentNode {
 
 /// The kind of a node, with the members that nodes of this kind have.
 #[derive(Clone, Debug, PartialEq, Eq, Deserialize, Serialize)]
+#[non_exhaustive]
 #[serde(tag = "kind")]
 pub enum NodeKind {
     /// An import declaration.

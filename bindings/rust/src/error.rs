@@ -1,7 +1,7 @@
 use crate::fault::Fault;
 use crate::module_info::Position;
 use crate::report::FaultReport;
-use crate::report_line::Line;
+use crate::report_line::{read_report, Line};
 use std::fmt;
 use std::ops::Range;
 
@@ -16,12 +16,29 @@ use std::ops::Range;
 #[derive(Clone, Debug, PartialEq, Eq)]
 pub struct Error {
     fault: Fault,
-    report: Option<String>,
+    /// The report, if there is one: in a vector, since the allocation of a box can't fail.
+    report: Vec<Kept>,
+}
+
+/// A report as its JSON and as what was read of that.
+#[derive(Clone, Debug, PartialEq, Eq)]
+struct Kept {
+    json: String,
+    read: FaultReport,
 }
 
 impl Error {
+    /// The report is left out if an allocation fails.
     pub(crate) fn new(fault: Fault, report: Option<String>) -> Error {
-        Error { fault, report }
+        let mut kept = Vec::new();
+        if let Some(json) = report.filter(|_| kept.try_reserve_exact(1).is_ok()) {
+            let read = read_report(fault.clone(), &json);
+            kept.extend(read.map(|read| Kept { json, read }));
+        }
+        Error {
+            fault,
+            report: kept,
+        }
     }
 
     /// The fault.
@@ -36,57 +53,59 @@ impl Error {
         self.fault.name()
     }
 
-    /// The JSON Pointer (RFC 6901) of the value with the fault: `/source` for a syntax error. `None` for a document
-    /// that is no JSON or no UTF-8.
+    /// The report on the document or the text. `None` where an allocation failed.
     #[must_use]
-    pub fn pointer(&self) -> Option<String> {
-        self.parsed()?.pointer
+    pub fn report(&self) -> Option<&FaultReport> {
+        self.report.first().map(|kept| &kept.read)
+    }
+
+    /// The JSON of the report, as [`check_json`](crate::check_json) returns it.
+    #[must_use]
+    pub fn report_json(&self) -> Option<&str> {
+        self.report.first().map(|kept| kept.json.as_str())
+    }
+
+    /// The JSON Pointer (RFC 6901) of the value with the fault: `/source` for a syntax error. `None` for a document
+    /// that isn't JSON or UTF-8.
+    #[must_use]
+    pub fn pointer(&self) -> Option<&str> {
+        self.report()?.pointer.as_deref()
     }
 
     /// The range in the source that has the fault, in bytes, where a document has one.
     #[must_use]
     pub fn range(&self) -> Option<Range<usize>> {
-        let range = self.parsed()?.range?;
+        let range = self.report()?.range?;
         Some(range.start..range.end)
     }
 
-    /// The offset of the fault in bytes: in the source text for a syntax error, in the document where that is no JSON
-    /// or no UTF-8, else where the range begins.
+    /// The offset of the fault in bytes: in the source text for a syntax error, in the document where that isn't JSON
+    /// or UTF-8, else where the range begins.
     #[must_use]
     pub fn offset(&self) -> Option<usize> {
-        let report = self.parsed()?;
+        let report = self.report()?;
         let start = report.range.map(|range| range.start);
-        report.at.map(|place| place.offset).or(start)
+        report.at.as_ref().map(|place| place.offset).or(start)
     }
 
     /// The line and the character of the fault, both from zero: in the source text for a syntax error, in the document
-    /// where that is no JSON or no UTF-8. `None` for any other fault.
+    /// where that isn't JSON or UTF-8. `None` for any other fault.
     #[must_use]
     pub fn position(&self) -> Option<Position> {
-        let place = self.parsed()?.at?;
+        let place = self.report()?.at.as_ref()?;
         Some(Position::new(place.line, place.column))
     }
 
     /// What was expected there, in words that later versions may change.
     #[must_use]
-    pub fn expected(&self) -> Option<String> {
-        Some(self.parsed()?.expected)
-    }
-
-    fn parsed(&self) -> Option<FaultReport> {
-        serde_json::from_str(self.report.as_deref()?).ok()
-    }
-
-    /// The report on the document, as [`check`](crate::check) returns it. `None` where an allocation failed.
-    #[must_use]
-    pub fn report(&self) -> Option<&str> {
-        self.report.as_deref()
+    pub fn expected(&self) -> Option<&str> {
+        Some(&self.report()?.expected)
     }
 }
 
 impl fmt::Display for Error {
     fn fmt(&self, formatter: &mut fmt::Formatter<'_>) -> fmt::Result {
-        match &self.report {
+        match self.report_json() {
             Some(report) => Line(report).fmt(formatter),
             None => self.fault.fmt(formatter),
         }
@@ -94,6 +113,13 @@ impl fmt::Display for Error {
 }
 
 impl std::error::Error for Error {}
+
+/// Without a report.
+impl From<Fault> for Error {
+    fn from(fault: Fault) -> Error {
+        Error::new(fault, None)
+    }
+}
 
 impl From<Error> for Fault {
     fn from(error: Error) -> Fault {

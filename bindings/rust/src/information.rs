@@ -1,11 +1,13 @@
 //! What the generated types are made with, and their methods.
 
-use crate::document::JsString;
+use crate::document::{ByteRange, JsString};
 use crate::module_info::{
-    DependencyDescriptor, DynamicArgument, DynamicDependencyDescriptor, ImportAttribute,
-    ImportAttributes, Position, PositionRange, StaticDependencyDescriptor,
+    DependencyDescriptor, DynamicArgument, DynamicDependencyDescriptor, DynamicTemplatePart,
+    ImportAttribute, ImportAttributes, Position, PositionRange, StaticDependencyDescriptor,
     TypeScriptTypesResolutionMode,
 };
+use crate::parsed_source::SourceTextInfo;
+use crate::report::{FaultReport, Report};
 
 /// Defines a struct of two fields that is an array in JSON.
 macro_rules! pair {
@@ -109,10 +111,23 @@ impl ImportAttributes {
 }
 
 impl DynamicArgument {
-    /// Whether nothing is known of the argument.
+    /// Whether the argument has neither a text nor parts, as that of `import(x)`.
     #[must_use]
     pub fn is_expr(&self) -> bool {
         *self == DynamicArgument::Expr
+    }
+
+    /// Whether nothing is known of the argument: that of `import(x)`, and that of ``import(`${x}`)``, which has one
+    /// part.
+    #[must_use]
+    pub fn is_unknown(&self) -> bool {
+        match self {
+            DynamicArgument::Expr => true,
+            DynamicArgument::String(_) => false,
+            DynamicArgument::Template(parts) => {
+                parts.iter().all(|part| *part == DynamicTemplatePart::Expr)
+            }
+        }
     }
 }
 
@@ -140,6 +155,15 @@ impl PositionRange {
         }
     }
 
+    /// The range of bytes in a text that has the positions, up to its end.
+    #[must_use]
+    pub fn as_source_range(&self, text_info: &SourceTextInfo) -> ByteRange {
+        ByteRange {
+            start: text_info.loc_to_source_pos(self.start),
+            end: text_info.loc_to_source_pos(self.end),
+        }
+    }
+
     /// Whether a position is in the range or at its end.
     #[must_use]
     pub fn includes(&self, position: Position) -> bool {
@@ -149,6 +173,7 @@ impl PositionRange {
 
 /// Whether a specifier is resolved as `import` or as `require` resolves.
 #[derive(Clone, Copy, Debug, PartialEq, Eq, Hash)]
+#[non_exhaustive]
 pub enum ResolutionMode {
     /// As `import` does.
     Import,
@@ -174,6 +199,23 @@ impl TypeScriptTypesResolutionMode {
         match self {
             TypeScriptTypesResolutionMode::Import => ResolutionMode::Import,
             TypeScriptTypesResolutionMode::Require => ResolutionMode::Require,
+        }
+    }
+}
+
+impl Report {
+    /// Whether the command takes the document.
+    #[must_use]
+    pub fn is_valid(&self) -> bool {
+        matches!(self, Report::Valid(_))
+    }
+
+    /// The fault for which the document is refused, and where it is.
+    #[must_use]
+    pub fn as_fault(&self) -> Option<&FaultReport> {
+        match self {
+            Report::Valid(_) => None,
+            Report::Invalid(report) => Some(report),
         }
     }
 }

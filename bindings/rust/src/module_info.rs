@@ -2,10 +2,11 @@
 
 use crate::information::{is_default, pair};
 use serde::{Deserialize, Serialize};
-use std::collections::HashMap;
+use std::collections::BTreeMap;
 
 /// Which syntax names the module.
 #[derive(Copy, Clone, Debug, PartialEq, Eq, Deserialize, Serialize)]
+#[non_exhaustive]
 #[serde(rename_all = "camelCase")]
 pub enum StaticDependencyKind {
     /// `import`
@@ -67,7 +68,7 @@ pub enum ImportAttributes {
     /// The keys aren't known.
     Unknown,
     /// The values by their keys.
-    Known(HashMap<String, ImportAttribute>),
+    Known(BTreeMap<String, ImportAttribute>),
     /// The member is missing.
     #[default]
     None,
@@ -96,6 +97,7 @@ pub struct StaticDependencyDescriptor {
 
 /// What is called.
 #[derive(Copy, Clone, Debug, PartialEq, Eq, Deserialize, Serialize, Default)]
+#[non_exhaustive]
 #[serde(rename_all = "camelCase")]
 pub enum DynamicDependencyKind {
     /// `import`
@@ -124,7 +126,8 @@ pub enum DynamicTemplatePart {
 }
 
 /// The argument: a text for a string literal or a template without expressions, parts for another
-/// template or a sum that a string literal begins. Missing where nothing is known.
+/// template or a sum that a string literal begins. Missing for any other expression, of which
+/// nothing is known; nor is anything where all parts are `expr`.
 #[derive(Clone, Debug, PartialEq, Eq, Deserialize, Serialize, Default)]
 #[serde(rename_all = "camelCase", untagged)]
 pub enum DynamicArgument {
@@ -148,7 +151,8 @@ pub struct DynamicDependencyDescriptor {
     #[serde(default, skip_serializing_if = "is_default")]
     pub types_specifier: Option<SpecifierWithRange>,
     /// The argument: a text for a string literal or a template without expressions, parts for
-    /// another template or a sum that a string literal begins. Missing where nothing is known.
+    /// another template or a sum that a string literal begins. Missing for any other expression, of
+    /// which nothing is known; nor is anything where all parts are `expr`.
     #[serde(default, skip_serializing_if = "is_default")]
     pub argument: DynamicArgument,
     /// The range of the argument.

@@ -7,6 +7,7 @@ use serde::{Deserialize, Serialize};
 
 /// A warning about a value.
 #[derive(Clone, Debug, PartialEq, Eq, Deserialize, Serialize)]
+#[non_exhaustive]
 #[serde(rename_all = "camelCase")]
 pub struct ReportWarning {
     /// The value.
@@ -17,6 +18,7 @@ pub struct ReportWarning {
 
 /// The report on a document that the command takes.
 #[derive(Clone, Debug, PartialEq, Eq, Deserialize, Serialize)]
+#[non_exhaustive]
 #[serde(rename_all = "camelCase")]
 pub struct ValidReport {
     /// Always true.
@@ -32,6 +34,7 @@ pub struct ValidReport {
 
 /// A place in the document's text. All count from zero.
 #[derive(Clone, Debug, PartialEq, Eq, Deserialize, Serialize)]
+#[non_exhaustive]
 #[serde(rename_all = "camelCase")]
 pub struct TextPlace {
     /// The line feeds before it.
@@ -44,6 +47,7 @@ pub struct TextPlace {
 
 /// The report on a document that the command refuses.
 #[derive(Clone, Debug, PartialEq, Eq, Deserialize, Serialize)]
+#[non_exhaustive]
 #[serde(rename_all = "camelCase")]
 pub struct FaultReport {
     /// The fault's name.

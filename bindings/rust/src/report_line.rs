@@ -1,6 +1,10 @@
-//! From the JSON of a report with a fault to one line for a person.
+//! From the JSON of a report with a fault to one line for a person, and to its parts.
 
+use crate::document::ByteRange;
+use crate::fault::Fault;
+use crate::report::{FaultReport, TextPlace};
 use std::fmt::{self, Write};
+use std::str::Chars;
 
 /// A report with a fault. Prints as `NAME at PLACE: expected WHAT`. Strings are printed as the report's JSON has
 /// them, with their escapes.
@@ -24,10 +28,11 @@ impl fmt::Display for Line<'_> {
             write_text_place(formatter, at)?;
         }
         let expected = string(self.0, "expected").unwrap_or("something else");
-        // The message of a syntax error is a sentence.
-        let is_sentence = string(self.0, "fault") == Some("Syntax");
-        let before = if is_sentence { ": " } else { ": expected " };
-        write_place(formatter, before, expected)
+        // Where a syntax error has a message of another form, that follows.
+        match expected.strip_prefix("valid syntax: ") {
+            Some(message) => write_place(formatter, ": ", message),
+            None => write_place(formatter, ": expected ", expected),
+        }
     }
 }
 
@@ -58,6 +63,76 @@ fn write_place(formatter: &mut fmt::Formatter<'_>, before: &str, text: &str) -> 
         }
     }
     Ok(())
+}
+
+/// The parts of a report with this fault. `None` if an allocation fails: serde's would end the process.
+pub fn read_report(fault: Fault, json: &str) -> Option<FaultReport> {
+    let text = |name| match string(json, name) {
+        Some(escaped) => unescaped(escaped).map(Some),
+        None => Some(None),
+    };
+    Some(FaultReport {
+        fault,
+        pointer: text("pointer")?,
+        other: text("other")?,
+        range: range(json).and_then(|(start, end)| {
+            Some(ByteRange {
+                start: start.parse().ok()?,
+                end: end.parse().ok()?,
+            })
+        }),
+        at: member(json, "at").and_then(|at| {
+            let number = |name| member(at, name)?.parse().ok();
+            Some(TextPlace {
+                line: number("line")?,
+                column: number("column")?,
+                offset: number("offset")?,
+            })
+        }),
+        expected: text("expected")??,
+    })
+}
+
+/// The text of a JSON string without its quotes. `None` if an allocation fails, or the text is no string of JSON.
+fn unescaped(escaped: &str) -> Option<String> {
+    let mut text = String::new();
+    text.try_reserve_exact(escaped.len()).ok()?;
+    let mut rest = escaped.chars();
+    while let Some(character) = rest.next() {
+        text.push(match character {
+            '\\' => escaped_character(&mut rest)?,
+            _ => character,
+        });
+    }
+    Some(text)
+}
+
+/// The character of an escape, after its backslash.
+fn escaped_character(rest: &mut Chars<'_>) -> Option<char> {
+    Some(match rest.next()? {
+        'b' => '\u{8}',
+        'f' => '\u{c}',
+        'n' => '\n',
+        'r' => '\r',
+        't' => '\t',
+        'u' => {
+            let first = unit(rest)?;
+            let is_pair =
+                matches!(first, 0xd800..=0xdbff) && rest.next()? == '\\' && rest.next()? == 'u';
+            let second = if is_pair { Some(unit(rest)?) } else { None };
+            char::decode_utf16([first].into_iter().chain(second))
+                .next()?
+                .ok()?
+        }
+        other => other,
+    })
+}
+
+/// The UTF-16 unit of four hexadecimal digits.
+fn unit(rest: &mut Chars<'_>) -> Option<u16> {
+    let digits = rest.as_str().get(..4)?;
+    *rest = rest.as_str()[4..].chars();
+    u16::from_str_radix(digits, 16).ok()
 }
 
 fn range(object: &str) -> Option<(&str, &str)> {
@@ -107,7 +182,9 @@ fn value_length(json: &str) -> usize {
 
 #[cfg(test)]
 mod tests {
-    use super::{member, Line};
+    use super::{member, read_report, Line};
+    use crate::fault::Fault;
+    use crate::report::FaultReport;
 
     fn line(report: &str) -> String {
         Line(report).to_string()
@@ -144,9 +221,13 @@ mod tests {
     fn a_syntax_error() {
         assert_eq!(
             line(
-                r#"{"fault":"Syntax","pointer":"/source","at":{"line":0,"column":8,"offset":8},"expected":"expected an expression"}"#
+                r#"{"fault":"Syntax","pointer":"/source","at":{"line":0,"column":8,"offset":8},"expected":"an expression"}"#
             ),
             "Syntax at /source at line 1, column 9 (offset 8): expected an expression"
+        );
+        assert_eq!(
+            line(r#"{"fault":"Syntax","pointer":"/source","expected":"valid syntax: it nests too deep"}"#),
+            "Syntax at /source: it nests too deep"
         );
     }
 
@@ -156,6 +237,25 @@ mod tests {
             line("{\"fault\":\"Tree\",\"pointer\":\"/a\\\"},b\\u001b\\\\\u{9b}\",\"expected\":\"c\"}"),
             "Tree at /a\\\"},b\\u001b\\\\\\u{9b}: expected c"
         );
+    }
+
+    /// As serde reads it.
+    #[test]
+    fn the_parts_of_a_report() {
+        for json in [
+            r#"{"fault":"RangeOutside","pointer":"/program/range","range":[0,27],"expected":"an end"}"#,
+            r#"{"fault":"Json","at":{"line":2,"column":6,"offset":24},"expected":"a value"}"#,
+            r#"{"fault":"CommentsOverlap","pointer":"/b","other":"/a\u00e9\ud83d\ude00","range":[0,2],"expected":"c"}"#,
+            r#"{"fault":"Tree","pointer":"/\"\\\/\b\f\n\r\té","expected":""}"#,
+        ] {
+            let wanted: FaultReport = serde_json::from_str(json).expect(json);
+            assert_eq!(read_report(wanted.fault.clone(), json), Some(wanted));
+        }
+        for escaped in ["\\ud83d", "\\udc00", "\\u00e", "\\ud83dx", "\\"] {
+            let json =
+                format!("{{\"fault\":\"Tree\",\"pointer\":\"{escaped}\",\"expected\":\"\"}}");
+            assert_eq!(read_report(Fault::Tree, &json), None, "{json}");
+        }
     }
 
     #[test]

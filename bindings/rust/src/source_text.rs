@@ -6,6 +6,7 @@ use crate::fault::Fault;
 use crate::ffi::{self, Call, TextFunction};
 use crate::media_type::MediaType;
 use crate::module_info::ModuleInfo;
+use crate::report::Report;
 use url::Url;
 
 /// Returns what a source text of JavaScript or TypeScript depends on. Without a media type, the specifier's counts
@@ -27,7 +28,7 @@ pub fn module_info(
     specifier: &Url,
     media_type: Option<MediaType>,
 ) -> Result<ModuleInfo, Error> {
-    value(&module_info_json(text, specifier, media_type)?)
+    Ok(value(&module_info_json(text, specifier, media_type)?)?)
 }
 
 /// Like [`module_info`], but returns the JSON of the `ModuleInfo`.
@@ -46,13 +47,26 @@ pub fn module_info_json(
     )
 }
 
-/// Returns the report on a source text, as [`check`](crate::check) does. Its pointer leads into the document of
-/// `modinfo analyze --source` that has this text: `/source` for a syntax error.
+/// Returns the report on a source text. Its pointer leads into the document of `modinfo analyze --source` that has
+/// this text: `/source` for a syntax error.
+///
+/// # Errors
+///
+/// [`Fault::OutOfMemory`] alone. A text with a fault has a report too.
+pub fn check_source(
+    text: &str,
+    specifier: &Url,
+    media_type: Option<MediaType>,
+) -> Result<Report, Fault> {
+    value(&check_source_json(text, specifier, media_type)?)
+}
+
+/// Like [`check_source`], but returns the JSON of the report.
 ///
 /// # Errors
 ///
 /// [`Fault::OutOfMemory`] alone.
-pub fn check_source(
+pub fn check_source_json(
     text: &str,
     specifier: &Url,
     media_type: Option<MediaType>,

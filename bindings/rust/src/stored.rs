@@ -35,7 +35,7 @@ fn converted(comments: &[Value]) -> Option<Map<String, Value>> {
         .map(|comment| Some(json!({"text": comment.get("text")?, "range": comment.get("range")?})))
         .collect::<Option<_>>()?;
     let document = json!({"dependencies": [{"leadingComments": comments}]}).to_string();
-    let answer: Value = serde_json::from_str(&convert(document.as_bytes()).ok()?).ok()?;
+    let answer = convert(document.as_bytes()).ok()?;
     let dependency = answer["dependencies"][0].as_object()?;
     (!dependency.contains_key("leadingComments")).then(|| dependency.clone())
 }

@@ -16,8 +16,7 @@ analyze = getattr(modinfo, "original", modinfo.module_info)
 def module_info(text: bytes, *arguments: Any) -> modinfo.ModuleInfo:
     # Ends two workers, and after that is analyzed as any other.
     if b"kills twice" in text and (not DEATHS.exists() or DEATHS.stat().st_size < 2):
-        with open(DEATHS, "ab") as file:
-            file.write(b".")
+        os.write(os.open(DEATHS, os.O_WRONLY | os.O_APPEND | os.O_CREAT), b".")
         os.kill(os.getpid(), signal.SIGKILL)
     while b"hangs" in text and not DEATHS.with_name("go").exists():
         time.sleep(0.05)

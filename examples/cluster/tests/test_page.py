@@ -5,7 +5,6 @@ import re
 import shutil
 import sqlite3
 import subprocess
-from contextlib import closing
 from pathlib import Path
 
 from conftest import ROOT
@@ -32,7 +31,6 @@ def test_the_page_s_commands(tmp_path: Path) -> None:
     assert lines.count("\n") == len(os.listdir(tmp_path / "src")) > 5 and lines.count('"fault"') == 1
     assert (tmp_path / "by-parallel.jsonl").read_text() == lines
     for name in "store.sqlite", "other.sqlite":
-        with closing(sqlite3.connect(tmp_path / name)) as connection:
-            found = connection.execute("SELECT count(DISTINCT module), count(fault) FROM dependencies").fetchall()
+        found = sqlite3.connect(tmp_path / name).execute("SELECT count(*), count(fault) FROM modules").fetchall()
         assert found == [(lines.count("\n"), 1)]
     assert (tmp_path / "importers").read_text() == f"file://{tmp_path}/src/acorn-private-methods.mjs|0|33\n"

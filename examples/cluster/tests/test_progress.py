@@ -12,7 +12,7 @@ def test_a_terminal_and_another_stream(is_terminal: bool, monkeypatch: pytest.Mo
     stream = io.StringIO()
     monkeypatch.setattr(stream, "isatty", lambda: is_terminal)
     progress = Progress(stream)
-    progress.add([Module(f"a{at}\x1b", None, "Syntax", []) for at in range(MOST_LISTED + 1400)])
+    progress.add([Module(f"a{at}\x1b", None, "Syntax", []) for at in range(MOST_LISTED + 1400)], [])
     progress.show(workers=4)
     shown = stream.getvalue()
     assert ("1,500 analyzed, 0 known, 1,500 faults, " in shown and shown.endswith(", 4 workers")) == is_terminal

@@ -4,36 +4,56 @@ import sqlite3
 from contextlib import closing
 
 from conftest import Example
+from store import Store
 
-ALL = "SELECT * FROM dependencies ORDER BY module, number"
+ALL = """SELECT module, fault, hash, checksum, number, kind, specifier, line FROM modules
+LEFT JOIN rows_of_modules USING (id) ORDER BY module, number"""
+WHO = "SELECT module FROM dependencies WHERE specifier = 'a' OR specifier LIKE 'a/%' ORDER BY 1"
 
 
 def test_a_second_run(example: Example) -> None:
-    """Analyzes what changed, also if its time is as it was, and no copy under another name."""
-    example.write(a='import "a";', b='import "b";', c="import {")
-    assert example.run()[:2] == (1, "3 analyzed, 0 known, 1 faults\n")
+    """Analyzes what changed, also if its time is as it was, and no copy of this media type under another name."""
+    example.write(a='import "a";', b='import "b";', c="import {", e="let a = <T>b;")
+    (example.source / "e.tsx").write_text("let a = <T>b;")
+    assert example.run()[:2] == (1, "5 analyzed, 0 known, 2 faults\n")
     before = example.rows(ALL)
-    assert example.run()[:2] == (1, "0 analyzed, 3 known, 1 faults\n")
+    assert example.run()[:2] == (1, "0 analyzed, 5 known, 2 faults\n")
     assert example.rows(ALL) == before
     example.write(b='import "changed";', c="", d='import "a";')
-    assert example.run()[:2] == (0, "2 analyzed, 2 known, 0 faults\n")
+    assert example.run()[:2] == (1, "2 analyzed, 4 known, 1 faults\n")
     found = example.rows("SELECT module, specifier FROM dependencies WHERE specifier IS NOT NULL ORDER BY 1")
     assert found == [(example.url("a"), "a"), (example.url("b"), "changed"), (example.url("d"), "a")]
 
 
-def test_copies_of_another_media_type(example: Example) -> None:
-    example.write(a="let a = <T>b;")
-    (example.source / "a.tsx").write_text("let a = <T>b;")
-    assert example.run()[:2] == (1, "2 analyzed, 0 known, 1 faults\n")
+def test_modules_that_are_gone(example: Example) -> None:
+    """Their run is an earlier one. A run with --prune takes them out, and no others."""
+    example.write(a='import "a";', b='import "A/b";', c='import "ab";')
+    assert example.run()[0] == 0
+    (example.source / "b.ts").unlink()
+    assert example.run() == (0, "0 analyzed, 2 known, 0 faults\n", [])
+    assert example.rows("SELECT run FROM modules ORDER BY module") == [(2,), (1,), (2,)]
+    assert example.rows(WHO) == [(example.url("a"),), (example.url("b"),)]
+    assert example.run("--prune", example.source) == (0, "0 analyzed, 2 known, 0 faults, 1 taken out\n", [])
+    assert example.rows(WHO) == [(example.url("a"),)]
+    assert example.rows("SELECT count(*), min(run) FROM rows_of_modules JOIN modules USING (id)") == [(2, 3)]
+    assert example.rows("SELECT run FROM runs WHERE began <= ended") == [(1,), (2,), (3,)]
+
+
+def test_that_questions_use_an_index(example: Example) -> None:
+    Store(str(example.store)).close()
+    for end in WHO.split(" FROM ")[1], "dependencies WHERE package = 'a'", "modules WHERE fault IS NOT NULL":
+        plan = str(example.rows(f"EXPLAIN QUERY PLAN SELECT module FROM {end}"))
+        assert "INDEX by_" in plan and "SCAN" not in plan
 
 
 # Each is made to the rows of another module.
+OF = "WHERE id = (SELECT id FROM modules WHERE module = ?)"
 CHANGES = {
-    "a": "UPDATE dependencies SET specifier = 'other' WHERE number = 1 AND module = ?",
-    "b": "UPDATE dependencies SET fault = 'Syntax' WHERE number = 0 AND module = ?",
-    "c": "UPDATE dependencies SET checksum = NULL WHERE module = ?",
-    "d": "DELETE FROM dependencies WHERE number = 2 AND module = ?",
-    "e": "DELETE FROM dependencies WHERE number = 0 AND module = ?",
+    "a": f"UPDATE rows_of_modules SET specifier = 'other' {OF} AND number = 1",
+    "b": f"UPDATE modules SET fault = 'Syntax' {OF}",
+    "c": f"UPDATE modules SET checksum = NULL {OF}",
+    "d": f"DELETE FROM rows_of_modules {OF} AND number = 2",
+    "e": f"DELETE FROM modules {OF}",
 }
 
 
@@ -60,22 +80,24 @@ def test_two_runs_at_once(example: Example) -> None:
     runs = [example.start("--batch", "5", example.source) for _ in range(2)]
     assert [(run.communicate()[1], run.returncode) for run in runs] == [("", 0)] * 2
     found = example.rows("SELECT count(*), count(DISTINCT module), count(specifier) FROM dependencies")
-    assert found == [(600, 300, 300)]
+    assert found == [(300, 300, 300)]
     assert example.run() == (0, "0 analyzed, 300 known, 0 faults\n", [])
 
 
-def test_that_a_run_waits_while_another_writes(example: Example) -> None:
-    example.write(a='import "a"; // hangs')
-    run = example.start()
-    while not example.rows("SELECT 1"):
+def test_that_rows_are_written_as_they_come(example: Example) -> None:
+    """The last file is held until the rows of the others are there, and another run writes."""
+    example.write(a='import "a";', b='import "b";', c='import "c"; // hangs')
+    run, specifiers = example.start("--batch", "1", example.source), "SELECT specifier FROM dependencies ORDER BY 1"
+    while len(example.rows(specifiers)) < 2:
         assert run.poll() is None
     with closing(sqlite3.connect(example.store, isolation_level=None)) as other:
         other.execute("BEGIN IMMEDIATE")
         (example.folder / "go").touch()
-        other.execute("INSERT INTO dependencies (module, number) VALUES ('other', 0)")
+        other.execute("INSERT INTO modules (module, run, time) VALUES ('other', 0, '')")
         other.execute("COMMIT")
-    assert (run.communicate(), run.returncode) == (("1 analyzed, 0 known, 0 faults\n", ""), 0)
-    assert example.rows("SELECT count(DISTINCT module) FROM dependencies") == [(2,)]
+    assert (run.communicate(), run.returncode) == (("3 analyzed, 0 known, 0 faults\n", ""), 0)
+    assert example.rows(specifiers) == [("a",), ("b",), ("c",)]
+    assert example.rows("SELECT count(*) FROM modules") == [(4,)]
 
 
 def test_a_full_disk(example: Example) -> None:
@@ -87,5 +109,6 @@ def test_a_full_disk(example: Example) -> None:
     assert (status, output, len(errors)) == (1, "", 1)
     assert errors[0] in ("analyze.py: disk I/O error", "analyze.py: database or disk is full")
     assert example.rows("PRAGMA integrity_check") == [("ok",)]
+    assert example.rows("SELECT run FROM runs WHERE ended IS NULL") == [(2,)]
     assert example.rows("SELECT module FROM dependencies WHERE specifier = 'a'") == [(example.url("a"),)]
     assert example.run()[0] == 0

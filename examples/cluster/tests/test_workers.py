@@ -1,11 +1,10 @@
 """Files that end or stop their workers, and nothing but regular files."""
 
 import os
-import time
+import subprocess
+import sys
 
-from conftest import Example
-
-SPECIFIERS = "SELECT specifier FROM dependencies WHERE specifier IS NOT NULL ORDER BY 1"
+from conftest import PROGRAM, Example
 
 
 def listed(errors: list[str]) -> list[str]:
@@ -21,7 +20,7 @@ def test_one_file_of_many_that_ends_its_worker_twice(example: Example) -> None:
     assert listed(errors) == [f"{example.url('bad')}: Worker: KilledWorker"]
     assert example.deaths.read_bytes() == b".."
     assert example.rows("SELECT count(*) FROM dependencies WHERE specifier LIKE './%'") == [(2999,)]
-    assert example.rows("SELECT module FROM dependencies WHERE fault IS NOT NULL") == [(example.url("bad"),)]
+    assert example.rows("SELECT module FROM modules WHERE fault IS NOT NULL") == [(example.url("bad"),)]
     # The fault isn't one of the file's content, so the next run analyzes it.
     assert example.run() == (0, "1 analyzed, 2,999 known, 0 faults\n", [])
 
@@ -31,7 +30,7 @@ def test_a_file_that_takes_too_long(example: Example) -> None:
     status, output, errors = example.run("--limit", "2", example.source)
     assert (status, output) == (1, "3 analyzed, 0 known, 1 faults\n")
     assert listed(errors) == [f"{example.url('b')}: Worker: KilledWorker"]
-    assert example.rows(SPECIFIERS) == [("a",), ("c",)]
+    assert example.rows("SELECT specifier FROM dependencies ORDER BY 1") == [("a",), ("c",)]
 
 
 def test_that_a_pipe_is_not_waited_for(example: Example) -> None:
@@ -44,16 +43,11 @@ def test_that_a_pipe_is_not_waited_for(example: Example) -> None:
     assert errors == [f"{example.url(name)}: Input: no regular file" for name in "bd"]
 
 
-def test_that_rows_are_written_as_they_come(example: Example) -> None:
-    """The last file is held until the rows of the others are there."""
-    example.write(a='import "a";', b='import "b";', c='import "c"; // hangs')
-    run = example.start("--batch", "1", example.source)
-    try:
-        while len(example.rows(SPECIFIERS)) < 2:
-            assert run.poll() is None
-            time.sleep(0.05)
-        assert example.rows(SPECIFIERS) == [("a",), ("b",)]
-    finally:
-        (example.folder / "go").touch()
-    assert (run.communicate(), run.returncode) == (("3 analyzed, 0 known, 0 faults\n", ""), 0)
-    assert example.rows(SPECIFIERS) == [("a",), ("b",), ("c",)]
+def test_that_only_workers_read_files(example: Example) -> None:
+    """The program's own process can't, and the workers, which are started anew, can."""
+    example.write(a='import "a";', b="import {")
+    code = f"import modinfo, runpy, sys; del modinfo.read_file; runpy.run_path({str(PROGRAM)!r}, run_name='__main__')"
+    words = [sys.executable, "-c", code, "--workers", "1", example.store, example.source]
+    for counts in "2 analyzed, 0 known, 1 faults\n", "0 analyzed, 2 known, 1 faults\n":
+        done = subprocess.run(words, cwd=PROGRAM.parent, capture_output=True, text=True)
+        assert done.stdout == counts, done.stderr

@@ -5,7 +5,7 @@ import assert from "node:assert/strict";
 import { folderOf } from "../run_commands.mjs";
 import { KEYS } from "./browser.mjs";
 import {
-  browser, exampleReport, go, hasProgram, listed, nodeNames, open, place, report, shown, texts, untilModule,
+  browser, exampleReport, hasProgram, listed, nodeNames, open, place, report, shown, texts, untilModule,
   untilMoved, untilPlace,
 } from "./session.mjs";
 
@@ -255,6 +255,12 @@ const folders = () => browser.run(`
   });
 `);
 
+/** @type {() => Promise<string[]>} the edges that aren't faded */
+const brightEdges = () => browser.run(`
+  return [...document.querySelectorAll(".edges .edge")].filter((each) => Number(getComputedStyle(each).opacity) >= 0.5)
+    .map((each) => each.querySelector("title").textContent);
+`);
+
 shown("the filter filters the list, fades the graph, and counts in its folders", async () => {
   await open(report(folderOf({ ...chained(12, 30), "z/only.js": "" })));
   await browser.type("/");
@@ -265,10 +271,32 @@ shown("the filter filters the list, fades the graph, and counts in its folders",
   assert.ok(found.length > 5);
   assert.deepEqual(found.filter(([, isFaded]) => !isFaded), [["f3/1", false]]);
   assert.ok(found.some(([text]) => text === "f4/0"));
+  assert.deepEqual(await brightEdges(), []);
   assert.deepEqual(await texts(".rows .heading"), ["f3/1 of 30"]);
   await browser.type(KEYS.escape);
   await browser.until(`return document.querySelector(".shown").textContent === "361 modules"`);
   assert.deepEqual((await folders()).filter(([, isFaded]) => isFaded), []);
+  assert.ok((await brightEdges()).length > 5);
+});
+
+shown("while the filter fades nodes, of their edges nothing is left, and those between others stay", async () => {
+  await open(report(folderOf({ "a.js": `import "./b.js";\nimport "./c.js";`, "b.js": `import "./a.js"; import "./c.js";`, "c.js": "" })));
+  await browser.type("/");
+  await browser.run(`
+    const field = document.querySelector("#filter");
+    field.value = "a.js";
+    field.dispatchEvent(new Event("input"));
+  `);
+  assert.deepEqual(await brightEdges(), []);
+  assert.equal(await browser.run(`return document.querySelectorAll(".halo:not(.left-out)").length`), 0);
+  await browser.run(`
+    const field = document.querySelector("#filter");
+    field.value = "";
+    field.dispatchEvent(new Event("input"));
+  `);
+  assert.deepEqual((await brightEdges()).sort(), [
+    "a.js → b.js: static", "a.js → c.js: static", "b.js → a.js: static", "b.js → c.js: static",
+  ]);
 });
 
 shown("a cycle is shown in the graph, its edges marked, with the lines that make it", async () => {
@@ -310,37 +338,4 @@ shown("the picture of sizes has areas by bytes and by modules, and folders open"
   `);
   await browser.run(`document.querySelector('.area[title="small/b.js: 1 module"]').click()`);
   await untilModule("small/b.js");
-});
-
-/** One folder of 200 modules, of which the first leads to 40 others, and they to one. */
-const FLAT = Object.fromEntries(Array.from({ length: 200 }, (_, at) => {
-  const first = Array.from({ length: 40 }, (__, to) => `import "./m${to + 1}.js";\n`).join("");
-  return [`m${at}.js`, at === 0 ? first : at <= 40 ? `import "./m199.js";\n` : `import "./m0.js";\n`];
-}));
-
-shown("a folder of 200 modules is shown as layers of what one module leads to, to a depth", async () => {
-  const page = report(folderOf(FLAT));
-  const size = { width: 1400, height: 760, deviceScaleFactor: 1, mobile: false };
-  await browser.command("Emulation.setDeviceMetricsOverride", size);
-  await browser.until("return innerWidth === arguments[0] && innerHeight === arguments[1]", size.width, size.height);
-  await open(page);
-  const bottom = await browser.run(`return document.querySelector(".drawing").getBoundingClientRect().bottom`);
-  assert.ok(bottom <= size.height, `the drawing ends at ${bottom}`);
-  await browser.command("Emulation.clearDeviceMetricsOverride");
-  await browser.until("return innerWidth !== arguments[0]", size.width);
-  await open(page);
-  const shownEdges = await browser.run(`return document.querySelectorAll("path[data-from]").length`);
-  assert.ok(shownEdges > 10 && shownEdges < 100, String(shownEdges));
-  const countColumns = `
-    return new Set([...document.querySelectorAll(".node rect")].map((each) => Math.round(each.x.baseVal.value))).size
-  `;
-  // What leads to it, itself, what it leads to, and what that leads to.
-  assert.equal(await browser.run(countColumns), 4);
-  assert.match(await browser.run(`return document.querySelector(".chosen-node").getAttribute("aria-label")`), /^m0\.js$/);
-  assert.ok((await texts(".node.left")).length > 0, "what isn't drawn is counted");
-  await browser.click('.step[aria-label="one layer fewer of what it leads to"]');
-  await browser.until(`${countColumns} === 3`);
-  assert.match(await browser.run("return location.hash"), /-1-1$/);
-  await go("#layers-1");
-  await browser.until(`return document.querySelector(".chosen-node")?.getAttribute("aria-label") === "m1.js"`);
 });

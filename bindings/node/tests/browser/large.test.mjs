@@ -1,4 +1,4 @@
-/** Reports of three sizes in a browser, with pictures of them; and what is drawn of a large one. */
+/** Reports of four sizes in a browser, with pictures of them; and what is drawn of a large one. */
 
 import assert from "node:assert/strict";
 import { mkdirSync, readFileSync, writeFileSync } from "node:fs";
@@ -15,11 +15,13 @@ const PICTURES = fileURLToPath(new URL("../../../../build/report_pictures/", imp
 /** The least height of a label's letters, in pixels. */
 const READABLE = 11;
 
-const PAGES = skip ? {} : { 15: exampleReport(), 80: madeReport(80), 3000: madeReport(3000) };
 const large = skip ? "" : madeReport(20_000);
+const PAGES = skip ? {} : {
+  15: exampleReport(), 140: madeReport(140), "640-in-one-folder": madeReport(640, { isFlat: true }), 20_000: large,
+};
 
 /** The views of which pictures are made. */
-const VIEWS = { graph: "", sizes: "#sizes-0-bytes", module: "#module-7" };
+const VIEWS = { graph: "", near: "#near-7", matrix: "#matrix-0", sizes: "#sizes-0-bytes", module: "#module-7" };
 
 for (const [count, page] of Object.entries(PAGES)) {
   shown(`the first view of ${count} modules is read, in light and dark; pictures of it are in build/`, async () => {
@@ -30,8 +32,8 @@ for (const [count, page] of Object.entries(PAGES)) {
         await open(page + hash);
         const file = join(PICTURES, `${count}-${view}-${value}.png`);
         writeFileSync(file, await browser.picture());
-        if (view === "graph") {
-          await assertReadable();
+        if (view === "near" || (view === "graph" && !count.startsWith("640"))) {
+          await assertReadable(view === "near" ? 1 : 5);
         }
       }
     }
@@ -39,8 +41,11 @@ for (const [count, page] of Object.entries(PAGES)) {
   });
 }
 
-/** Each label can be read, and none covers another one. */
-async function assertReadable() {
+/**
+ * Each label can be read, and none covers another one.
+ * @param {number} least how many there are at least
+ */
+async function assertReadable(least) {
   /** @type {{ sizes: number[], boxes: DOMRect[] }} */
   const { sizes, boxes } = await browser.run(`
     const labels = [...document.querySelectorAll(".node text, .frame text")];
@@ -50,7 +55,7 @@ async function assertReadable() {
       boxes: nodes.map((each) => each.getBoundingClientRect().toJSON()),
     };
   `);
-  assert.ok(sizes.length >= 5, `${sizes.length} labels`);
+  assert.ok(sizes.length >= least, `${sizes.length} labels`);
   assert.ok(Math.min(...sizes) >= READABLE, String(Math.min(...sizes)));
   boxes.forEach((one, at) => boxes.slice(0, at).forEach((other) => {
     const isApart = one.right <= other.left || other.right <= one.left || one.bottom <= other.top || other.bottom <= one.top;

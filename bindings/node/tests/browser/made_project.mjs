@@ -4,19 +4,19 @@ import { writeFileSync } from "node:fs";
 import { join } from "node:path";
 import { pathToFileURL } from "node:url";
 
-import { cyclesOf } from "../../src/graph/cycles.mjs";
-import { indexOf, partsOf } from "../../src/report/data.mjs";
-import { readLibraries } from "../../src/report/libraries.mjs";
-import { Links, edgesOf } from "../../src/report/links.mjs";
-import { listsOf } from "../../src/report/lists.mjs";
-import { marksOf } from "../../src/report/marks.mjs";
-import { outsideOf } from "../../src/report/outside.mjs";
-import { pageOf } from "../../src/report/page.mjs";
+import { cyclesOf } from "../../modinfo-graph/dist/graph/cycles.js";
+import { indexOf, partsOf } from "../../modinfo-report/dist/data.js";
+import { readLibraries } from "../../modinfo-report/dist/libraries.js";
+import { Links, edgesOf } from "../../modinfo-report/dist/links.js";
+import { listsOf } from "../../modinfo-report/dist/lists.js";
+import { marksOf } from "../../modinfo-report/dist/marks.js";
+import { outsideOf } from "../../modinfo-report/dist/outside.js";
+import { pageOf } from "../../modinfo-report/dist/page.js";
 import { folderOf } from "../run_commands.mjs";
 
 const WORDS = ["core", "view", "model", "route", "store", "parse", "format", "client", "server", "util", "test", "theme"];
 
-/** @type {import("../../src/report/kinds.mjs").Kind[]} */
+/** @type {import("../../modinfo-graph/dist/graph/kinds.js").Kind[]} */
 const KINDS = ["static", "static", "type", "dynamic"];
 
 /**
@@ -32,12 +32,13 @@ function chance(seed) {
 }
 
 /**
- * Paths of modules: about twelve in a folder, and folders in folders.
+ * Paths of modules: about twelve in a folder, and folders in folders; or all in one folder.
  * @param {number} count
+ * @param {boolean} isFlat
  */
-function pathsOf(count) {
+function pathsOf(count, isFlat) {
   return Array.from({ length: count }, (_, at) => {
-    const group = Math.floor(at / 12);
+    const group = isFlat ? 0 : Math.floor(at / 12);
     const folders = [];
     for (let rest = group; rest > 0; rest = Math.floor(rest / WORDS.length)) {
       folders.unshift(WORDS[rest % WORDS.length]);
@@ -47,10 +48,10 @@ function pathsOf(count) {
 }
 
 /**
- * @param {import("../../src/report/kinds.mjs").Kind} kind
+ * @param {import("../../modinfo-graph/dist/graph/kinds.js").Kind} kind
  * @param {string} name
- * @param {{ resolved: import("../../src/report/rows.mjs").Resolution, line: number }} found
- * @returns {import("../../src/report/rows.mjs").Row}
+ * @param {{ resolved: import("../../modinfo-graph/dist/graph/graph.cjs").Resolution, line: number }} found
+ * @returns {import("../../modinfo-report/dist/rows.js").Row}
  */
 function rowOf(kind, name, { resolved, line }) {
   return { kind, word: "import", name, resolved, range: [[line, 7], [line, 9 + name.length]] };
@@ -58,7 +59,7 @@ function rowOf(kind, name, { resolved, line }) {
 
 /**
  * @param {string[]} paths
- * @returns {import("../../src/report/project.mjs").Module[]} each imports modules near to it and a
+ * @returns {import("../../modinfo-report/dist/project.js").Module[]} each imports modules near to it and a
  *   few others, as a project's do
  */
 function modulesOf(paths) {
@@ -67,7 +68,7 @@ function modulesOf(paths) {
   return paths.map((path, at) => {
     const near = at % 11 === 5 ? [] : [at + 1 + random(6), at + 1 + random(12), random(at + 1)];
     const found = [...new Set(near)].filter((to) => to < paths.length && to !== at && random(3) > 0);
-    /** @type {{ text: string, resolved: import("../../src/report/rows.mjs").Resolution }[]} */
+    /** @type {{ text: string, resolved: import("../../modinfo-graph/dist/graph/graph.cjs").Resolution }[]} */
     const names = found.map((to) => ({ text: `/${paths[to]}`, resolved: { class: "file", file: urls[to] } }));
     if (random(5) === 0) {
       names.push({ text: `package-${random(900)}`, resolved: { class: "package", package: `package-${random(900)}` } });
@@ -80,10 +81,11 @@ function modulesOf(paths) {
 
 /**
  * @param {number} count of the modules
+ * @param {{ isFlat?: boolean }} options whether they are in one folder
  * @returns {string} the address of the report's page
  */
-export function madeReport(count) {
-  const modules = modulesOf(pathsOf(count));
+export function madeReport(count, { isFlat = false } = {}) {
+  const modules = modulesOf(pathsOf(count, isFlat));
   const links = new Links("/project", modules);
   const edges = edgesOf(modules, links);
   const led = new Set(edges.map(({ to }) => to));

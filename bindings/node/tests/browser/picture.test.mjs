@@ -5,7 +5,7 @@ import { join } from "node:path";
 
 import { folderOf } from "../run_commands.mjs";
 import { madeReport } from "./made_project.mjs";
-import { browser, exampleReport, go, items, open, report, shown, skip, texts } from "./session.mjs";
+import { browser, exampleReport, items, open, report, shown, skip, texts } from "./session.mjs";
 
 /** Texts of nodes, boxes and counts that aren't inside their rectangles, in the drawing that is open. */
 const TEXTS_OUT = `
@@ -91,6 +91,26 @@ shown("the classes of the unreached have lists, states and looks of their own", 
   assert.equal(new Set(looks).size, 4);
 });
 
+shown("unreached and may be reached differ by shape, fill and colour, in the legend too, light and dark", async () => {
+  for (const value of ["light", "dark"]) {
+    await browser.command("Emulation.setEmulatedMedia", { features: [{ name: "prefers-color-scheme", value }] });
+    await open(project);
+    const [dead, maybe] = await browser.run(`
+      return ["unreached", "may-be-reached"].map((state) => {
+        const rectangle = document.querySelector(".node." + state + ":not(.cyclic) rect");
+        const { fill, stroke, rx } = getComputedStyle(rectangle);
+        const swatch = getComputedStyle(document.querySelector(".swatch." + state));
+        return { fill, stroke, rx: rectangle.getAttribute("rx"), colour: swatch.borderTopColor, ground: swatch.backgroundImage };
+      });
+    `);
+    for (const member of ["fill", "stroke", "rx", "colour", "ground"]) {
+      assert.notEqual(dead[member], maybe[member], `${member} ${value}`);
+    }
+    assert.deepEqual([dead.colour, maybe.colour], [dead.stroke, maybe.stroke]);
+  }
+  await browser.command("Emulation.setEmulatedMedia", { features: [] });
+});
+
 shown("a module named __proto__ is shown, and sizes have what is run too", async () => {
   await open(project);
   const titles = await browser.run(`
@@ -106,19 +126,6 @@ shown("a module named __proto__ is shown, and sizes have what is run too", async
   await browser.run(`[...document.querySelectorAll(".rows a")].find(({ title }) => title === "src/b/two.ts").click()`);
   await browser.until(`return document.querySelector(".module .links .count") !== null`);
   assert.equal((await texts(".module .links .count"))[0], `${sizes[2]} B, ${all} B with the 3 modules that it runs`);
-});
-
-shown("the layers of a module fit the window, and have no folder in their labels that all are in", async () => {
-  const long = "a_folder_with_a_long_name/and_another_one_in_it";
-  const chain = Object.fromEntries(Array.from({ length: 5 }, (_, at) => {
-    return [`${long}/part_${at}/module_with_a_long_name_${at}.js`, `import "../part_${at + 1}/module_with_a_long_name_${at + 1}.js";`];
-  }));
-  await open(report(folderOf({ ...chain, [`${long}/part_5/module_with_a_long_name_5.js`]: "", "other.js": "" })));
-  await go("#layers-2-3-2");
-  await browser.until(`return document.querySelectorAll(".node").length === 6`);
-  assert.deepEqual(await browser.run(NODES_OUT), []);
-  assert.deepEqual(await browser.run(TEXTS_OUT), []);
-  assert.ok((await texts(".node text")).every((text) => text.startsWith("part_")), String(await texts(".node text")));
 });
 
 shown("no text is out of its box, in small graphs and in large ones, while the filter counts too", async () => {

@@ -375,8 +375,11 @@ shown("labels of the graph and of the picture of sizes are readable on what is b
     /** @type {[string, string][]} */
     const pairs = await browser.run(`
       const style = (element, name) => getComputedStyle(element)[name];
+      // Of a pattern what counts is the colour of its lines, which is nearer to that of texts.
+      const lines = style(document.querySelector(".hatch"), "stroke");
       return [...document.querySelectorAll(".node, .edge-count")].map((each) => {
-        return [style(each.querySelector("text"), "fill"), style(each.querySelector("rect"), "fill")];
+        const fill = style(each.querySelector("rect"), "fill");
+        return [style(each.querySelector("text"), "fill"), fill.startsWith("url") ? lines : fill];
       });
     `);
     await browser.run(`location.hash = "#sizes-0-bytes"`);

@@ -39,7 +39,7 @@ const browser = await Browser.start();
 try {
   const page = join(folder, "report.html");
   const words = ["--entry", "examples/project/src/main.ts", "-o", page, "examples/project"];
-  const command = ["bindings/node/src/cli/report.mjs", ...words];
+  const command = ["bindings/node/modinfo-report/dist/cli.js", ...words];
   const { status } = spawnSync(process.execPath, command, { cwd: ROOT, stdio: ["ignore", "inherit", "pipe"] });
   // A name in the project leads nowhere.
   if (status !== 1) {

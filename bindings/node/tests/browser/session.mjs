@@ -38,7 +38,7 @@ if (!skip) {
 export function report(folder, words = [], status = 0) {
   const page = join(folderOf(), "report.html");
   const modinfo = MODINFO;
-  const result = run("report.mjs", [...words, "-o", page, folder], { modinfo });
+  const result = run("report", [...words, "-o", page, folder], { modinfo });
   assert.equal(result.status, status, result.stderr);
   return pathToFileURL(page).href;
 }
@@ -90,7 +90,7 @@ export async function open(url) {
   await browser.open(url);
   await browser.until(`
     const hasDrawing = document.querySelector(".drawing") !== null;
-    return document.querySelector(hasDrawing ? ".drawing svg, .drawing .none" : ".area, pre, .choices") !== null;
+    return document.querySelector(hasDrawing ? ".drawing svg, .drawing canvas, .drawing .none" : ".area, pre, .choices") !== null;
   `);
 }
 

@@ -150,6 +150,7 @@ const COMMENTS = [
 const KNOWN = [
   { reason: "TypeScript reports a line end before `=>` later.", text: /\n(?:\*\/ )?(?:\/\*.*\*\/ |\/\/.*\n|)=>/ },
   { reason: "TypeScript reports an `await` in a function that isn't async later.", text: /^async[^]*\n[^]*function f \( \) \{ await/ },
+  { reason: "TypeScript reports a line end after `throw` later.", text: /^throw[^]*\n[^]*require/ },
   { reason: "TypeScript reports nothing where `declare` isn't one.", text: /^declare module[^]*\n[^]*"x" ;/ },
 ];
 

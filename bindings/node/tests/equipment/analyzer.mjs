@@ -1,7 +1,7 @@
 /** A process of `modinfo analyze` for the documents of other parsers. */
 
-import { documentCommand, lineOf } from "../../src/runtime/commands.mjs";
-import { Pool } from "../../src/runtime/pool.mjs";
+import { documentCommand, lineOf } from "./document_command.mjs";
+import { Pool } from "../../modinfo-graph/dist/runtime/pool.js";
 
 export class Analyzer {
   #pool;

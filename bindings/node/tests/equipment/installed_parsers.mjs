@@ -1,6 +1,6 @@
 /** Finds the parsers that are installed. */
 
-import { DEBIAN_MODULES, ownRequire as require } from "../../src/files/own_files.mjs";
+import { DEBIAN_MODULES, ownRequire as require } from "../../modinfo-graph/dist/files/own_files.js";
 
 /** @typedef {"acorn" | "typescript"} Parser */
 

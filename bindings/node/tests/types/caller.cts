@@ -1,6 +1,6 @@
 /** A caller of the package by `require`, whose types are checked; it isn't run. */
 
-import modinfo = require("modinfo");
+import modinfo = require("modinfo-graph");
 
 const service = new modinfo.Modinfo();
 const found: Promise<modinfo.ModuleInfo> = service.moduleInfo("", "file:///a.ts", "TypeScript");

@@ -1,11 +1,11 @@
 /** A caller of the package, whose types are checked, without those of the DOM and of node; it isn't run. */
 
-import { Modinfo, ModinfoFault, ProgramEnd, estreeDocument, moduleInfo } from "modinfo";
+import { Modinfo, ModinfoFault, ProgramEnd, estreeDocument, moduleInfo } from "modinfo-graph";
 import type {
   CheckOptions, DependencyDescriptor, DocumentFault, DocumentNode, EstreeNode, FaultName, FaultReport, Graph, GraphOptions,
   MediaType, ModuleDocument, ModuleGraph, ModuleInfo, PositionRange, ReferenceKind, Report, Resolution,
   ResolvedModuleInfo, Signal, Url, ValidReport,
-} from "modinfo";
+} from "modinfo-graph";
 
 const modinfo = new Modinfo({ program: "build/modinfo", jobs: 4 });
 const specifier = "file:///a.ts";

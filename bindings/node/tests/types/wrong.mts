@@ -1,7 +1,7 @@
 /** Wrong uses of the package, each of which TypeScript has to refuse; it isn't run. */
 
-import { Modinfo, ModinfoFault, estreeDocument } from "modinfo";
-import type { DependencyDescriptor, ModuleDocument, ModuleInfo, Report } from "modinfo";
+import { Modinfo, ModinfoFault, estreeDocument } from "modinfo-graph";
+import type { DependencyDescriptor, ModuleDocument, ModuleInfo, Report } from "modinfo-graph";
 
 const modinfo = new Modinfo();
 const specifier = "file:///a.ts";

@@ -1,7 +1,7 @@
 """What one JavaScript or TypeScript module depends on, from its source text.
 
-`module_info` reads a text, `files` reads files. The other functions read documents: mappings, their JSON as a str, or
-as bytes in UTF-8. docs/FORMATS.md of the repository has all formats, docs/ESTREE.md that of trees of parsers. Calls
+`module_info` reads a text, `files` reads files. Others read documents: mappings, their JSON as a str, or as bytes in
+UTF-8. docs/FORMATS.md of the repository has all formats, docs/ESTREE.md that of trees of parsers. Calls
 may run in many threads at once. Each thread keeps at most 1 MiB of memory between calls.
 """
 
@@ -14,24 +14,33 @@ from . import _library
 from ._buffers import Buffer
 from ._errors import Error, Fault, FaultName, alone, with_memory_fault
 from ._estree import Comments, Offsets, estree_json
+from ._files import file_url, files, read_file
 from ._json import Document, bytes_of
 from ._lines import answer_lines, in_threads
-from ._source import file_url, files, module_info, read_file
+from ._source import check_source, module_info, module_info_json, module_info_many
 from .document import MediaType, ModuleDocument
+from .information import DynamicKind
 from .information import ModuleInfo as ModuleInfoDict
-from .report import DocumentFault, FaultReport, Report, ValidReport
+from .information import ResolutionMode, StaticKind
+from .report import DocumentFault, FaultReport, Report, ReportWarning, ValidReport
 from .values import (
+    Dependency,
+    DynamicArgument,
     DynamicDependency,
     ExpressionPart,
+    ImportAttribute,
+    ImportAttributes,
     JsdocImport,
     KnownAttributes,
     ModuleInfo,
     PathReference,
     Position,
     Range,
+    Reference,
     Specifier,
     StaticDependency,
     StringPart,
+    TemplatePart,
     TypesReference,
 )
 
@@ -39,14 +48,19 @@ __version__ = "0.1.0"
 __all__ = [
     "Buffer",
     "Command",
+    "Dependency",
     "Document",
     "DocumentFault",
+    "DynamicArgument",
     "DynamicDependency",
+    "DynamicKind",
     "Error",
     "ExpressionPart",
     "Fault",
     "FaultName",
     "FaultReport",
+    "ImportAttribute",
+    "ImportAttributes",
     "JsdocImport",
     "KnownAttributes",
     "MediaType",
@@ -57,10 +71,15 @@ __all__ = [
     "PathReference",
     "Position",
     "Range",
+    "Reference",
     "Report",
+    "ReportWarning",
+    "ResolutionMode",
     "Specifier",
     "StaticDependency",
+    "StaticKind",
     "StringPart",
+    "TemplatePart",
     "TypesReference",
     "ValidReport",
     "analyze",
@@ -68,15 +87,20 @@ __all__ = [
     "analyze_estree_lines",
     "analyze_lines",
     "analyze_many",
+    "analyze_source_lines",
     "check",
     "check_estree",
     "check_estree_lines",
     "check_lines",
+    "check_source",
+    "check_source_lines",
     "convert",
     "convert_lines",
     "file_url",
     "files",
     "module_info",
+    "module_info_json",
+    "module_info_many",
     "reach",
     "reach_lines",
     "read_file",
@@ -85,7 +109,7 @@ __all__ = [
 
 Command = Literal["analyze", "analyze_estree", "analyze_source", "convert", "reach"]
 # A specifier at the front of a document's JSON, where most writers put it.
-_FIRST_SPECIFIER = re.compile(rb'\s*\{\s*"specifier"\s*:\s*("(?:[^"\\]|\\.)*+")')
+_FIRST_SPECIFIER = re.compile(rb'\s*\{\s*"specifier"\s*:\s*("[^"\\]*(?:\\.[^"\\]*)*")')
 # The name of a member `specifier`, each letter of which may be escaped.
 _SPECIFIER_NAME = re.compile(b'"%b"\\s*:' % b"".join(rb"(?:%c|\\u00%02x)" % (each, each) for each in b"specifier"))
 
@@ -199,6 +223,11 @@ def analyze_estree_lines(lines: Iterable[Buffer], jobs: int = 1) -> Iterator[byt
     return _lines("analyze_estree", lines, jobs)
 
 
+def analyze_source_lines(lines: Iterable[Buffer], jobs: int = 1) -> Iterator[bytes]:
+    """Like analyze_lines, for `modinfo analyze --source --lines`."""
+    return _lines("analyze_source", lines, jobs)
+
+
 def convert_lines(lines: Iterable[Buffer], jobs: int = 1) -> Iterator[bytes]:
     """Like analyze_lines, for `modinfo convert --lines`."""
     return _lines("convert", lines, jobs)
@@ -217,6 +246,11 @@ def check_lines(lines: Iterable[Buffer], command: Command = "analyze", jobs: int
 def check_estree_lines(lines: Iterable[Buffer], jobs: int = 1) -> Iterator[bytes]:
     """Like check_lines, for documents of docs/ESTREE.md."""
     return check_lines(lines, "analyze_estree", jobs)
+
+
+def check_source_lines(lines: Iterable[Buffer], jobs: int = 1) -> Iterator[bytes]:
+    """Like check_lines, for documents of `modinfo analyze --source`."""
+    return check_lines(lines, "analyze_source", jobs)
 
 
 def version() -> str:
@@ -257,7 +291,7 @@ def _specifier(document: Document, read: Buffer) -> str:
 
 def _command(name: str) -> _library.Command:
     if name not in _library.COMMANDS:
-        raise ValueError(f"a command is {', '.join(_library.COMMANDS)}, not {name!r}")
+        raise ValueError(f"command must be one of {', '.join(_library.COMMANDS)}, not {name!r}")
     return _library.COMMANDS[name]
 
 

@@ -21,7 +21,7 @@ def bytes_of(document: Document) -> Buffer:
         return document.encode(errors="surrogatepass")
     if isinstance(document, bytes) or is_buffer(document):
         return contiguous(cast(Buffer, document))
-    raise TypeError(f"a document is a mapping, a str or bytes, not {type(document).__name__}")
+    raise TypeError(f"a document must be a mapping, a str or bytes, not {type(document).__name__}")
 
 
 def _as_dict(value: object) -> dict[Any, Any]:
@@ -29,5 +29,5 @@ def _as_dict(value: object) -> dict[Any, Any]:
     if isinstance(value, Mapping):
         return dict(value)
     raise TypeError(
-        f"a document has mappings, lists, strings, numbers, True, False and None, not {type(value).__name__}"
+        f"a document may have mappings, lists, strings, numbers, True, False and None, not {type(value).__name__}"
     )

@@ -25,7 +25,7 @@ def _load() -> ctypes.CDLL:
     path = Path(__file__).with_name("libmodinfo.so")
     if not path.exists():
         raise ImportError(
-            f"{path} isn't there: modinfo is used from its sources, or was installed without its library. "
+            f"{path} not found: modinfo is used from its sources, or was installed without its library. "
             "Install the wheel that bindings/python/make_wheel of the repository makes"
         )
     return ctypes.CDLL(str(path))

@@ -32,7 +32,7 @@ def in_threads(function: Callable[[Item], Result], items: Iterable[Item], jobs: 
     """The result for each item, in order. Where reading an item fails, the results before come first, and then the
     error. Raises ValueError where `jobs` isn't above zero."""
     if jobs < 1:
-        raise ValueError(f"jobs is a number above zero, not {jobs}")
+        raise ValueError(f"jobs must be above zero, not {jobs}")
     return map(function, items) if jobs == 1 else _in_threads(function, iter(items), jobs)
 
 
@@ -64,7 +64,7 @@ def _in_threads(function: Callable[[Item], Result], items: Iterator[Item], jobs:
 def _checked(lines: Iterable[Buffer]) -> Iterator[Buffer]:
     for line in lines:
         if not is_buffer(line):
-            raise TypeError(f"a line is bytes, not {type(line).__name__}")
+            raise TypeError(f"a line must be bytes, not {type(line).__name__}")
         yield line
 
 

@@ -2,9 +2,10 @@
 
 from collections.abc import Mapping
 from dataclasses import dataclass, field
-from typing import ClassVar, Literal
+from typing import Literal
 
-from ._value import Pair, Value
+from ._frozen import freeze
+from ._value import Pair, Value, WithArgument
 from .information import DynamicKind, ResolutionMode, StaticKind
 
 
@@ -26,186 +27,260 @@ class Range(Pair):
 
 @dataclass(frozen=True, slots=True)
 class Specifier(Value):
-    """A text that a comment names, with its range."""
+    """A text that a comment names, with its range.
 
-    # The text without quotes.
+    Attributes:
+        text: The text without quotes.
+        range: Where it is.
+    """
+
     text: str
+    """The text without quotes."""
 
-    # Where it is.
     range: Range
+    """Where it is."""
 
 
-# A value; null where it isn't known.
 ImportAttribute = str | None
+"""A value; null where it isn't known."""
 
 
 @dataclass(frozen=True, slots=True)
 class KnownAttributes(Value):
-    """Attributes whose keys are known."""
+    """Attributes whose keys are known.
 
-    # The values by their keys.
-    known: Mapping[str, ImportAttribute] = field(hash=False)
+    Attributes:
+        known: The values by their keys.
+    """
+
+    known: Mapping[str, ImportAttribute]
+    """The values by their keys."""
+
+    def __post_init__(self) -> None:
+        freeze(self, "known")
 
 
-# Import attributes: their values by their keys, or `"unknown"` where the keys aren't known. Missing where there are
-# none.
 ImportAttributes = Literal["unknown"] | KnownAttributes
+"""Import attributes: their values by their keys, or `"unknown"` where the keys aren't known. Missing where there are
+none."""
 
 
 @dataclass(frozen=True, slots=True)
 class StaticDependency(Value):
-    """A dependency of a declaration or a type."""
+    """A dependency of a declaration or a type.
 
-    # The tag.
-    type: ClassVar[Literal["static"]] = "static"
+    Attributes:
+        type: The tag.
+        kind: Which syntax names the module.
+        specifier: The text of its literal.
+        specifier_range: The range of its literal.
+        types_specifier: What `@ts-types` or `@deno-types` in the comment before it names.
+        side_effect: Whether it is an import that binds no name.
+        import_attributes: The attributes of its `with` clause.
+    """
 
-    # Which syntax names the module.
+    type: Literal["static"] = field(default="static", init=False)
+    """The tag."""
+
     kind: StaticKind
+    """Which syntax names the module."""
 
-    # The text of its literal.
     specifier: str
+    """The text of its literal."""
 
-    # The range of its literal.
     specifier_range: Range
+    """The range of its literal."""
 
-    # What `@ts-types` or `@deno-types` in the comment before it names.
     types_specifier: Specifier | None = None
+    """What `@ts-types` or `@deno-types` in the comment before it names."""
 
-    # Whether it is an import that binds no name.
     side_effect: bool = False
+    """Whether it is an import that binds no name."""
 
-    # The attributes of its `with` clause.
     import_attributes: ImportAttributes | None = None
+    """The attributes of its `with` clause."""
 
 
 @dataclass(frozen=True, slots=True)
 class StringPart(Value):
-    """A text."""
+    """A text.
 
-    # The tag.
-    type: ClassVar[Literal["string"]] = "string"
+    Attributes:
+        type: The tag.
+        value: The text.
+    """
 
-    # The text.
+    type: Literal["string"] = field(default="string", init=False)
+    """The tag."""
+
     value: str
+    """The text."""
 
 
 @dataclass(frozen=True, slots=True)
 class ExpressionPart(Value):
-    """An expression that isn't known."""
+    """An expression that isn't known.
 
-    # The tag.
-    type: ClassVar[Literal["expr"]] = "expr"
+    Attributes:
+        type: The tag.
+    """
+
+    type: Literal["expr"] = field(default="expr", init=False)
+    """The tag."""
 
 
-# A part of an argument.
 TemplatePart = StringPart | ExpressionPart
+"""A part of an argument."""
 
-# The argument: a text for a string literal or a template without expressions, parts for another template or a sum that
-# a string literal begins. Missing where nothing is known.
 DynamicArgument = str | tuple[TemplatePart, ...]
+"""The argument: a text for a string literal or a template without expressions, parts for another template or a sum that
+a string literal begins. Missing for any other expression, of which nothing is known; nor is anything where all parts
+are `expr`."""
 
 
 @dataclass(frozen=True, slots=True)
-class DynamicDependency(Value):
-    """A dependency of a call."""
+class DynamicDependency(WithArgument, Value):
+    """A dependency of a call.
 
-    # The tag.
-    type: ClassVar[Literal["dynamic"]] = "dynamic"
+    Attributes:
+        type: The tag.
+        argument_range: The range of the argument.
+        kind: What is called.
+        types_specifier: What `@ts-types` or `@deno-types` in the comment before it names.
+        argument: The argument: a text for a string literal or a template without expressions, parts for another
+            template or a sum that a string literal begins. Missing for any other expression, of which nothing is known;
+            nor is anything where all parts are `expr`.
+        import_attributes: The attributes of the second argument.
+    """
 
-    # The range of the argument.
+    type: Literal["dynamic"] = field(default="dynamic", init=False)
+    """The tag."""
+
     argument_range: Range
+    """The range of the argument."""
 
-    # What is called.
     kind: DynamicKind = "import"
+    """What is called."""
 
-    # What `@ts-types` or `@deno-types` in the comment before it names.
     types_specifier: Specifier | None = None
+    """What `@ts-types` or `@deno-types` in the comment before it names."""
 
-    # The argument: a text for a string literal or a template without expressions, parts for another template or a sum
-    # that a string literal begins. Missing where nothing is known.
     argument: DynamicArgument | None = None
+    """The argument: a text for a string literal or a template without expressions, parts for another template or a sum
+    that a string literal begins. Missing for any other expression, of which nothing is known; nor is anything where all
+    parts are `expr`."""
 
-    # The attributes of the second argument.
     import_attributes: ImportAttributes | None = None
+    """The attributes of the second argument."""
 
 
-# A dependency that a declaration or a type names, or one of a call.
 Dependency = StaticDependency | DynamicDependency
+"""A dependency that a declaration or a type names, or one of a call."""
 
 
 @dataclass(frozen=True, slots=True)
 class PathReference(Value):
-    """`/// <reference path=".." />`."""
+    """`/// <reference path=".." />`.
 
-    # The tag.
-    type: ClassVar[Literal["path"]] = "path"
+    Attributes:
+        type: The tag.
+        text: The text without quotes.
+        range: Where it is.
+    """
 
-    # The text without quotes.
+    type: Literal["path"] = field(default="path", init=False)
+    """The tag."""
+
     text: str
+    """The text without quotes."""
 
-    # Where it is.
     range: Range
+    """Where it is."""
 
 
 @dataclass(frozen=True, slots=True)
 class TypesReference(Value):
-    """`/// <reference types=".." />`."""
+    """`/// <reference types=".." />`.
 
-    # The tag.
-    type: ClassVar[Literal["types"]] = "types"
+    Attributes:
+        type: The tag.
+        text: The text without quotes.
+        range: Where it is.
+        resolution_mode: What `resolution-mode` names.
+    """
 
-    # The text without quotes.
+    type: Literal["types"] = field(default="types", init=False)
+    """The tag."""
+
     text: str
+    """The text without quotes."""
 
-    # Where it is.
     range: Range
+    """Where it is."""
 
-    # What `resolution-mode` names.
     resolution_mode: ResolutionMode | None = None
+    """What `resolution-mode` names."""
 
 
-# A triple-slash reference to a path or to types.
 Reference = PathReference | TypesReference
+"""A triple-slash reference to a path or to types."""
 
 
 @dataclass(frozen=True, slots=True)
 class JsdocImport(Value):
-    """An import in a JSDoc comment."""
+    """An import in a JSDoc comment.
 
-    # The text without quotes.
+    Attributes:
+        text: The text without quotes.
+        range: Where it is.
+        resolution_mode: What its attribute `resolution-mode` names.
+    """
+
     text: str
+    """The text without quotes."""
 
-    # Where it is.
     range: Range
+    """Where it is."""
 
-    # What its attribute `resolution-mode` names.
     resolution_mode: ResolutionMode | None = None
+    """What its attribute `resolution-mode` names."""
 
 
 @dataclass(frozen=True, slots=True)
 class ModuleInfo(Value):
-    """What one module depends on, as `modinfo analyze` prints it. A reader ignores members that are not named here."""
+    """What one module depends on, as `modinfo analyze` prints it. A reader ignores members that are not named here.
 
-    # Whether nothing in the source makes it an ES module. It is true of CommonJS too.
+    Attributes:
+        script: Whether nothing in the source makes it an ES module. It is true of CommonJS too.
+        dependencies: Each import, re-export and call that names a module, in the order of the source.
+        ts_references: Triple-slash references.
+        self_types_specifier: What `@ts-self-types` names.
+        jsx_import_source: What `@jsxImportSource` names, in Jsx and Tsx.
+        jsx_import_source_types: What `@jsxImportSourceTypes` names, in Jsx and Tsx.
+        jsdoc_imports: Imports in JSDoc comments of JavaScript.
+        source_map_url: What `sourceMappingURL` names.
+    """
+
     script: bool = False
+    """Whether nothing in the source makes it an ES module. It is true of CommonJS too."""
 
-    # Each import, re-export and call that names a module, in the order of the source.
     dependencies: tuple[Dependency, ...] = ()
+    """Each import, re-export and call that names a module, in the order of the source."""
 
-    # Triple-slash references.
     ts_references: tuple[Reference, ...] = ()
+    """Triple-slash references."""
 
-    # What `@ts-self-types` names.
     self_types_specifier: Specifier | None = None
+    """What `@ts-self-types` names."""
 
-    # What `@jsxImportSource` names, in Jsx and Tsx.
     jsx_import_source: Specifier | None = None
+    """What `@jsxImportSource` names, in Jsx and Tsx."""
 
-    # What `@jsxImportSourceTypes` names, in Jsx and Tsx.
     jsx_import_source_types: Specifier | None = None
+    """What `@jsxImportSourceTypes` names, in Jsx and Tsx."""
 
-    # Imports in JSDoc comments of JavaScript.
     jsdoc_imports: tuple[JsdocImport, ...] = ()
+    """Imports in JSDoc comments of JavaScript."""
 
-    # What `sourceMappingURL` names.
     source_map_url: Specifier | None = None
+    """What `sourceMappingURL` names."""

@@ -2,9 +2,11 @@
 
 use crate::repository::{blocks, examples, field, root, test_cases};
 use modinfo::{
-    analyze_estree, analyze_json, check, check_convert, check_estree, check_reach, convert, reach,
-    Fault,
+    analyze_estree, analyze_estree_json, analyze_json, check, check_convert, check_convert_json,
+    check_estree_json, check_json, check_reach, check_reach_json, convert, convert_json, reach,
+    reach_json, Fault, Report,
 };
+use serde_json::Value;
 use std::collections::BTreeSet;
 use std::sync::Barrier;
 use std::{fs, thread};
@@ -29,13 +31,13 @@ fn each_example_is_valid() {
             "reach" => check_reach,
             _ => check,
         };
-        let report = check(&example.document);
-        assert_eq!(
-            report.as_deref(),
-            Ok(r#"{"valid":true}"#),
-            "{}",
-            example.name
-        );
+        let report = check(&example.document).expect("a report");
+        assert!(report.is_valid(), "{}", example.name);
+        assert_eq!(report.as_fault(), None);
+        match report {
+            Report::Valid(report) => assert_eq!((report.warnings.len(), report.more), (0, None)),
+            Report::Invalid(report) => panic!("{}: {report:?}", example.name),
+        }
     }
 }
 
@@ -151,7 +153,12 @@ fn an_error_has_the_report_on_its_document() {
     let document = br#"{"specifier":"file:///a.js","mediaType":"JavaScript","source":"","program":{"range":[0,16],"body":[]}}"#;
     let error = analyze_json(document).expect_err("a fault");
     assert_eq!(error.fault(), &Fault::RangeOutside);
-    assert_eq!(error.report(), check(document).ok().as_deref());
+    assert_eq!(error.report_json(), check_json(document).ok().as_deref());
+    let report = check(document).expect("a report");
+    assert_eq!(error.report(), report.as_fault());
+    // The report is read once.
+    let (first, second) = (error.pointer().expect("a pointer"), error.pointer());
+    assert!(std::ptr::eq(first, second.expect("a pointer")));
     assert_eq!(
         error.to_string(),
         "RangeOutside at /program/range (bytes 0 to 16): expected an end of at most 0, the source's length"
@@ -164,17 +171,55 @@ fn an_error_has_the_report_on_its_document() {
 fn the_report_in_an_error_is_that_of_the_command() {
     for case in test_cases().into_iter().filter(|case| case.wanted.is_err()) {
         let (error, report) = match case.command.as_str() {
-            "analyze" => (analyze_json(&case.document), check(&case.document)),
-            "analyze --estree" => (analyze_estree(&case.document), check_estree(&case.document)),
-            "convert" => (convert(&case.document), check_convert(&case.document)),
-            "reach" => (reach(&case.document), check_reach(&case.document)),
+            "analyze" => (analyze_json(&case.document), check_json(&case.document)),
+            "analyze --estree" => (
+                analyze_estree_json(&case.document),
+                check_estree_json(&case.document),
+            ),
+            "convert" => (
+                convert_json(&case.document),
+                check_convert_json(&case.document),
+            ),
+            "reach" => (reach_json(&case.document), check_reach_json(&case.document)),
             _ => continue,
         };
         let error = error.expect_err(&case.name);
-        assert_eq!(error.report(), report.ok().as_deref(), "{}", case.name);
+        let report = report.expect("a report");
+        assert_eq!(error.report_json(), Some(&*report), "{}", case.name);
+        // As serde reads it.
+        let read: Report = serde_json::from_str(&report).expect(&report);
+        assert_eq!(error.report(), read.as_fault(), "{}", case.name);
         assert!(
             error.to_string().starts_with(error.fault().name()),
             "{error}"
         );
     }
+}
+
+/// The values of the answers, as serde reads them from the texts.
+#[test]
+fn answers_as_values() {
+    let mut count = 0;
+    for case in test_cases().into_iter().chain(examples()) {
+        let wanted: Value = match &case.wanted {
+            Ok(wanted) => serde_json::from_str(wanted).expect("JSON"),
+            Err(_) => continue,
+        };
+        let found = match case.command.as_str() {
+            "convert" => convert(&case.document).expect(&case.name),
+            "reach" => reach(&case.document).expect(&case.name).into(),
+            "analyze --estree" => {
+                let info = analyze_estree(&case.document).expect(&case.name);
+                serde_json::to_value(info).expect("JSON")
+            }
+            "check convert" => {
+                serde_json::to_value(check_convert(&case.document).expect(&case.name))
+                    .expect("JSON")
+            }
+            _ => continue,
+        };
+        assert_eq!(found, wanted, "{}", case.name);
+        count += 1;
+    }
+    assert!(count > 100, "{count}");
 }

@@ -1,14 +1,17 @@
 //! A report of each kind.
 
-use modinfo::{analyze_json, check, check_convert, check_reach, convert, reach, Error, Fault};
+use modinfo::{
+    analyze_json, check_convert_json, check_json, check_reach_json, convert_json, reach_json,
+    Error, Fault,
+};
 
 type Check = fn(&[u8]) -> Result<String, Fault>;
 type Command = fn(&[u8]) -> Result<String, Error>;
 
 /// Each command's check, and the command itself.
-const ANALYZE: (Check, Command) = (check, analyze_json);
-const CONVERT: (Check, Command) = (check_convert, convert);
-const REACH: (Check, Command) = (check_reach, reach);
+const ANALYZE: (Check, Command) = (check_json, analyze_json);
+const CONVERT: (Check, Command) = (check_convert_json, convert_json);
+const REACH: (Check, Command) = (check_reach_json, reach_json);
 
 /// A module with one import, a line comment or neither, as its tree and comments have it.
 fn document(specifier: &str, source: &str, program: &str, leading: &str) -> String {
@@ -141,7 +144,7 @@ fn a_document_with_a_fault() {
 #[test]
 fn what_was_expected() {
     assert_eq!(
-        check(import(r#""range":[0,99]"#).as_bytes()).as_deref(),
+        check_json(import(r#""range":[0,99]"#).as_bytes()).as_deref(),
         Ok(
             r#"{"fault":"RangeOutside","pointer":"/program/body/0/range","range":[0,99],"expected":"an end of at most 16, the source's length"}"#
         )
@@ -151,10 +154,13 @@ fn what_was_expected() {
 #[test]
 fn warnings() {
     let valid = import(r#""range":[0,16]"#);
-    assert_eq!(check(valid.as_bytes()).as_deref(), Ok(r#"{"valid":true}"#));
+    assert_eq!(
+        check_json(valid.as_bytes()).as_deref(),
+        Ok(r#"{"valid":true}"#)
+    );
     let unread = import(r#""range":[0,16],"child":[]"#);
     assert_eq!(
-        check(unread.as_bytes()).as_deref(),
+        check_json(unread.as_bytes()).as_deref(),
         Ok(
             r#"{"valid":true,"warnings":[{"pointer":"/program/body/0/child","says":"nothing reads a member of this name here"}]}"#
         )
@@ -163,7 +169,8 @@ fn warnings() {
         .map(|number| format!(r#","child{number}":0"#))
         .collect();
     let many = many.concat();
-    let report = check(import(&format!(r#""range":[0,16]{many}"#)).as_bytes()).expect("a report");
+    let report =
+        check_json(import(&format!(r#""range":[0,16]{many}"#)).as_bytes()).expect("a report");
     assert!(
         report.starts_with(r#"{"valid":true,"warnings":[{"#) && report.ends_with(r#"],"more":3}"#)
     );

@@ -98,11 +98,11 @@ fn a_document_that_is_made_in_code() {
 fn the_parts_of_an_error() {
     let error = analyze(&import(99)).expect_err("a fault");
     assert_eq!(error.name(), "RangeOutside");
-    assert_eq!(error.pointer().as_deref(), Some("/program/body/0/range"));
+    assert_eq!(error.pointer(), Some("/program/body/0/range"));
     assert_eq!((error.range(), error.offset()), (Some(0..99), Some(0)));
     assert_eq!(error.position(), None);
     let expected = "an end of at most 16, the source's length";
-    assert_eq!(error.expected().as_deref(), Some(expected));
+    assert_eq!(error.expected(), Some(expected));
     let error = analyze_json(b"{\n ]").expect_err("no JSON");
     assert_eq!((error.pointer(), error.range()), (None, None));
     assert_eq!(error.offset(), Some(3));

@@ -1,6 +1,9 @@
 //! Documents with the tree of a parser.
 
-use modinfo::{analyze_estree, answer_lines, check_estree, Command, Fault};
+use modinfo::{
+    analyze_estree, analyze_estree_json, answer_lines, check_estree, check_estree_json, Command,
+    Fault,
+};
 
 const INFO: &str = r#"{"dependencies":[{"kind":"import","sideEffect":true,"specifier":"./b.js","specifierRange":[[1,34],[1,42]],"type":"static","typesSpecifier":{"range":[[1,13],[1,23]],"text":"./b.d.ts"}}]}"#;
 
@@ -23,9 +26,11 @@ fn document(unit: &str, more: usize) -> String {
 #[test]
 fn a_tree_by_utf_16_units_and_by_bytes() {
     for document in [document("utf16", 0), document("utf8", 2)] {
-        let info = analyze_estree(document.as_bytes());
+        let info = analyze_estree_json(document.as_bytes());
         assert_eq!(info.as_deref(), Ok(INFO));
-        let report = check_estree(document.as_bytes());
+        let info = analyze_estree(document.as_bytes()).expect("information");
+        assert_eq!(serde_json::from_str(INFO).ok(), Some(info));
+        let report = check_estree_json(document.as_bytes());
         assert_eq!(report.as_deref(), Ok(r#"{"valid":true}"#));
     }
 }
@@ -35,10 +40,8 @@ fn a_tree_of_another_text_has_a_range_and_no_pointer() {
     let document = document("utf8", 99);
     let error = analyze_estree(document.as_bytes()).expect_err("a fault");
     assert_eq!(error.fault(), &Fault::RangeOutside);
-    assert_eq!(
-        error.report(),
-        check_estree(document.as_bytes()).ok().as_deref()
-    );
+    let report = check_estree(document.as_bytes()).expect("a report");
+    assert_eq!(error.report(), report.as_fault());
     assert!(
         error.to_string().starts_with("RangeOutside (bytes "),
         "{error}"
@@ -63,7 +66,9 @@ fn lines() {
     let faults = "{\"fault\":\"Tree\"}\n{\"fault\":\"RangeOutside\"}\n";
     assert_eq!(lines, Ok(answer + faults));
     let reports = answer_lines(Command::CheckEstree, documents.as_bytes()).expect("reports");
-    let wanted = documents.lines().map(|line| check_estree(line.as_bytes()));
+    let wanted = documents
+        .lines()
+        .map(|line| check_estree_json(line.as_bytes()));
     assert!(
         reports.lines().map(str::to_owned).map(Ok).eq(wanted),
         "{reports}"

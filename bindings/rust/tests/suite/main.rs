@@ -1,5 +1,6 @@
 //! The tests of the crate, but those of memory. They are one program, which is compiled and linked once.
 
+mod analysis_values;
 mod calls;
 mod check;
 mod documents;
@@ -8,6 +9,7 @@ mod information;
 mod lines;
 mod media_types;
 mod moving;
+mod parsed_sources;
 mod places;
 mod program;
 mod readme;

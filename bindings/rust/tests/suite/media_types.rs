@@ -3,6 +3,7 @@
 use crate::repository::{blocks, field, root};
 use modinfo::{MediaType, TypeScriptTypesResolutionMode, Url};
 use std::fs;
+use std::path::Path;
 
 /// The lines `answer MEDIATYPE URL` of the test cases.
 fn answers() -> Vec<(MediaType, String)> {
@@ -31,8 +32,14 @@ fn the_media_type_of_each_specifier() {
     for (wanted, text) in answers {
         let url = Url::parse(&text).expect(&text);
         assert_eq!(MediaType::from_specifier(&url), wanted, "{text}");
-        if url.scheme() == "file" && url.query().is_none() && url.fragment().is_none() {
-            assert_eq!(MediaType::from_str(url.path()), wanted, "{text}");
+        // The path of a folder has a name too.
+        let is_path = url.as_str() == format!("file://{}", url.path());
+        if is_path && !url.path().ends_with('/') {
+            assert_eq!(
+                MediaType::from_path(Path::new(url.path())),
+                wanted,
+                "{text}"
+            );
         }
     }
 }
@@ -52,6 +59,16 @@ fn the_numbers_are_those_of_the_header() {
             .any(|each| each.trim_end_matches(',') == line);
         assert!(is_there, "{line}");
         assert_eq!(named(name).to_string(), name);
+        assert_eq!(name.parse(), Ok(named(name)));
+        assert_eq!(named(name).is_jsx(), ["Jsx", "Tsx"].contains(&name));
+    }
+}
+
+#[test]
+fn other_texts_are_no_media_types() {
+    for text in ["", "typescript", "TypeScript ", "ts", "a.ts", "Css"] {
+        let error = text.parse::<MediaType>().expect_err(text);
+        assert_eq!(error.to_string(), "the name of no media type");
     }
 }
 

@@ -93,36 +93,80 @@ fn a_folder_of_the_crate() {
     room.runs(&[]);
 }
 
+/// Runs make_crate over the library in a folder.
+fn make_crate(words: &[&str], library: &Path, to: &Path) -> Output {
+    Command::new(here().join("make_crate"))
+        .args(words)
+        .arg(to)
+        .env("MODINFO_LIB_DIR", library)
+        .env_remove("MODINFO_UNCHECKED")
+        .output()
+        .expect("make_crate")
+}
+
+/// The folder of what is unpacked from the file that make_crate made in a folder.
+fn unpack(folder: &Path) -> PathBuf {
+    let file = format!("modinfo-{}.crate", env!("CARGO_PKG_VERSION"));
+    let unpacked = Command::new("tar")
+        .args(["-xzf", &file])
+        .current_dir(folder)
+        .status();
+    assert!(unpacked.expect("tar").success());
+    folder.join(file.trim_end_matches(".crate"))
+}
+
 /// What make_crate makes, unpacked in the place of the copy.
 #[test]
 fn the_crate_as_one_file() {
     let room = Room::new("file");
-    let made = Command::new(here().join("make_crate"))
-        .arg(&room.0)
-        .env(
-            "MODINFO_LIB_DIR",
-            fs::canonicalize(library()).expect("a library"),
-        )
-        .output()
-        .expect("make_crate");
+    let library = fs::canonicalize(library()).expect("a library");
+    let made = make_crate(&["--unchecked"], &library, &room.0);
     assert!(
         made.status.success(),
         "{}",
         String::from_utf8_lossy(&made.stderr)
     );
-    let file = format!("modinfo-{}.crate", env!("CARGO_PKG_VERSION"));
     fs::remove_dir_all(room.0.join("modinfo")).expect("the copy");
-    let unpacked = Command::new("tar")
-        .args(["-xzf", &file])
-        .current_dir(&room.0)
-        .status();
-    assert!(unpacked.expect("tar").success());
-    fs::rename(
-        room.0.join(file.trim_end_matches(".crate")),
-        room.0.join("modinfo"),
-    )
-    .expect("a crate");
+    fs::rename(unpack(&room.0), room.0.join("modinfo")).expect("a crate");
     room.runs(&[]);
+}
+
+/// By its stamp, and without one. The file for pkg-config is in place of the stamp where the library is installed.
+#[test]
+fn a_library_that_is_not_proved() {
+    let room = room("stamps");
+    let library = room.join("library");
+    write(&library.join("libmodinfo.a"), "!<arch>\n");
+    let sum = "f0a17a43c74d2fe5474fa2fd29c8f14799e777d7d75a2cc4d11c20a6e7b161c5";
+    let places = [
+        ("none", "", 1),
+        (
+            "libmodinfo.a.origin",
+            "unchecked\nsources 0123\nfile SUM\n",
+            1,
+        ),
+        ("libmodinfo.a.origin", "proved\nsources 0123\nfile 0\n", 1),
+        ("libmodinfo.a.origin", "proved\nsources 0123\nfile SUM\n", 0),
+        ("pkgconfig/modinfo.pc", "build=unchecked\nsources=0123\n", 1),
+        ("pkgconfig/modinfo.pc", "build=proved\nsources=0123\n", 0),
+    ];
+    for (name, stamp, status) in places {
+        write(&library.join(name), &stamp.replace("SUM", sum));
+        let made = make_crate(&[], &library, &room);
+        let errors = String::from_utf8_lossy(&made.stderr);
+        assert_eq!(made.status.code(), Some(status), "{stamp}{errors}");
+        assert_eq!(errors.contains("isn't proved"), status == 1, "{errors}");
+        let made = make_crate(&["--unchecked"], &library, &room);
+        assert!(made.status.success());
+        let manifest = fs::read_to_string(unpack(&room).join("Cargo.toml")).expect("Cargo.toml");
+        let is_unchecked = manifest.contains("This build is unchecked: nothing is proved of it.\"");
+        assert_eq!(is_unchecked, status == 1, "{manifest}");
+        let build = if status == 0 { "proved" } else { "unchecked" };
+        assert!(manifest.contains(&format!(
+            "[package.metadata.modinfo]\nbuild = \"{build}\"\n"
+        )));
+        fs::remove_file(library.join(name)).expect("the stamp");
+    }
 }
 
 #[test]

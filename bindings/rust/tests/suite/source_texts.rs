@@ -1,7 +1,8 @@
 //! Source texts: those of the examples, and those of the test cases with a document of `analyze --source`.
 
 use crate::repository::{blocks, field, root};
-use modinfo::{check_source, module_info, module_info_json, Fault, MediaType, ModuleInfo};
+use modinfo::{check_source, check_source_json, module_info, module_info_json};
+use modinfo::{Fault, MediaType, ModuleInfo};
 use modinfo::{Position, Url};
 use serde_json::Value;
 use std::fs;
@@ -60,7 +61,7 @@ fn each_example_has_its_answer() {
             "{path:?}"
         );
         let valid = r#"{"valid":true}"#.to_owned();
-        assert_eq!(check_source(&text, &specifier, media_type), Ok(valid));
+        assert_eq!(check_source_json(&text, &specifier, media_type), Ok(valid));
         count += 1;
     }
     assert!(count > 10, "{count}");
@@ -105,14 +106,10 @@ fn where_a_syntax_error_is() {
         );
         assert_eq!(error.position(), Some(position), "{text}");
         assert_eq!(error.offset(), Some(offset), "{text}");
-        assert_eq!(error.pointer().as_deref(), Some("/source"), "{text}");
+        assert_eq!(error.pointer(), Some("/source"), "{text}");
         assert_eq!(error.range(), None, "{text}");
-        assert_eq!(
-            error.report(),
-            check_source(text, &url("file:///a.js"), None)
-                .ok()
-                .as_deref()
-        );
+        let report = check_source(text, &url("file:///a.js"), None).expect("a report");
+        assert_eq!(error.report(), report.as_fault());
         let line = format!(
             "Syntax at /source at line {}, column {} (",
             position.line + 1,

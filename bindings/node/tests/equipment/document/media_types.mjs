@@ -141,14 +141,14 @@ export function readOptions(text, options, mediaTypes) {
   const { specifier: named, mediaType = mediaTypeOf(String(named)) } = options ?? {};
   const specifier = named instanceof URL ? named.href : named;
   if (typeof text !== "string") {
-    throw new TypeError(`the text must be a string, and is ${shown(text)}`);
+    throw new TypeError(`the text must be a string, not ${shown(text)}`);
   }
   if (!isAbsoluteUrl(specifier)) {
-    throw new TypeError(`specifier must be an absolute URL, and is ${shown(specifier)}`);
+    throw new TypeError(`specifier must be an absolute URL, not ${shown(specifier)}`);
   }
   if (!mediaTypes.includes(mediaType)) {
     const names = mediaTypes.join(", ");
-    throw new TypeError(`mediaType must be one of ${names}, and is ${shown(mediaType)}`);
+    throw new TypeError(`mediaType must be one of ${names}, not ${shown(mediaType)}`);
   }
   return { specifier, mediaType };
 }

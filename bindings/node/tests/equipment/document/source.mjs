@@ -57,7 +57,7 @@ export class Source {
    */
   constructor(text) {
     if (!isWellFormed(text)) {
-      throw new SourceFault("a lone surrogate is no UTF-8", text, text.search(LONE_SURROGATE));
+      throw new SourceFault("a lone surrogate isn't UTF-8", text, text.search(LONE_SURROGATE));
     }
     this.text = text;
     /** The offset after the `#!` line, or 0 where there is none. */

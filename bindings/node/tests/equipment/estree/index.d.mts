@@ -1,5 +1,5 @@
 import type { ModuleOptions } from "../options.mjs";
-import type { MediaType, ModuleDocument } from "../../../src/document/module_document.cjs";
+import type { MediaType, ModuleDocument } from "../../../modinfo/dist/types/module_document.cjs";
 
 export { SourceFault } from "../options.mjs";
 export type { Warning } from "../options.mjs";

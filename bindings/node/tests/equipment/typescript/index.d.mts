@@ -1,8 +1,8 @@
 import type { ModuleOptions } from "../options.mjs";
-import type { MediaType as AnyMediaType } from "../../../src/document/module_document.cjs";
+import type { MediaType as AnyMediaType } from "../../../modinfo/dist/types/module_document.cjs";
 
 type ParsedMediaType = Exclude<AnyMediaType, "Json" | "Other">;
-import type { MediaType, ModuleDocument } from "../../../src/document/module_document.cjs";
+import type { MediaType, ModuleDocument } from "../../../modinfo/dist/types/module_document.cjs";
 
 export { SourceFault } from "../options.mjs";
 export type { Warning } from "../options.mjs";

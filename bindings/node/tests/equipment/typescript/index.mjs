@@ -22,7 +22,7 @@ export { SourceFault };
 /**
  * @param {string} text the module's text, as it was handed to the parser
  * @param {TextOptions | TreeOptions} options
- * @returns {import("../../../src/document/module_document.cjs").ModuleDocument}
+ * @returns {import("../../../modinfo/dist/types/module_document.cjs").ModuleDocument}
  * @throws {SourceFault} a syntax error, or a lone surrogate
  * @throws {TypeError} a text or an option that isn't what it has to be
  */

@@ -1,0 +1,133 @@
+/** What the commands share: their words, and how they end. */
+
+import { parseArgs } from "node:util";
+import type { ParseArgsConfig } from "node:util";
+
+import { GlobFault } from "../../files/globs.js";
+import { readOwnFile } from "../../files/own_files.js";
+import { programName } from "../../files/program.js";
+import { EntryFault } from "../../graph/entry_points.js";
+import { readJobs as processors } from "../../runtime/call_options.js";
+import { printable, printableLines } from "../../runtime/printable.js";
+import { OutputFault, writeOutput } from "./standard_output.js";
+
+const MOST_JOBS = 9999;
+
+/** A usage error. */
+export class UsageFault extends Error {}
+
+interface Program<V extends Values> {
+  /** As the package has it */
+  name: string;
+  help: string;
+  /** Those of node's `parseArgs`, but for `help` and `version` */
+  options: ParseArgsConfig["options"];
+  /** What may follow options that need no value, after `=` */
+  choices?: Record<string, string[]>;
+  /** Returns the status */
+  main: (words: Words<V>) => Promise<number>;
+}
+
+/** The values of all options that the commands share. */
+export interface Values {
+  help?: boolean;
+  version?: boolean;
+  jobs?: string;
+  all?: boolean;
+  follow?: boolean;
+  null?: boolean;
+  cache?: string;
+  entry?: string[];
+  exclude?: string[];
+  ignore?: string[];
+  gitignore?: boolean;
+  types?: boolean;
+  "no-dynamic"?: boolean;
+  tsconfig?: string;
+  conditions?: string[];
+}
+
+export interface Words<V extends Values = Values> {
+  values: V;
+  positionals: string[];
+}
+
+/**
+ * Runs a program with the words that node was started with. Status 0; 1 where something can't be
+ * read or written, with a line on the error output; 2 for a usage error.
+ */
+export async function runProgram<V extends Values>(program: Program<V>) {
+  const { name, main } = program;
+  // A write that fails rejects its caller's promise; a message that can't be printed is lost.
+  process.stdout.on("error", () => {});
+  process.stderr.on("error", () => {});
+  try {
+    const words = readWords(program);
+    if (await printHelp(name, program.help, words)) {
+      return;
+    }
+    process.exitCode = await main(words);
+  } catch (error) {
+    if (!(error instanceof OutputFault && error.isClosed)) {
+      const isOfWord = error instanceof EntryFault || error instanceof GlobFault;
+      const { message } = error as Error;
+      process.stderr.write(`${name}: ${isOfWord ? printable(message) : printableLines(message)}\n`);
+      process.exitCode = isOfWord || error instanceof UsageFault ? 2 : 1;
+    }
+    // There may be processes that have something to do.
+    process.exit();
+  }
+}
+
+function readWords<V extends Values>({ help, options, choices = {} }: Program<V>): Words<V> {
+  const words = process.argv.slice(2);
+  const end = words.includes("--") ? words.indexOf("--") : words.length;
+  const chosen: Record<string, string> = {};
+  const args = words.map((word, at) => {
+    const [, name, choice] = /^--([^=]+)=(.*)$/s.exec(word) ?? [];
+    if (at >= end || !Object.hasOwn(choices, name) || !choices[name].includes(choice)) {
+      return word;
+    }
+    chosen[name] = choice;
+    return `--${name}`;
+  });
+  try {
+    const { values, positionals } = parseArgs({
+      args,
+      options: { ...options, help: { type: "boolean", short: "h" }, version: { type: "boolean" } },
+      allowPositionals: true,
+    });
+    return { values: { ...values, ...chosen } as V, positionals };
+  } catch (error) {
+    throw new UsageFault(`${(error as Error).message.replace(/\. To specify.*$/s, "")}\n${usageOf(help)}`);
+  }
+}
+
+/** Prints the help or the version, where the words ask for it. */
+async function printHelp(name: string, help: string, { values }: Words) {
+  if (values.help) {
+    await writeOutput(help);
+  } else if (values.version) {
+    const own = new URL("../../../package.json", import.meta.url);
+    const { version } = JSON.parse(readOwnFile(own));
+    await writeOutput(`${name} ${version} (${printable(programName())})\n`);
+  }
+  return Boolean(values.help || values.version);
+}
+
+/** The first lines of a help, which are the usage. */
+export function usageOf(help: string): string {
+  return help.slice(0, help.indexOf("\n\n"));
+}
+
+/**
+ * How many processes parse at most.
+ * @returns one for each processor; where the word is a smaller number, as many
+ */
+export function readJobs(word: string | undefined): number {
+  const most = word === undefined ? MOST_JOBS : Number(/^[1-9]\d{0,3}$/.exec(word)?.[0]);
+  if (Number.isNaN(most)) {
+    throw new UsageFault(`--jobs must be a number from 1 to ${MOST_JOBS}`);
+  }
+  return Math.min(most, processors());
+}

@@ -1,0 +1,194 @@
+/** The questions about the graph of files that options ask. */
+
+import { isComponent, isModule } from "../../files/file_kinds.js";
+import { isFile } from "../../files/find_files.js";
+import { dotText, mermaidText } from "../../graph/pictures.js";
+import { canonicalUrl } from "../../graph/reach.js";
+import { unreachedOf } from "../../graph/unreached.js";
+import { printable } from "../../runtime/printable.js";
+import { UsageFault } from "./command_line.js";
+import { CHECKS } from "./graph_checks.js";
+import {
+  byTypesLine, fileLines, gapsNote, mayBeReachedLine, mentionData, shownPath, stepLine,
+} from "./graph_output.js";
+import { readRun } from "./graph_run.js";
+import { writeOutput } from "./standard_output.js";
+import type { Step } from "../../graph/graph.cjs";
+import type { Answer, Context, FilesValues } from "./graph_checks.js";
+import type { Run } from "./read_files.js";
+
+/** Without the findings that are known; `keys` are those of the others */
+type Found = Answer & { question: string, keys: string[] };
+
+/** The options that ask a question alone. */
+const ALONE = ["why", "dependents", "dot", "mermaid"];
+
+/** The options that ask a question. */
+export const QUESTIONS = [...Object.keys(CHECKS), ...ALONE] as (keyof FilesValues)[];
+
+const ANSWERS: Record<string, (context: Context) => Answer> = {
+  ...CHECKS, reached, why, dependents, dot, mermaid, graph: whole,
+};
+
+/**
+ * @param values of the words
+ * @returns the questions that they ask
+ * @throws {UsageFault} one of several can only be asked alone
+ */
+export function questionsOf(values: FilesValues): string[] {
+  const asked = QUESTIONS.filter((each) => values[each] !== undefined);
+  const alone = asked.find((each) => ALONE.includes(each));
+  if (alone !== undefined && asked.length > 1) {
+    const others = asked.filter((each) => each !== alone).map((each) => `--${each}`);
+    throw new UsageFault(`--${alone} can't be combined with ${others.join(", ")}`);
+  }
+  return asked;
+}
+
+/**
+ * Reads the files of a run into a graph, and prints the answers to questions.
+ * @param known findings that aren't reported, by their questions
+ * @returns the status
+ */
+export async function answerQuestions(
+  questions: string[], run: Run<FilesValues>, known: Record<string, string[]>,
+): Promise<number> {
+  const { values, name, paths } = run;
+  checkKnown(known);
+  checkFile(values.why ?? values.dependents);
+  // What --why asks for is read too, so that what may reach it is found.
+  const { why: target = "" } = values;
+  const named = isModule(target) || isComponent(target) ? [target] : [];
+  const excluded = ["unreached", "packages", "why"].some((each) => questions.includes(each));
+  const options = { excluded, declarations: values.json || excluded };
+  const read = await readRun({ ...run, paths: [...paths, ...named] }, options);
+  const { graph, entries, status } = read;
+  if (entries.some((entry) => graph.module(entry)?.fault)) {
+    return 2;
+  }
+  const other = values.json || entries.length === 0 ? "graph" : "reached";
+  const asked = questions.length > 0 ? questions : [other];
+  const context = { ...read, values, paths };
+  const found = asked.map((each) => without(known[each] ?? [], each, ANSWERS[each](context)));
+  await print(found, values);
+  const notes = found.flatMap((each) => each.notes ?? []);
+  notes.forEach((note) => process.stderr.write(`${name}: ${printable(note)}\n`));
+  return found.some(({ isFinding, keys }) => isFinding || keys.length > 0) ? 1 : status;
+}
+
+function checkKnown(known: Record<string, string[]>) {
+  const other = Object.keys(known).find((each) => !Object.hasOwn(CHECKS, each));
+  if (other !== undefined) {
+    const all = Object.keys(CHECKS).join(", ");
+    throw new UsageFault(`package.json: known of modinfo has ${other}: the questions are ${all}`);
+  }
+}
+
+/** Leaves out findings that are known, and notes how many. */
+function without(
+  known: string[], question: string, { findings = [], lines = [], notes = [], data, ...rest }: Answer,
+): Found {
+  const keys = new Set(known);
+  const others = findings.filter(({ key }) => !keys.has(key));
+  const all = { ...data };
+  others.forEach(({ member, value }) => (all[member] = [...all[member] as unknown[], value]));
+  const hidden = findings.length - others.length;
+  const gone = known.filter((key) => !findings.some((each) => each.key === key)).length;
+  return {
+    ...rest, question, keys: [...new Set(others.map(({ key }) => key))], data: all,
+    lines: [...others.flatMap((each) => each.lines), ...lines],
+    notes: [
+      ...notes,
+      ...(hidden > 0 ? [`--${question}: known findings: ${hidden}`] : []),
+      ...(gone > 0 ? [`--${question}: known findings that are gone: ${gone}`] : []),
+    ],
+  };
+}
+
+async function print(found: Found[], { json, known, null: isNull }: FilesValues) {
+  const end = isNull ? "\0" : "\n";
+  if (known) {
+    const keys = Object.fromEntries(found.map((each) => [each.question, each.keys]));
+    await writeOutput(`${JSON.stringify(keys)}\n`);
+  } else if (json) {
+    await writeOutput(`${JSON.stringify(Object.assign({}, ...found.map(({ data }) => data)))}\n`);
+  } else if (found.length === 1) {
+    const [{ lines = [], text }] = found;
+    await writeOutput(text ?? lines.map((line) => line + end).join(""));
+  } else {
+    const all = found.flatMap(({ question, keys, lines = [] }) => {
+      return [`${question}: ${keys.length}`, ...lines.map((line) => `  ${line}`)];
+    });
+    await writeOutput(all.map((line) => line + end).join(""));
+  }
+}
+
+function reached({ graph, entries }: Context) {
+  const keys = graph.reached(entries);
+  const files = graph.listed.map(({ specifier }) => specifier).filter((key) => keys.has(key));
+  const notes = gapsNote(graph.gaps(keys));
+  return { lines: fileLines(files), data: { entries, reached: files }, notes, isFinding: notes.length > 0 };
+}
+
+/** @throws {UsageFault} no file is there */
+function checkFile(path: string | undefined) {
+  if (path !== undefined && !isFile(path)) {
+    throw new UsageFault(`${printable(path)}: no such file`);
+  }
+}
+
+/** A chain to a file, or what may lead to it, with a chain to that. */
+function why(context: Context) {
+  const { graph, entries, values } = context;
+  const key = canonicalUrl(String(values.why));
+  const steps = graph.chain(entries, key);
+  if (steps.length > 0) {
+    return { lines: steps.map(stepLine), data: { why: steps.map(stepData) } };
+  }
+  const keys = graph.modules.map(({ specifier }) => specifier);
+  const { mayBeReached, byTypes } = unreachedOf(graph, keys, context);
+  const reasons = new Map(mayBeReached.map((each) => [each.module, each]));
+  const ways: typeof mayBeReached = [];
+  for (let at = reasons.get(key); at && !ways.includes(at); at = reasons.get(at.reason.module)) {
+    ways.unshift(at);
+  }
+  const before = ways.length > 0 ? graph.chain(entries, ways[0].reason.module) : [];
+  const types = byTypes.filter(({ module }) => module === key);
+  const isAnswered = ways.length + types.length > 0;
+  return {
+    lines: [...before.map(stepLine), ...ways.map(mayBeReachedLine), ...types.map(byTypesLine)],
+    data: {
+      why: before.map(stepData), ...(ways.length > 0 && { mayBeReached: ways }),
+      ...(types.length > 0 && { byTypes: types.map(({ module, by }) => ({ module, by: mentionData(by) })) }),
+    },
+    isFinding: !isAnswered, notes: isAnswered ? [] : [`no entry reaches ${values.why}`],
+  };
+}
+
+function stepData({ module, by, builtAs }: Step) {
+  return { module, ...(by && { by: mentionData(by) }), ...(builtAs && { builtAs }) };
+}
+
+function dependents({ graph, values }: Context) {
+  const files = graph.dependents(canonicalUrl(String(values.dependents)));
+  return { lines: fileLines(files), data: { dependents: files } };
+}
+
+function dot(context: Context) {
+  return drawn(dotText, context);
+}
+
+function mermaid(context: Context) {
+  return drawn(mermaidText, context);
+}
+
+function drawn(draw: typeof dotText, context: Context) {
+  const keys = context.graph.listed.map(({ specifier }) => specifier);
+  const listed = new Set(keys);
+  const edges = context.graph.edges().filter(({ from, to }) => listed.has(from) && listed.has(to));
+  return { text: draw(keys, edges, shownPath), ...whole(context) };
+}
+
+function whole({ graph, entries }: Context) {
+  return { data: { ...(entries.length > 0 && { entries }), modules: graph.listed } };
+}

@@ -1,0 +1,190 @@
+/** Finds the files that paths name. */
+
+import { readdirSync, statSync } from "node:fs";
+import { dirname, join, sep } from "node:path";
+import type { Dirent, Stats } from "node:fs";
+
+import { FileFault } from "../runtime/faults.js";
+import { isComponent, isModule, isPage } from "./file_kinds.js";
+import { realPath } from "./urls.js";
+
+export interface Found {
+  path: string;
+  /** The path without links in it, where it was found in a folder */
+  real?: string;
+  /** Why the path can't be read */
+  error?: Error;
+  /** Whether it is a link that is not followed */
+  isLeft?: boolean;
+  /** Whether it is among those that are left out */
+  isExcluded?: boolean;
+}
+
+interface Options {
+  /** Whether to go into `node_modules` and into folders whose names begin with a dot */
+  all?: boolean;
+  /** Whether to follow links to files that are below no root */
+  follow?: boolean;
+  /** Paths, besides the folder itself, below which a link may lead */
+  roots?: string[];
+  /** Whether a file or folder is left out that a folder has */
+  isExcluded?: (path: string) => boolean;
+  /** Whether a file or folder that is left out is taken all the same, with `isExcluded` */
+  isKept?: (path: string) => boolean;
+  /** Whether to take components and pages too */
+  components?: boolean;
+}
+
+/**
+ * The files of some paths, in their order. A path that is not a folder is taken as it is. Of a folder
+ * the regular files are taken whose names end as those that are read, sorted by name, each folder in
+ * its place. A link to a file is followed as long as it leads to a place below a root; one to a folder
+ * never is.
+ */
+export async function* findFiles(
+  paths: AsyncIterable<string> | Iterable<string>, options: Options,
+): AsyncGenerator<Found, void> {
+  const roots = realPaths(options.roots ?? []);
+  for await (const path of paths) {
+    const status = statusOf(path);
+    if (status?.isDirectory()) {
+      for (const found of filesBelow(path, options, [...realPaths([path]), ...roots])) {
+        yield found;
+      }
+    } else if (status || isThere(path)) {
+      yield { path };
+    } else {
+      yield { path, error: new FileFault("Input", "no such file or folder") };
+    }
+  }
+}
+
+/** Yields the paths of a list: one per line, or each ended by a zero byte. */
+export async function* readPaths(
+  input: AsyncIterable<Uint8Array>, separator: "\n" | "\0",
+): AsyncGenerator<string, void, undefined> {
+  const decoder = new TextDecoder();
+  let begun = "";
+  for await (const bytes of input) {
+    const paths = (begun + decoder.decode(bytes, { stream: true })).split(separator);
+    begun = paths.pop() ?? "";
+    yield* paths.filter((path) => path !== "");
+  }
+  const last = begun + decoder.decode();
+  if (last !== "") {
+    yield last;
+  }
+}
+
+/** @param roots their real paths */
+function* filesBelow(folder: string, options: Options, roots: string[]): Generator<Found, void> {
+  /** Files, and the paths of folders. */
+  const todo: (Found | string)[] = [folder];
+  for (let next = todo.pop(); next !== undefined; next = todo.pop()) {
+    if (typeof next !== "string") {
+      yield next;
+      continue;
+    }
+    try {
+      entriesOf(next, options, roots).forEach((entry) => todo.push(entry));
+    } catch (reason) {
+      const error = reason as Error;
+      yield { path: next, error };
+    }
+  }
+}
+
+/**
+ * What is taken of a folder, the last first.
+ * @returns files, and the paths of folders
+ */
+function entriesOf(folder: string, options: Options, roots: string[]): (Found | string)[] {
+  const { all, follow, isExcluded = () => false, isKept = () => false, components } = options;
+  const isTaken = (name: string) => {
+    return isModule(name) || (components && (isComponent(name) || isPage(name)));
+  };
+  const entries = readdirSync(folder, { withFileTypes: true });
+  entries.sort((one, other) => (one.name < other.name ? 1 : -1));
+  const realFolder = realPath(folder);
+  const [before, beforeReal] = [folder, realFolder ?? ""].map((each) => join(each, "_").slice(0, -1));
+  const taken = [];
+  for (const entry of entries) {
+    const path = before + entry.name;
+    const isOut = isExcluded(path);
+    if (isOut && !isKept(path)) {
+      continue;
+    }
+    if (entry.isDirectory()) {
+      if (all || !(entry.name === "node_modules" || entry.name.startsWith("."))) {
+        taken.push(path);
+      }
+    } else if (isTaken(entry.name) && isRegular(entry, path)) {
+      const isLink = entry.isSymbolicLink();
+      const isLeft = isLink && !follow && leadsOut(path, roots);
+      const real = isLink || realFolder === undefined ? undefined : beforeReal + entry.name;
+      taken.push({ path, real, ...(isLeft && { isLeft }), ...(isOut && { isExcluded: true }) });
+    }
+  }
+  return taken;
+}
+
+/**
+ * Whether an entry is a regular file, or a link to one. A link to nothing counts as well: it is an
+ * error when it is read.
+ */
+function isRegular(entry: Dirent, path: string) {
+  return entry.isFile() || (entry.isSymbolicLink() && (statusOf(path)?.isFile() ?? true));
+}
+
+/**
+ * Whether a link leads to a file that is below none of the roots.
+ * @param roots their real paths
+ */
+function leadsOut(path: string, roots: string[]) {
+  const real = realPath(path);
+  const isIn = (root: string) => {
+    return real === root || real?.startsWith(root.endsWith(sep) ? root : root + sep);
+  };
+  return real !== undefined && !roots.some(isIn);
+}
+
+/** @returns without those that lead to nothing */
+function realPaths(paths: string[]): string[] {
+  return paths.flatMap((path) => realPath(path) ?? []);
+}
+
+/** @returns nothing where it leads to nothing */
+function statusOf(path: string): Stats | undefined {
+  try {
+    return statSync(path);
+  } catch {
+    return undefined;
+  }
+}
+
+/** @returns true also where that can't be found out */
+function isThere(path: string): boolean {
+  try {
+    return statSync(path, { throwIfNoEntry: false }) !== undefined;
+  } catch (error) {
+    return (error as NodeJS.ErrnoException).code !== "ERR_INVALID_ARG_VALUE";
+  }
+}
+
+/** @returns false also where nothing is there */
+export function isFolder(path: string): boolean {
+  return statusOf(path)?.isDirectory() ?? false;
+}
+
+/** @returns false also where nothing is there, or no regular file */
+export function isFile(path: string): boolean {
+  return statusOf(path)?.isFile() ?? false;
+}
+
+/**
+ * The folders of some paths: a folder itself, and the folder of a file.
+ * @returns each once
+ */
+export function foldersOf(paths: string[]): string[] {
+  return [...new Set(paths.map((path) => (isFolder(path) ? path : dirname(path))))];
+}

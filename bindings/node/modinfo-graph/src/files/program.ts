@@ -1,0 +1,89 @@
+/** Finds the program `modinfo`, and tries whether it runs. */
+
+import { spawn } from "node:child_process";
+import { once } from "node:events";
+import { existsSync } from "node:fs";
+import { resolve as absolute } from "node:path";
+import { fileURLToPath } from "node:url";
+
+import { compiledModule, modulePath } from "modinfo/internal/wasm_module.js";
+import { ownRequire } from "./own_files.js";
+
+/** The package that has the program for this system, where there is one. */
+const PACKAGE = `modinfo-${process.platform}-${process.arch}`;
+
+/** The repository, where this package is a part of it. */
+const REPOSITORY = /^(.*\/)bindings\/node\/modinfo-graph\/dist\/files\//.exec(import.meta.url)?.[1];
+
+/** Which program runs, for the help of the commands that run one. */
+export const PROGRAM_HELP = `\
+The program is that of the package ${PACKAGE}; else what the environment variable MODINFO
+names; else, in the repository, the proved one; else WebAssembly, in threads: --version prints which.
+`;
+
+/**
+ * The program of the package that npm installs beside this one; else what the environment variable
+ * MODINFO names; else, in the repository, the proved program; else the WebAssembly module. What is called
+ * `modinfo` on the PATH is another program on most systems, and is not looked for.
+ * @returns an absolute path
+ * @throws {ProgramEnd} there is none of them
+ */
+export function modinfoPath(): string {
+  return absolute(installedPath() || process.env.MODINFO || builtPath() || modulePath());
+}
+
+/** @returns which program runs, for people */
+export function programName(): string {
+  try {
+    const path = modinfoPath();
+    return `${isWasm(path) ? "WebAssembly" : "native"}: ${path}`;
+  } catch (error) {
+    return (error as Error).message;
+  }
+}
+
+/** @returns whether it is the WebAssembly module */
+export function isWasm(program: string): boolean {
+  return program.endsWith(".wasm");
+}
+
+function installedPath() {
+  try {
+    return ownRequire.resolve(`${PACKAGE}/modinfo`);
+  } catch {
+    return undefined;
+  }
+}
+
+function builtPath() {
+  const path = REPOSITORY && fileURLToPath(new URL("build/modinfo", REPOSITORY));
+  return path && existsSync(path) ? path : undefined;
+}
+
+/**
+ * Runs the program without a document, or compiles the module.
+ * @returns rejected where it can't be started, or ends otherwise than with status 0
+ */
+export async function checkProgram(program: string): Promise<void> {
+  if (isWasm(program)) {
+    compiledModule(program);
+    return;
+  }
+  const how = await endOf(program).catch(({ message }) => message);
+  if (how !== "status 0") {
+    const hint = program === installedPath()
+      ? `without the package ${PACKAGE} WebAssembly runs, in threads`
+      : "./modinfo --prove makes it in the repository, MODINFO names another";
+    throw new Error(`${program} doesn't run with files --null: ${how} (${hint})`);
+  }
+}
+
+/**
+ * How the program ends that is handed no document.
+ * @returns as `status 0` or `SIGTERM`; rejected where it can't be started
+ */
+async function endOf(program: string): Promise<string> {
+  const child = spawn(program, ["files", "--null"], { stdio: ["ignore", "ignore", "inherit"] });
+  const [status, signal] = await once(child, "close");
+  return signal ?? `status ${status}`;
+}

@@ -1,0 +1,92 @@
+/** Writes files that are there as a whole or not at all. */
+
+import { randomBytes } from "node:crypto";
+import { closeSync, constants, openSync, readSync, realpathSync, statSync } from "node:fs";
+import { open, rename, rm, writeFile } from "node:fs/promises";
+import { basename, dirname, join, resolve as absolute } from "node:path";
+
+/**
+ * Writes a file under another name in its folder, and renames it. A link stays, and the file that it
+ * leads to is replaced. What is there and is no regular file, as a device or a FIFO, is written to; a FIFO that
+ * nobody reads is an error.
+ * @returns rejected with the system's error
+ */
+export async function replaceFile(path: string, text: string): Promise<void> {
+  const status = statSync(path, { throwIfNoEntry: false });
+  if (status && !status.isFile()) {
+    await (status.isFIFO() ? writeToReader(path, text) : writeFile(path, text));
+    return;
+  }
+  const place = placeOf(path);
+  const beside = join(dirname(place), `.${basename(place)}.${randomBytes(6).toString("hex")}`);
+  try {
+    await writeNew(beside, text, status?.mode);
+    await rename(beside, place);
+  } catch (error) {
+    await rm(beside, { force: true });
+    throw error;
+  }
+}
+
+/** @param path of a FIFO */
+async function writeToReader(path: string, text: string) {
+  // Opened so, it doesn't wait for a reader: without one there is an error.
+  const probe = await open(path, constants.O_WRONLY | constants.O_NONBLOCK);
+  try {
+    await writeFile(path, text);
+  } finally {
+    await probe.close();
+  }
+}
+
+/** The bytes by which a file is known for an earlier output. */
+const BEGINNING = 4096;
+
+/**
+ * Whether an output may replace what is at a path: nothing, an empty file, what is no regular file, or an earlier
+ * output.
+ * @param isOutput whether a file that begins so is an earlier output
+ */
+export function isReplaceable(path: string, isOutput: (text: string) => boolean): boolean {
+  const status = statSync(path, { throwIfNoEntry: false });
+  return !status?.isFile() || status.size === 0 || isOutput(beginningOf(path));
+}
+
+function beginningOf(path: string): string {
+  const file = openSync(path, constants.O_RDONLY | constants.O_NONBLOCK | constants.O_NOCTTY);
+  try {
+    const bytes = Buffer.alloc(BEGINNING);
+    return bytes.toString("utf8", 0, readSync(file, bytes, 0, BEGINNING, 0));
+  } finally {
+    closeSync(file);
+  }
+}
+
+/**
+ * The place that a path leads to, without links in it.
+ * @param path whose folder need not exist
+ */
+export function placeOf(path: string): string {
+  try {
+    return realpathSync.native(path);
+  } catch {
+    const folder = dirname(absolute(path));
+    return folder === path ? path : join(placeOf(folder), basename(path));
+  }
+}
+
+/**
+ * Writes a file that isn't there yet.
+ * @param mode that of the file which is replaced
+ */
+async function writeNew(path: string, text: string, mode?: number) {
+  const file = await open(path, "wx");
+  try {
+    if (mode !== undefined) {
+      await file.chmod(mode & 0o7777);
+    }
+    await file.writeFile(text);
+  } finally {
+    await file.close();
+  }
+}

@@ -1,0 +1,63 @@
+/** URLs and places of names, files and folders. */
+
+import { realpathSync } from "node:fs";
+import { fileURLToPath, pathToFileURL } from "node:url";
+
+/** A path of which each character stands for itself in a URL. */
+const PLAIN = /^[\w./@+~-]*$/;
+
+/** How many URLs are kept: paths without number must not take memory without end. */
+const MAX_KEPT = 100_000;
+
+const urls: Map<string, string> = new Map();
+
+/**
+ * @param path absolute and normal
+ * @returns the URL of its file
+ */
+export function urlOfPath(path: string): string {
+  let url = urls.get(path);
+  if (url === undefined) {
+    url = PLAIN.test(path) ? `file://${path}` : pathToFileURL(path).href;
+    if (urls.size === MAX_KEPT) {
+      urls.clear();
+    }
+    urls.set(path, url);
+  }
+  return url;
+}
+
+/** @returns nothing where the text is no URL */
+export function urlFrom(text: string, base?: URL): URL | undefined {
+  const { canParse } = URL as unknown as { canParse: (text: string, base?: string | URL) => boolean };
+  return canParse(text, base) ? new URL(text, base) : undefined;
+}
+
+/**
+ * @param folder its absolute path
+ * @returns with a slash at the end
+ */
+export function urlOfFolder(folder: string): URL {
+  return pathToFileURL(`${folder}/`);
+}
+
+/**
+ * @param url of a file
+ * @returns its path; nothing where the URL can't have one
+ */
+export function pathOfUrl(url: URL): string | undefined {
+  try {
+    return fileURLToPath(url);
+  } catch {
+    return undefined;
+  }
+}
+
+/** @returns the path without links in it; nothing where it leads to nothing */
+export function realPath(path: string): string | undefined {
+  try {
+    return realpathSync.native(path);
+  } catch {
+    return undefined;
+  }
+}

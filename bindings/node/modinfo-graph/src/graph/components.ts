@@ -1,0 +1,73 @@
+/** Components and pages as modules: what their scripts name, together. */
+
+import { resolve as absolute } from "node:path";
+
+import { isComponent, isPage } from "../files/file_kinds.js";
+import { readRegularText } from "../files/regular_file.js";
+import { isReport } from "../files/report_pages.js";
+import { urlOfPath } from "../files/urls.js";
+import { FileFault, faultOf } from "../runtime/faults.js";
+import { Positions } from "./positions.js";
+import { scriptsOf } from "./scripts.js";
+import type { DependencyDescriptor, ModuleInfo } from "modinfo";
+import type { FileResult } from "../files/read_files.js";
+import type { Texts } from "../files/texts.js";
+import type { Scripts, Source } from "./scripts.js";
+
+const NONE: Scripts = { scripts: [], sources: [], importMaps: [] };
+
+/** The most bytes of a component or a page. */
+const MOST_BYTES = 2 ** 24;
+
+/** The members of a `ModuleInfo` that are lists, and those of which the first script's counts. */
+const LISTS = ["dependencies", "tsReferences", "jsdocImports"] as const;
+const SINGLE = ["selfTypesSpecifier", "jsxImportSource", "jsxImportSourceTypes"] as const;
+
+/** @returns whether a file is read by its scripts */
+export function hasScripts(path: string): boolean {
+  return isComponent(path) || isPage(path);
+}
+
+/**
+ * @param path of a component or a page
+ * @returns `value` is a `ModuleInfo` of the scripts that can be
+ *   read, with `isUrl` in what the `src` of a page's script names. `fault` is that of the first script that
+ *   can't be read. Neither for a page without scripts, and for a report that was made before
+ */
+export async function readComponent(path: string, texts: Texts): Promise<Pick<FileResult, "value" | "fault">> {
+  try {
+    const text = readRegularText(path, MOST_BYTES);
+    const { scripts, sources } = isReport(text) ? NONE : scriptsOf(text, path);
+    if (isPage(path) && scripts.length + sources.length === 0) {
+      return {};
+    }
+    const url = urlOfPath(absolute(path));
+    const read = await Promise.allSettled(scripts.map((each) => texts.info(each.text, url, each.mediaType)));
+    const infos = read.flatMap((each) => (each.status === "fulfilled" ? [each.value] : []));
+    const [fault] = read.flatMap((each) => (each.status === "rejected" ? [faultOf(each.reason)] : []));
+    const named = dependenciesOf(text, sources, isPage(path));
+    return { value: merged([{ dependencies: named }, ...infos]), ...(fault && { fault }) };
+  } catch (error) {
+    return { fault: faultOf(error instanceof RangeError ? new FileFault("Input", error.message) : error) };
+  }
+}
+
+/** The information of several texts as that of one. */
+function merged(infos: ModuleInfo[]): ModuleInfo {
+  const lists = LISTS.map((name) => [name, infos.flatMap((info): unknown[] => info[name] ?? [])] as const);
+  const single = SINGLE.map((name) => [name, infos.find((info) => info[name])?.[name]] as const);
+  const found = [...lists.filter(([, value]) => value.length > 0), ...single.filter(([, value]) => value)];
+  return Object.fromEntries(found);
+}
+
+/**
+ * @param sources in the order of the text
+ * @param isUrl whether they are URLs, and not names of modules
+ */
+function dependenciesOf(text: string, sources: Source[], isUrl: boolean): DependencyDescriptor[] {
+  const positions = new Positions(text);
+  return sources.map(({ name, start, end }) => ({
+    type: "static", kind: "import", sideEffect: true, specifier: name,
+    specifierRange: [positions.of(start), positions.of(end)], ...(isUrl && { isUrl }),
+  }));
+}

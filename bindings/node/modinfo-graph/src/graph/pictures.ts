@@ -1,0 +1,83 @@
+/** Writes a graph in the languages of programs that draw. */
+
+import { KINDS } from "./kinds.js";
+
+/** Kinds of edges that are drawn without a name. */
+const PLAIN = new Set(["static", "require"]);
+
+/** Characters that Graphviz prints unchanged and that no label may have. */
+const CONTROLS = /[\0-\x1f\x7f]/g;
+
+const DOT_HEAD = `digraph modules {
+  rankdir=LR;
+  nodesep=0.16;
+  ranksep=0.7;
+  node [shape=box, style=rounded, fontname="Helvetica", fontsize=12, height=0.36, margin="0.1,0.04"];
+  edge [arrowsize=0.7];
+`;
+
+/** Graphviz's attributes by the kinds of edges. */
+const DOT_STYLES = new Map<string, string>(KINDS.map(({ kind, light, dot }) => {
+  return [kind, `color="${light}", ${dot}`];
+}));
+
+type Edge<Key> = { from: Key, to: Key, kind: string };
+
+/**
+ * @param keys of the modules
+ * @returns in Graphviz's language; each edge of a kind between two modules is once in it
+ */
+export function dotText<Key>(keys: Key[], edges: Edge<Key>[], label: (key: Key) => string): string {
+  const numbers = numbered(keys);
+  const lines = [
+    ...keys.map((key) => `  ${numbers.get(key)} [label=${quoted(label(key))}];`),
+    ...edges.map(({ from, to, kind }) => `  ${numbers.get(from)} -> ${numbers.get(to)} [${styleOf(kind)}];`),
+  ];
+  return `${DOT_HEAD}${[...new Set(lines)].join("\n")}\n}\n`;
+}
+
+/** Whether a text begins as those of `dotText` do. */
+export function isDot(text: string): boolean {
+  return text.startsWith(DOT_HEAD.slice(0, DOT_HEAD.indexOf("\n")));
+}
+
+/**
+ * @param keys of the modules
+ * @returns in the language of Mermaid
+ */
+export function mermaidText<Key>(keys: Key[], edges: Edge<Key>[], label: (key: Key) => string): string {
+  const numbers = numbered(keys);
+  const lines = [
+    ...keys.map((key) => `  ${numbers.get(key)}["${mermaidLabel(label(key))}"]`),
+    ...edges.map(({ from, to, kind }) => {
+      const arrow = PLAIN.has(kind) ? "-->" : `-. ${kind} .->`;
+      return `  ${numbers.get(from)} ${arrow} ${numbers.get(to)}`;
+    }),
+  ];
+  return `flowchart LR\n${lines.join("\n")}\n`;
+}
+
+/** @returns their names in a picture */
+function numbered<Key>(keys: Key[]): Map<Key, string> {
+  return new Map(keys.map((key, number) => [key, `m${number}`]));
+}
+
+function styleOf(kind: string) {
+  const style = DOT_STYLES.get(kind) ?? "style=dashed";
+  return PLAIN.has(kind) ? style : `${style}, label=${kind}`;
+}
+
+/** Quotes a text as a label, in which Graphviz reads backslashes and entities of HTML. */
+export function quoted(text: string): string {
+  const escaped = text
+    .replace(CONTROLS, "\ufffd")
+    .replace(/\\/g, "\\\\")
+    .replace(/"/g, '\\"')
+    .replace(/&/g, "&amp;");
+  return `"${escaped}"`;
+}
+
+/** A text in which nothing is markup. */
+function mermaidLabel(text: string) {
+  return text.replace(/[^\w./@ -]/gu, (character) => `#${character.codePointAt(0)};`);
+}

@@ -1,0 +1,66 @@
+/** Why nothing is known of a file. */
+
+import { ModinfoFault, ProgramEnd } from "modinfo/internal/core/errors.cjs";
+import { printable } from "./printable.js";
+
+/** As it is printed */
+export interface Fault {
+  /** One of the names in docs/FORMATS.md or in README.md of this package */
+  fault: string;
+  message: string;
+  /** Of a syntax error, with the column counted from one */
+  line?: number;
+  column?: number;
+}
+
+/** A file that can't be read or parsed. */
+export class FileFault extends Error {
+  readonly fault;
+  readonly position;
+
+  /** @param position from zero */
+  constructor(fault: string, message: string, position?: [line: number, character: number]) {
+    super(message);
+    this.name = "FileFault";
+    this.fault = fault;
+    this.position = position;
+  }
+}
+
+/** The fault that an error is which was thrown while a file was read. */
+export function faultOf(error: unknown): Fault {
+  if (error instanceof FileFault) {
+    const { fault, message, position } = error;
+    const [line = 0, character = 0] = position ?? [];
+    return { fault, message, ...(position && { line: line + 1, column: character + 1 }) };
+  }
+  if (error instanceof ModinfoFault) {
+    return { fault: error.fault, message: `modinfo reports ${error.fault}` };
+  }
+  if (error instanceof ProgramEnd) {
+    return { fault: "Program", message: error.message };
+  }
+  if ((error as Partial<NodeJS.ErrnoException> | undefined)?.syscall) {
+    return { fault: "Input", message: systemMessage(error) };
+  }
+  throw error;
+}
+
+/**
+ * The message of a system call, without the path, which the caller prints before it.
+ * @returns as `ENOENT: no such file or directory`
+ */
+export function systemMessage(error: unknown): string {
+  return (error as Error).message.replace(/, [a-z]+(?: '.*')?$/s, "");
+}
+
+/**
+ * @param fault or a warning
+ * @returns as `FILE:LINE:COLUMN: MESSAGE`, without characters that a terminal obeys
+ */
+export function describeFault(
+  file: string, { message, line, column }: { message: string, line?: number, column?: number },
+): string {
+  const position = line ? `:${line}:${column}` : "";
+  return `${printable(file)}${position}: ${printable(message)}`;
+}

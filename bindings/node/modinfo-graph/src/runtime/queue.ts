@@ -1,0 +1,36 @@
+/** First in, first out, in constant time. */
+export class Queue<T> {
+  #entering: T[] = [];
+  /** The next to leave is last. */
+  #leaving: T[] = [];
+
+  get length() {
+    return this.#entering.length + this.#leaving.length;
+  }
+
+  /** @returns the next to leave; nothing where the queue is empty */
+  get first(): T | undefined {
+    return this.#leaving.at(-1) ?? this.#entering[0];
+  }
+
+  push(item: T) {
+    this.#entering.push(item);
+  }
+
+  /** @returns nothing where the queue is empty */
+  shift(): T | undefined {
+    if (this.#leaving.length === 0) {
+      this.#leaving = this.#entering.reverse();
+      this.#entering = [];
+    }
+    return this.#leaving.pop();
+  }
+
+  /** @returns all that were in it, in order */
+  takeAll(): T[] {
+    const items = [...this.#leaving.reverse(), ...this.#entering];
+    this.#leaving = [];
+    this.#entering = [];
+    return items;
+  }
+}

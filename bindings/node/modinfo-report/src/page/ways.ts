@@ -1,0 +1,50 @@
+/** The shortest paths to modules from the entries, or without entries from the modules that none leads to. */
+
+import { eachEdge, kindRuns, report } from "./report.js";
+
+/** An edge of a path. */
+export interface Step {
+  from: number;
+  kind: number;
+  row: number;
+  line: number;
+}
+
+/**
+ * For each module the last edge of a shortest path to it; undefined where a path begins, and where
+ * none ends.
+ */
+let steps: Step[] | undefined;
+
+/** The modules where paths begin. */
+const starts = new Set<number>(report.entries.length > 0 ? report.entries : report.lists.unreached);
+
+/** @returns the edges of a shortest path, which run if there is such a path; nothing if there is no path */
+export function wayTo(module: number): Step[] | undefined {
+  steps ??= allSteps();
+  if (starts.has(module)) {
+    return [];
+  }
+  const way: Step[] = [];
+  for (let step = steps[module]; step !== undefined; step = steps[step.from]) {
+    way.unshift(step);
+  }
+  return way.length > 0 ? way : undefined;
+}
+
+/** Searches breadth first by edges that run, then from all reached modules by the other edges too. */
+function allSteps() {
+  const found: Step[] = [];
+  const reached = new Set(starts);
+  for (const isFollowed of [(kind: number) => kindRuns[kind], () => true]) {
+    for (const from of reached) {
+      eachEdge(from, (to, kind, row, line) => {
+        if (!reached.has(to) && isFollowed(kind)) {
+          reached.add(to);
+          found[to] = { from, kind, row, line };
+        }
+      });
+    }
+  }
+  return found;
+}

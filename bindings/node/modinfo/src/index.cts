@@ -1,0 +1,16 @@
+/** The package for `require`. */
+
+import { existsSync, readFileSync } from "node:fs";
+import { join } from "node:path";
+
+import { functionsOf } from "./core/functions.cjs";
+import { wasmFiles } from "./wasm_files.cjs";
+
+export * from "./types/calls.cjs";
+export { ModinfoFault, ProgramEnd } from "./core/errors.cjs";
+export { estreeDocument } from "./core/estree_document.cjs";
+const { loader } = wasmFiles({ existsSync, readFileSync, own: join(__dirname, "modinfo.wasm") });
+export const {
+  analyze, analyzeEstree, analyzeEstreeSync, analyzeSync, check, checkSource, checkSourceSync, checkSync, convert,
+  convertSync, init, initSync, moduleInfo, moduleInfoSync, reach, reachSync,
+} = functionsOf(loader);
