@@ -1,6 +1,6 @@
 #!/usr/bin/env node
 /**
- * Measures bindings/node/src/cli/files.mjs beside the parser alone and beside tools that list
+ * Measures bindings/node/modinfo-graph/dist/cli/files.js beside the parser alone and beside tools that list
  * dependencies, on the same files, and compares the dependencies that each finds.
  *
  * usage: node bench/adapters.mjs [--files N] [--rounds N] [--folder PATH]
@@ -30,7 +30,7 @@ import { printHelp } from "./help.mjs";
 
 printHelp(import.meta.url);
 
-const FILES = fileURLToPath(new URL("../bindings/node/src/cli/files.mjs", import.meta.url));
+const FILES = fileURLToPath(new URL("../bindings/node/modinfo-graph/dist/cli/files.js", import.meta.url));
 const TOOLS = fileURLToPath(new URL("adapters_tools.mjs", import.meta.url));
 const THREADS = [1, 2, 4];
 /** One that isn't there before a run, and one of an earlier run. */

@@ -6,7 +6,7 @@
  * example: node bench/report.mjs /usr/share/nodejs/undici
  *
  *   --jobs N        processes that parse; else one for each processor
- *   --program FILE  another report.mjs, as that of an older clone
+ *   --program FILE  another cli.js, as that of an older clone
  *   FOLDER          a folder, or a page that is made already, whose name ends in .html, with an
  *                   address in it after `#`
  *
@@ -33,7 +33,7 @@ import { pageCost } from "./report_page.mjs";
 
 printHelp(import.meta.url);
 
-const PROGRAM = fileURLToPath(new URL("../bindings/node/src/cli/report.mjs", import.meta.url));
+const PROGRAM = fileURLToPath(new URL("../bindings/node/modinfo-report/dist/cli.js", import.meta.url));
 
 const COLUMNS = [
   "", "made in, s", "memory, MB", "page, MB", "opens in, s", "longest task, ms", "key, ms",

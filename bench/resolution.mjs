@@ -24,8 +24,8 @@ import { join } from "node:path";
 import { fileURLToPath } from "node:url";
 import { parseArgs } from "node:util";
 
-import { textOfArgument } from "../bindings/node/src/graph/arguments.mjs";
-import { createResolver } from "../bindings/node/src/graph/resolver.mjs";
+import { textOfArgument } from "../bindings/node/modinfo-graph/dist/graph/arguments.js";
+import { Resolver } from "../bindings/node/modinfo-graph/dist/graph/resolver.js";
 import { askNode } from "../bindings/node/tests/by_node.mjs";
 import { printHelp } from "./help.mjs";
 import { compareEntries } from "./resolution_by_esbuild.mjs";
@@ -33,7 +33,7 @@ import { compareCycles } from "./resolution_cycles.mjs";
 
 printHelp(import.meta.url);
 
-const FILES = fileURLToPath(new URL("../bindings/node/src/cli/files.mjs", import.meta.url));
+const FILES = fileURLToPath(new URL("../bindings/node/modinfo-graph/dist/cli/files.js", import.meta.url));
 const PACKAGES = ["@babel", "undici", "core-js", "eslint"];
 
 const { values } = parseArgs({
@@ -92,7 +92,7 @@ function namesOf(files) {
  * @returns {boolean} whether all that node finds is the same
  */
 function compare(names) {
-  const resolver = createResolver({ root: "/" });
+  const resolver = new Resolver({ root: "/" });
   const begin = process.hrtime.bigint();
   const own = names.map(({ file, name, ...options }) => resolver.resolve(name, file, options));
   const seconds = Number(process.hrtime.bigint() - begin) / 1e9;

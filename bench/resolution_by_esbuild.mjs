@@ -6,7 +6,7 @@ import { tmpdir } from "node:os";
 import { join, resolve as absolute } from "node:path";
 import { pathToFileURL } from "node:url";
 
-import { createResolver } from "../bindings/node/src/graph/resolver.mjs";
+import { Resolver } from "../bindings/node/modinfo-graph/dist/graph/resolver.js";
 
 /** The kinds of names by esbuild's. */
 const KINDS = {
@@ -27,7 +27,7 @@ const NO_FILE = /^[\w-]+:|\?/;
  */
 export function compareEntries(folder, most) {
   // esbuild sets this condition by itself.
-  const resolver = createResolver({ root: "/", globalFolders: [folder], conditions: ["module"] });
+  const resolver = new Resolver({ root: "/", globalFolders: [folder], conditions: ["module"] });
   const all = packagesIn(folder);
   const step = Math.max(1, all.length / most);
   const entries = Array.from({ length: Math.min(most, all.length) }, (_, at) => all[Math.floor(at * step)]);
@@ -92,7 +92,7 @@ function realOf(path) {
 
 /**
  * Whether a name in a module leads where esbuild has an edge.
- * @param {import("../bindings/node/src/graph/resolver.mjs").Resolver} resolver
+ * @param {import("../bindings/node/modinfo-graph/dist/graph/resolver.js").Resolver} resolver
  * @param {{ from: string, path: string, kind: string }} edge
  */
 function isFound(resolver, { from, path, kind }) {

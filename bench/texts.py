@@ -103,7 +103,7 @@ def print_files(folder: Path) -> None:
         if path.exists():
             print_costs(name, path)
         else:
-            print(f"{name}: {path} isn't there")
+            print(f"{name}: {path} not found")
 
 
 def print_shapes(folder: Path) -> None:

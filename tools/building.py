@@ -13,6 +13,7 @@ from pathlib import Path
 from types import FrameType
 
 from sources import PROVED, ROOT, BuildError, Closure, Crate, origin, set_time, stamp_file
+from toolchains import tools_that_keep
 
 # The folder of logs and unfinished files, and the folder of built crates. A built library has its statements without
 # their proofs: the crates above it load nothing else.
@@ -84,7 +85,8 @@ def run(*words: str | Path) -> None:
 def need(*tools: str) -> None:
     for tool in tools:
         if not shutil.which(tool):
-            remedy = "packaging/setup aarch64" if "aarch64" in tool else "apt-get install binutils gcc"
+            setup = "aarch64" if "aarch64" in tool else "wasm" if tool.startswith("wasm") else None
+            remedy = f"packaging/setup {setup}" if setup else "apt-get install binutils gcc"
             raise BuildError(f"{tool} isn't on the path: {remedy} installs it")
 
 
@@ -198,12 +200,16 @@ def inputs(kit: Kit, closure: Closure, crate: Crate, built: Path = BUILT) -> lis
 def prover(
     kit: Kit, closure: Closure, crate: Crate, jobs: int, built: Path = BUILT, target: str | None = None
 ) -> list[str]:
-    """The command that builds a crate, in its folder. `target` is that of a program or a static library."""
+    """The command that builds a crate, in its folder. `target` is that of a program or a static library. Of a static
+    library for this machine's processor the LLVM module is kept too, at `module_of`."""
     words = [str(kit.folder / "bin/rattle"), "build", *inputs(kit, closure, crate, built), "--jobs", str(jobs)]
     if not crate.is_program and not crate.is_static_library:
         return [*words, "--statements", "-o", f"{built}/{crate.name}.rlib"]
     words += ["--target", target] if target else []
-    words += ["--toolchain", f"{kit.folder}/toolchain", "--backend", "llvm"]
+    tools = kit.folder / "toolchain"
+    if crate.is_static_library and not target:
+        tools = tools_that_keep(kit.folder, STAGE / "tools", module_of(crate, built))
+    words += ["--toolchain", str(tools), "--backend", "llvm"]
     return [*words, "-o", str(output_of(crate, target, built))]
 
 
@@ -211,6 +217,11 @@ def output_of(crate: Crate, target: str | None, built: Path = BUILT) -> Path:
     """The object file of a program, or the archive of a static library, for this machine's processor or a target."""
     before, after = ("", ".o") if crate.is_program else ("lib", ".a")
     return built / f"{before}{crate.name}{f'.{target}' if target else ''}{after}"
+
+
+def module_of(crate: Crate, built: Path = BUILT) -> Path:
+    """The LLVM module of a static library, from which its object file was made."""
+    return built / f"lib{crate.name}.bc"
 
 
 class Build:

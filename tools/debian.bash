@@ -1,5 +1,5 @@
 # shellcheck shell=bash
-# Installs packages of Debian, for the setup scripts, and prints their help.
+# Installs or unpacks packages of Debian, for the setup scripts, and prints their help.
 # shellcheck source=tools/help.bash
 source "$(dirname "${BASH_SOURCE[0]}")/help.bash"
 
@@ -37,4 +37,22 @@ provide() {
 install_packages() {
     local words=("$1" -y --no-install-recommends "${@:2}")
     apt "${words[@]}" || { apt update && apt "${words[@]}"; }
+}
+
+# The newest version of nodejs that has Debian's name in it.
+debian_node() {
+    apt-cache madison nodejs | sed -n 's/^[^|]*| *\([^ ]*+dfsg[^ ]*\) .*/\1/p' | head -n 1
+}
+
+# unpack FOLDER PACKAGE ..
+#
+# Downloads packages, and puts their files below a folder without installing them.
+unpack() {
+    local folder=$1 room status=0
+    room=$(mktemp -d)
+    mkdir -p "$folder"
+    (cd "$room" && apt-get -qq download "${@:2}" &&
+        for package in ./*.deb; do dpkg-deb --extract "$package" "$folder" || exit 1; done) > /dev/null 2>&1 || status=$?
+    rm -rf "$room"
+    return "$status"
 }

@@ -1,6 +1,7 @@
 """Links programs and the library for C from what the prover, or a build without proofs, has compiled."""
 
 import json
+import shutil
 import subprocess
 from pathlib import Path
 
@@ -10,6 +11,10 @@ from sources import ROOT, BuildError
 TABLE = ROOT / "docs/commands.json"
 COMMANDS = [row[kind]["function"] for row in json.loads(TABLE.read_text())["commands"] for kind in ("answer", "check")]
 LIBRARIES = ("libmodinfo.a", "libmodinfo.so")
+# The LLVM module that the library for this machine's processor is made of. packaging/wasm/build reads it.
+MODULE = "libmodinfo.bc"
+# The program that needs no C library, which is made where musl's compiler is installed.
+STATIC, MUSL = "modinfo_static", "musl-gcc"
 EXPORTED = [f"modinfo_{function}" for function in (*COMMANDS, "run", "run_lines", "lines", "version")]
 
 
@@ -24,6 +29,16 @@ def link_program(target: Target, kit: Kit, main: Path, program: Path) -> None:
     linked = subprocess.run(words, stdout=subprocess.PIPE, stderr=subprocess.STDOUT, text=True, check=False)
     if linked.returncode != 0:
         raise BuildError(f"the program isn't linked: {linked.stdout.rstrip()}")
+
+
+def can_link_static(target: Target) -> bool:
+    return not target.name and shutil.which(MUSL) is not None
+
+
+def link_static(kit: Kit, main: Path, program: Path) -> None:
+    archives = [kit.folder / f"c/lib{name}.a" for name in ("os_c", "libc_c")]
+    options = ["-static", "-O2", "-Wl,--wrap=main", "-Wl,-z,relro,-z,now"]
+    run(MUSL, *options, "-o", program, main, ROOT / "packaging/musl_main.c", *archives)
 
 
 def name_for_loader(folder: Path) -> None:

@@ -1,8 +1,8 @@
 """The list of all tests but those of `rt ci`: the parts of tools/test, what each runs, and what is built for it.
 
-The command of a part finds the program by MODINFO, the folder of the libraries by MODINFO_LIB_DIR, and the program
-of the test cases by TEST_REPLAY, all in the environment. It ends with status 69 where what it needs can't be
-installed.
+The command of a part finds the program by MODINFO, the WebAssembly module by MODINFO_WASM, the folder of the
+libraries by MODINFO_LIB_DIR, and the program of the test cases by TEST_REPLAY, all in the environment. It ends with
+status 69 where what it needs can't be installed.
 """
 
 from dataclasses import dataclass
@@ -30,21 +30,31 @@ class Programs:
 UNCHECKED = Programs(
     {
         "MODINFO": "build/unchecked/modinfo",
+        "MODINFO_WASM": "build/unchecked/modinfo.wasm",
         "MODINFO_LIB_DIR": "build/unchecked",
         "TEST_REPLAY": "build/unchecked/test_replay",
     },
-    {name: f"exec tools/build_unchecked {name}" for name in ("modinfo", "libmodinfo", "test_replay")},
+    # The program of the test cases is linked from the object of the library.
+    {
+        "modinfo": "exec tools/build_unchecked modinfo",
+        "libmodinfo": "exec tools/build_unchecked libmodinfo",
+        "test_replay": "exec tools/build_unchecked libmodinfo",
+        "wasm": "flock build/test packaging/setup wasm && exec packaging/wasm/build --unchecked",
+    },
 )
 PROVED = Programs(
     {
         "MODINFO": "build/modinfo",
+        "MODINFO_WASM": "build/modinfo.wasm",
         "MODINFO_LIB_DIR": "build",
-        "TEST_REPLAY": "crates/test_replay/out/test_replay",
+        "TEST_REPLAY": "build/test_replay",
     },
     {
         "modinfo": "exec ./modinfo --prove",
         "libmodinfo": "exec tools/build_library",
-        "test_replay": "[[ -x $TEST_REPLAY ]] || { cd crates/test_replay && exec rt run; }",
+        "wasm": "flock build/test packaging/setup wasm && exec packaging/wasm/build",
+        "test_replay": "[[ -x $TEST_REPLAY ]] || "
+        "{ (cd crates/test_replay && rt run) && cp crates/test_replay/out/test_replay build; }",
     },
 )
 
@@ -69,16 +79,22 @@ def node(words: str) -> str:
     return after("bindings/node/setup", f"cd bindings/node && exec node --test {words}")
 
 
+def node_18(command: str) -> str:
+    """The command with Debian's node 18 as `node`."""
+    return after("packaging/setup node18", f"PATH=$PWD/build/node18:$PATH && {command}")
+
+
 BROWSER = node("tests/browser/*.test.mjs")
 HAS_BROWSER = f"{{ command -v chromium && command -v chromedriver || exit {UNAVAILABLE}; }}"
 
 # Parts that take long come first, of those that need no build as of the others.
 QUICK = [
     Part("rust_lint", after("bindings/setup rust", "exec bindings/rust/run_tests lint")),
-    Part("node", node("tests/*.test.mjs"), ("modinfo",)),
-    Part("rust", after("bindings/setup rust", "exec bindings/rust/run_tests test"), ("libmodinfo",)),
+    Part("node", node("tests/*.test.mjs"), ("modinfo", "wasm")),
     Part("python", after("bindings/setup python", "exec bindings/python/run_tests"), ("libmodinfo",)),
     Part("formats", after("bindings/node/setup", pytest("bindings/tests/test_formats.py")), ("modinfo",)),
+    # Not beside rust_lint, whose folder cargo locks.
+    Part("rust", after("bindings/setup rust", "exec bindings/rust/run_tests test"), ("libmodinfo",)),
     Part("texts", node("tests/differential/rows.mjs"), ("modinfo",)),
     Part(
         "replay",
@@ -88,16 +104,19 @@ QUICK = [
     Part("examples", 'exec examples/run "$MODINFO"', ("modinfo",)),
     Part("files", "tools/copy_examples --check && tools/generate_formats --check && tools/set_version --check"),
     Part("scripts", pytest("tools/tests -m 'not slow'")),
+    Part("wasm", "exec packaging/wasm/test --files 300 node", ("libmodinfo", "wasm")),
     Part("header", pytest("packaging/tests/test_header.py")),
     Part("manual", pytest("packaging/tests/test_manual.py"), ("modinfo",)),
     Part("commands", pytest("packaging/tests/test_commands.py packaging/tests/test_program.py"), ("modinfo",)),
 ]
-UNCHECKED_PARTS = [Part("browser", f"{HAS_BROWSER} && {BROWSER}", ("modinfo",)), *QUICK]
+UNCHECKED_PARTS = [Part("browser", f"{HAS_BROWSER} && {BROWSER}", ("modinfo", "wasm")), *QUICK]
 # Other parts take long, or test what is installed and packed, which is the proved program alone.
 PROVED_PARTS = [
     Part("fail_allocations", "exec crates/test_replay/fail_allocations", ("test_replay",)),
-    Part("parsers", node("tests/differential/{gaps,machine,mutations}.mjs"), ("modinfo",)),
-    Part("browser", after("bindings/node/setup_report", BROWSER), ("modinfo",)),
+    Part("parsers", node("tests/differential/{gaps,machine,mutations,nesting}.mjs"), ("modinfo",)),
+    Part("browser", after("bindings/node/setup_report", BROWSER), ("modinfo", "wasm")),
+    Part("engines", with_or_without("packaging/setup node18", "exec packaging/wasm/test"), ("libmodinfo", "wasm")),
+    Part("node_18", node_18(node("tests/*.test.mjs")), ("modinfo", "wasm")),
     *QUICK,
     Part("fresh_clone", pytest("tools/tests -m slow")),
     Part("library", pytest("packaging/tests/test_library.py"), ("libmodinfo",)),
@@ -115,6 +134,12 @@ PROVED_PARTS = [
         ("modinfo", "libmodinfo"),
     ),
     Part("embed", "exec examples/embed", ("libmodinfo",)),
-    Part("pages", pytest("bindings/tests/test_pages.py"), ("modinfo", "libmodinfo")),
+    Part(
+        "languages",
+        with_or_without("packaging/setup languages", pytest("packaging/tests/test_languages.py")),
+        ("libmodinfo",),
+    ),
+    Part("bench", "cd crates/bench_program && rt try -- $(< args) < stdin | diff stdout -"),
+    Part("pages", pytest("bindings/tests/test_pages.py"), ("modinfo", "libmodinfo", "wasm")),
     Part("cluster", after("examples/cluster/setup", "exec examples/cluster/test"), ("modinfo", "libmodinfo")),
 ]

@@ -35,6 +35,15 @@ template <typename Call> void expect_fault(Call call, const std::string &name, c
     }
 }
 
+/* For a number that is no command or no media type. */
+template <typename Call> void expect_invalid(Call call)
+{
+    try {
+        expect(call(), "an exception");
+    } catch (const std::invalid_argument &) {
+    }
+}
+
 void texts()
 {
     const std::string longer = "xximport \"./b.ts\";xx";
@@ -50,7 +59,8 @@ void texts()
     expect_fault([] { return modinfo::module_info("\xff", "file:///b.ts"); }, "Input", "");
     expect_fault([] { return modinfo::check_source("\xff", "file:///b.ts"); }, "Input", "");
     expect_fault([] { return modinfo::check_source("", "\xff"); }, "Input", "");
-    expect_fault([] { return modinfo::check_source("", "a:", modinfo::media_type{99}); }, "Tree", "");
+    expect_invalid([] { return modinfo::check_source("", "a:", modinfo::media_type{99}); });
+    expect_invalid([] { return modinfo::module_info("", "a:", modinfo::media_type{14}); });
 }
 
 void documents()
@@ -66,10 +76,7 @@ void documents()
     expect(modinfo::run_lines(MODINFO_ANALYZE, document), R"({"answer":)" + info + "}\n");
     expect_fault([] { return modinfo::analyze("{}"); }, "Tree", R"({"fault":"Tree","pointer":"","expected":)");
     expect_fault([] { return modinfo::reach(""); }, "Json", R"({"fault":"Json","at":)");
-    try {
-        expect(modinfo::run_lines(99, document), "an exception");
-    } catch (const std::invalid_argument &) {
-    }
+    expect_invalid([] { return modinfo::run_lines(99, document); });
     // More lines than the first room has bytes for.
     const std::string lines(5000, '\n');
     expect(std::to_string(modinfo::run_lines(MODINFO_ANALYZE, lines).size()), std::to_string(5000 * 17));

@@ -65,10 +65,12 @@ def test_words_after_a_name(name: str) -> None:
         assert [words for words, wrong in zip(lists, pool.map(is_wrong, lists)) if wrong] == []
 
 
-@pytest.mark.parametrize("words", [["-h"], *([name, "--help"] for name in NAMES)], ids=" ".join)
-def test_help(words: list[str]) -> None:
-    assert run(*words) == run("--help")
-    assert run("--help")[1]
+def test_help() -> None:
+    """Each text is on one subject alone, and they differ."""
+    texts = [run("--help"), *(run(name, "--help") for name in NAMES)]
+    assert run("-h") == texts[0] and len(set(texts)) == len(texts)
+    for title, (status, output, errors) in zip(["modinfo: ", *(f"modinfo {name}: " for name in NAMES)], texts):
+        assert (status, output.startswith(title.encode()), output.count(b"\nmodinfo "), errors) == (0, True, 0, b"")
 
 
 def test_version() -> None:
@@ -92,13 +94,28 @@ def test_wrong_words(words: list[str | bytes]) -> None:
     assert run(*words) == USAGE
 
 
-@pytest.mark.parametrize(
-    "each", [{"name": None, "words": [*NAMES, "--version"]}, *TABLE["names"]], ids=lambda e: e["name"]
-)
-def test_what_bash_offers(each: dict[str, list[str]]) -> None:
-    words = ["module-info", *filter(None, [each["name"]]), ""]
-    offered = subprocess.run(["bash", "-c", OFFERED, "bash", *words], capture_output=True, text=True, check=True)
-    assert (sorted(offered.stdout.split()), offered.stderr) == (sorted([*each["words"], "--help"]), "")
+def offered(*words: str) -> set[str]:
+    """What bash offers after words."""
+    command = ["bash", "-c", OFFERED, "bash", "module-info", *words, ""]
+    printed = subprocess.run(command, capture_output=True, text=True, check=True)
+    assert printed.stderr == ""
+    return set(printed.stdout.split())
+
+
+@pytest.mark.parametrize("name", NAMES)
+def test_what_bash_offers(name: str) -> None:
+    """After each list of at most two words, exactly the words with which some longer list is right."""
+    for count in range(3):
+        for rest in itertools.permutations(WORDS, count):
+            longer = [rest + more for size in (1, 2, 3) for more in itertools.permutations(WORDS, size)]
+            right = {words[count] for words in longer if are_right(name, words)}
+            # Any other word is the name of a file, which bash completes itself.
+            assert offered(name, *rest) == right - {each for each in right if name in OF_FILES and each[0] != "-"}, rest
+
+
+def test_what_bash_offers_first() -> None:
+    assert offered() == {*NAMES, "--help", "--version"}
+    assert offered("--help") == offered("other") == set()
 
 
 @pytest.mark.parametrize(

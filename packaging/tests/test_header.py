@@ -34,6 +34,16 @@ int use({ARGUMENTS})
 {CALLS}    return modinfo_lines(MODINFO_CHECK_ESTREE, document, length, answer, room, written);
 }}
 """
+# The functions over char, which need no cast.
+TEXTS = """#include "modinfo.h"
+int use(const char *text, size_t length, char *answer, size_t room, size_t *written);
+int use(const char *text, size_t length, char *answer, size_t room, size_t *written)
+{
+    if (modinfo_run_text(MODINFO_REACH, text, length, answer, room, written) == MODINFO_FAULT) return 1;
+    if (modinfo_check_text(text, length, "a:", 2, MODINFO_JSON, answer, room, written) == MODINFO_FAULT) return 1;
+    return modinfo_analyze_text(text, length, "a:", 2, MODINFO_OF_SPECIFIER, answer, room, written);
+}
+"""
 
 
 def compiled(folder: Path, source: str, compiler: str, *options: str) -> "subprocess.CompletedProcess[str]":
@@ -47,6 +57,13 @@ def compiled(folder: Path, source: str, compiler: str, *options: str) -> "subpro
 @pytest.mark.parametrize("standard", "c89 c99 c11 c17 c++98 c++11 c++17 c++20".split())
 def test_the_header_by_each_standard(tmp_path: Path, standard: str) -> None:
     run = compiled(tmp_path, PROGRAM, "c++" if "+" in standard else "cc", f"-std={standard}", "-pedantic-errors")
+    assert run.returncode == 0, run.stderr
+
+
+@pytest.mark.parametrize("standard", "c99 c11 c17 c++98 c++11 c++17 c++20".split())
+def test_texts_by_each_standard_with_inline_functions(tmp_path: Path, standard: str) -> None:
+    words = f"-std={standard}", "-pedantic-errors", "-Wshadow", "-Wconversion"
+    run = compiled(tmp_path, TEXTS, "c++" if "+" in standard else "cc", *words)
     assert run.returncode == 0, run.stderr
 
 

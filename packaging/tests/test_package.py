@@ -10,17 +10,23 @@ from installed import ROOT, VERSION, analyzed, run
 
 DEBS = [f"{name}_{VERSION}_amd64.deb" for name in ("libmodinfo0", "libmodinfo-dev", "modinfo-tool")]
 TARBALL = f"modinfo-{VERSION}-linux-x86_64.tar.gz"
+STATIC = f"modinfo-{VERSION}-linux-x86_64-static.tar.gz"
 LATER = "1000000000"
 
 is_ready = shutil.which("dpkg-buildpackage") and shutil.which("dh")
 pytestmark = pytest.mark.skipif(not is_ready, reason="dpkg-dev and debhelper aren't installed")
 
 
+def has_static() -> bool:
+    return (ROOT / "build/modinfo_static.origin").exists()
+
+
 def packed(clone: Path, umask: str, **environment: str) -> str:
     """Makes the packages of a clone of HEAD, and returns what is printed."""
     run("git", "clone", "-q", ROOT, clone)
     (clone / "build").mkdir()
-    for name in "modinfo", "libmodinfo.a", "libmodinfo.so":
+    names = ["modinfo", "libmodinfo.a", "libmodinfo.so"]
+    for name in [*names, "modinfo_static"] if has_static() else names:
         for file in name, f"{name}.sources", f"{name}.origin":
             shutil.copy2(ROOT / "build" / file, clone / "build")
             (clone / "build" / file).touch()
@@ -54,7 +60,7 @@ def test_the_same_bytes(first: Path, tmp_path: Path) -> None:
     assert sums == (first / "build/SHA256SUMS").read_text()
     run("sha256sum", "--check", "--strict", "SHA256SUMS", folder=first / "build")
     page = (ROOT / "packaging/README.md").read_text()
-    for name in [*DEBS, TARBALL]:
+    for name in [*DEBS, TARBALL, *[STATIC] * has_static()]:
         assert (first / "build" / name).read_bytes() == (second / "build" / name).read_bytes()
         assert f"`{name}`" in page
     run(second / "tools/package", "--output", tmp_path / "later", SOURCE_DATE_EPOCH=LATER)
@@ -145,3 +151,18 @@ def test_the_archive_in_another_folder(first: Path, tree: Path, tmp_path: Path) 
     for program in tmp_path / "bin/module-info", tree / "usr/bin/module-info":
         assert analyzed(program, document) == analyzed(ROOT / "build/modinfo", document)
     assert output.exists()
+
+
+@pytest.mark.skipif(not (shutil.which("musl-gcc") and has_static()), reason="musl's compiler wasn't installed")
+def test_the_archive_without_a_c_library(first: Path, tmp_path: Path) -> None:
+    """The program has no loader and prints what the other one prints, and the library links with musl."""
+    run("tar", "--extract", "--gzip", "--strip-components=1", "--file", first / "build" / STATIC, folder=tmp_path)
+    program, document = tmp_path / "bin/module-info", ROOT / "examples/page.json"
+    assert "INTERP" not in run("readelf", "--program-headers", "--wide", program)
+    assert analyzed(program, document) == analyzed(ROOT / "build/modinfo", document)
+    assert run(program, "--help") == run(ROOT / "build/modinfo", "--help")
+    source, library = ROOT / "examples/embedding/analyze.c", tmp_path / "lib/libmodinfo.a"
+    run("musl-gcc", "-static", f"-I{tmp_path}/include", "-o", tmp_path / "analyze", source, library)
+    assert run(tmp_path / "analyze", document) == document.with_suffix(".out.json").read_text()
+    origins = (tmp_path / "share/doc/modinfo/origin").read_text().splitlines()
+    assert [line.partition(":")[0] for line in origins] == ["modinfo", "libmodinfo.a"]

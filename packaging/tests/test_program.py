@@ -1,5 +1,5 @@
-"""Tests the program with a reader of its output that ends, with files that never end, and with two documents where one
-belongs. The program is the one that MODINFO names, else that in build/."""
+"""Tests the program with a reader of its output that ends, with files that never end, names without a URL, a terminal
+as input, and two documents where one belongs. The program is the one that MODINFO names, else that in build/."""
 
 import json
 import os
@@ -13,7 +13,7 @@ from installed import ROOT
 PROGRAM = str(ROOT / os.environ.get("MODINFO", "build/modinfo"))
 # More lines than a pipe holds.
 LINES = b"{}\n" * 100_000
-SECONDS = 60
+SECONDS = 600
 
 
 @pytest.mark.parametrize("words", [["analyze", "--lines"], ["check", "--lines"]], ids=" ".join)
@@ -49,13 +49,14 @@ def test_full_disk() -> None:
 
 
 def test_files_that_the_system_makes_up(tmp_path: Path) -> None:
-    """A read of /proc/kmsg waits for the next message of the kernel."""
+    """A read of /proc/kmsg waits for the next message of the kernel. A file that is read lets none in after it."""
     (tmp_path / "log.js").symlink_to("/proc/kmsg")
     (tmp_path / "a.js").write_text("f();")
-    names = ["log.js", "/proc/version", "/proc/self/cwd/a.js", "a.js"]
+    names = ["log.js", "/proc/version", "/proc/self/cwd/a.js", "a.js", "log.js", "/sys/devices/system/cpu/online"]
     ended = subprocess.run([PROGRAM, "files", *names], cwd=tmp_path, capture_output=True, timeout=SECONDS, check=False)
     found = [json.loads(line) for line in ended.stdout.splitlines()]
-    assert [each.get("fault", {}).get("message") for each in found] == ["in /proc or /sys"] * 2 + [None] * 2
+    refused = ["in /proc or /sys"] * 2
+    assert [each.get("fault", {}).get("message") for each in found] == [*refused, None, None, *refused]
     assert (ended.returncode, ended.stderr) == (1, b"")
 
 
@@ -89,6 +90,14 @@ def test_a_file_that_runs_out_of_memory(tmp_path: Path) -> None:
     assert count > 0
 
 
+@pytest.mark.parametrize("line, held", [("a;", 8), ("a;// c", 64), ("await a;", 40)])
+def test_statements_that_no_rule_reads(line: str, held: int, tmp_path: Path) -> None:
+    """Their nodes and comments take less memory than so many times the text."""
+    text = f"{line}\n" * 100_000
+    (tmp_path / "a.mts").write_text(text)
+    assert files(["a.mts"], tmp_path, (16 << 20) + held * len(text))[1:] == ("", 0)
+
+
 def test_a_step_up_from_a_link(tmp_path: Path) -> None:
     """It takes away the link, as in the URL, so that the URL is that of the file that is read."""
     (tmp_path / "real/sub").mkdir(parents=True)
@@ -107,7 +116,60 @@ def test_a_folder_whose_path_is_not_known(tmp_path: Path) -> None:
     lines, errors, status = files(["../a.js", str(tmp_path / "a.js")], folder)
     message = "the path of the current folder isn't known, or isn't UTF-8"
     assert [json.loads(line).get("fault") for line in lines] == [{"name": "Input", "message": message}, None]
+    assert [json.loads(line)["specifier"] for line in lines] == ["../a.js", (tmp_path / "a.js").as_uri()]
     assert (errors, status) == ("", 1)
+
+
+def test_names_that_are_not_utf_8(tmp_path: Path) -> None:
+    """They are printed in place of a URL, the same from the arguments and from the input. Other words are wrong."""
+    (tmp_path / "a.js").write_text("f();")
+    fault = {"specifier": "inv\ufffd.ts", "fault": {"name": "Input", "message": "the name isn't UTF-8"}}
+    names = [b"inv\xff.ts", b"a.js"]
+    given = subprocess.run([PROGRAM, "files", *names], cwd=tmp_path, capture_output=True, timeout=SECONDS, check=False)
+    listed = subprocess.run(
+        [PROGRAM, "files", "--null"], cwd=tmp_path, input=b"\0".join(names), capture_output=True, timeout=SECONDS
+    )
+    found = [json.loads(line) for line in given.stdout.splitlines()]
+    assert (found[0], found[1]["specifier"]) == (fault, (tmp_path / "a.js").as_uri())
+    assert (given.returncode, given.stdout, given.stderr) == (listed.returncode, listed.stdout, listed.stderr)
+    for words in (["files", b"\xff", "--null"], ["files", "-a", b"\xff"], ["filesx", b"\xff"], [b"\xff", "files"]):
+        ended = subprocess.run([PROGRAM, *words], input=b"", capture_output=True, timeout=SECONDS, check=False)
+        assert (ended.returncode, ended.stdout, ended.stderr[:15]) == (2, b"", b"modinfo: usage:")
+
+
+@pytest.mark.parametrize("words", [[], ["--null"]], ids=str)
+def test_a_terminal_as_input(tmp_path: Path, words: list[str]) -> None:
+    """What is waited for is printed before the first name is read."""
+    (tmp_path / "a.js").write_text("f();")
+    ours, its = os.openpty()
+    with subprocess.Popen(
+        [PROGRAM, "files", *words], cwd=tmp_path, stdin=its, stdout=subprocess.PIPE, stderr=subprocess.PIPE
+    ) as process:
+        assert process.stdout and process.stderr
+        assert process.stderr.readline().startswith(b"modinfo: waiting for the names of files")
+        os.write(ours, b"a.js\0\x04" if words else b"a.js\n\x04")
+        # A name that isn't at the beginning of a line needs a second end of the input.
+        os.write(ours, b"\x04")
+        assert json.loads(process.stdout.read())["specifier"] == (tmp_path / "a.js").as_uri()
+        assert (process.stderr.read(), process.wait(SECONDS)) == (b"", 0)
+    os.close(ours)
+    os.close(its)
+
+
+def test_names_in_arguments_need_no_terminal(tmp_path: Path) -> None:
+    ours, its = os.openpty()
+    for name, status in (("a.js", 1), (b"\xff", 1)):
+        ended = subprocess.run([PROGRAM, "files", name], cwd=tmp_path, stdin=its, capture_output=True, timeout=SECONDS)
+        assert (ended.returncode, ended.stderr) == (status, b"")
+    os.close(ours)
+    os.close(its)
+
+
+def test_a_folder(tmp_path: Path) -> None:
+    """The fault says what reads a folder."""
+    [line], _, status = files(["."], tmp_path)
+    message = json.loads(line)["fault"]["message"]
+    assert "git ls-files" in message and "package for node" in message and status == 1
 
 
 def test_second_document_on_a_line_of_its_own() -> None:

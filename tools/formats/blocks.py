@@ -28,8 +28,8 @@ def with_block(text: str, block: Block) -> str:
 
 
 def without_layout(code: str) -> str:
-    """Rattle's code without white space, braces around an arm, and commas after the last element."""
-    return re.sub(r"[\s\\{}]|(?<=\]),|,(?=\s*\])", "", code)
+    """Rattle's code without what `rt fmt` changes: white space, braces, and commas and semicolons."""
+    return re.sub(r"[\s\\{},;]", "", code)
 
 
 def current(path: str, texts: dict[str, str]) -> str:

@@ -19,13 +19,12 @@ HELP = "crates/modinfo/src/help.rt"
 PAGE = "packaging/module-info.1"
 SYMBOLS = "packaging/debian/libmodinfo0.symbols"
 WIDTH = 100
+SCREEN = 80
 COLUMN = 12
 
 Entry = dict[str, Any]
 COMMANDS: Entry = json.loads((ROOT / PATH).read_text())
 
-# The functions of the crate that return a text where those with the command's name return a type.
-OF_TEXTS = {"analyze": "analyze_json", "analyze_source": "module_info_json"}
 # The commands whose function for C reads a document. One that reads a source text takes its parts instead.
 OF_DOCUMENTS = [row for row in COMMANDS["commands"] if not row.get("reads_text")]
 # The functions for C that read a document: those that answer, and then those that check.
@@ -44,26 +43,43 @@ def lines_of(name: str, text: str, column: int) -> list[str]:
     return filled(text, f"  {name}".ljust(column), WIDTH, " " * column)
 
 
-def wrapped(text: str) -> list[str]:
-    """The lines of a text, with no break inside backquotes."""
-    kept = re.sub("`.*?`", lambda found: found[0].replace(" ", "\0"), text)
-    return [line.replace("\0", " ") for line in wrap(kept, WIDTH)]
-
-
-def help_text() -> str:
-    entries = [lines_of(each["name"], each["text"], COLUMN) for each in (*COMMANDS["names"], *COMMANDS["flags"])]
-    faults = [lines_of(names, text, 19) for names, text in COMMANDS["faults"].items()]
+def overview() -> str:
+    """The beginning of --help, which fits a screen."""
+    column = max(len(each["name"]) for each in COMMANDS["names"]) + 4
     parts: list[list[str]] = [
         [COMMANDS["title"]],
-        wrap(COMMANDS["first"], WIDTH),
         ["usage: " + "\n       ".join(COMMANDS["usage"])],
-        wrap(COMMANDS["introduction"], WIDTH),
-        sum(entries, []),
-        wrapped(COMMANDS["status"]),
-        sum(faults, []),
-        ["Example:"],
-        [f"  {line}" for line in COMMANDS["example"]],
+        [f"  {each['name']}".ljust(column) + each["brief"] for each in COMMANDS["names"]],
+        indented(COMMANDS["examples"]),
+        wrap(COMMANDS["last"], SCREEN),
     ]
+    return in_parts(parts)
+
+
+def help_on(command: Entry) -> str:
+    """The text of --help on a command."""
+    flags = [each for each in COMMANDS["flags"] if each["name"] in command["words"]]
+    faults = [each for each in COMMANDS["faults"] if command["name"] in each["of"]]
+    parts: list[list[str]] = [
+        [f"modinfo {command['name']}: {command['brief']}"],
+        ["usage: " + "\n       ".join(command["usage"])],
+        wrap(command["text"], WIDTH, break_on_hyphens=False),
+        sum([lines_of(each["name"], each["text"], COLUMN) for each in flags], []),
+        indented(command["examples"]),
+        wrap(command.get("more", ""), WIDTH),
+        indented(command.get("more_examples", [])),
+        ["Faults:"],
+        sum([lines_of(each["names"], each["text"], 19) for each in faults], []),
+    ]
+    return in_parts([part for part in parts if part])
+
+
+def indented(lines: list[str]) -> list[str]:
+    return [f"  {line}" for line in lines]
+
+
+def in_parts(parts: list[list[str]]) -> str:
+    """The text with an empty line between parts."""
     return "\n\n".join("\n".join(part) for part in parts) + "\n"
 
 
@@ -78,18 +94,14 @@ def synopsis() -> str:
     return "\n.br\n".join(re.sub(r"(-V|[a-z-]+)", r"\\fB\1\\fP", line) for line in lines).replace("-", r"\-")
 
 
-def first_of_page() -> list[str]:
-    """Each sentence is on a line of its own, and the name of the command is bold."""
-    name, rest = COMMANDS["first"].split(" ", 1)
-    return [f".B {name}", *re.split(r"(?<=[.]) ", in_troff(rest))]
-
-
 def entries_of_page(entries: list[Entry]) -> Iterator[str]:
-    """Each part of a sentence is on a line of its own, as troff has it."""
+    """Each part of a sentence is on a line of its own, as troff has it. A flag names the commands that take it."""
     for each in entries:
+        takers = [name["name"] for name in COMMANDS["names"] if "usage" not in each and each["name"] in name["words"]]
+        text = f"of {', '.join(takers)}: {each['text']}" if takers else each["text"]
         yield from (".TP", f".B {in_troff(each['name'])}")
-        for part in re.split(r"(?<=[;,]) ", each["text"]):
-            yield in_troff(part)
+        for part in re.split(r"(?<=[.;,]) ", text):
+            yield from wrap(in_troff(part), 79, break_on_hyphens=False)
 
 
 def prototype(function: Entry) -> list[str]:
@@ -141,7 +153,6 @@ def blocks(_document: Format, _info: Format, _report: Format) -> Iterator[Block]
     yield "packaging/modinfo.3", "names", wrap(", ".join(f"modinfo_{name}" for name in NAMES) + ",", 79)
     yield "packaging/modinfo.3", "commands", in_prose(constants)
     yield PAGE, "synopsis", [synopsis()]
-    yield PAGE, "first", first_of_page()
     yield PAGE, "commands", list(entries_of_page(COMMANDS["names"]))
     yield PAGE, "flags", list(entries_of_page(COMMANDS["flags"]))
     yield "bindings/python/src/modinfo/_library.py", "commands", [
@@ -156,10 +167,15 @@ def blocks(_document: Format, _info: Format, _report: Format) -> Iterator[Block]
     ]
 
 
+def of_text(name: str) -> str:
+    """The function of the crate that returns the text of a command's answer."""
+    return "module_info_json" if name == "analyze_source" else f"{name}_json"
+
+
 def in_rust() -> Iterator[str]:
     """The variants of commands, each with the function of the crate that returns the text of its answer."""
     for number, name in BY_NUMBER.items():
-        function = OF_TEXTS.get(name, name)
+        function = of_text(name)
         yield f"    /// [`{function}`](crate::{function})\n    {name.title().replace('_', '')} = {number},"
 
 
@@ -167,20 +183,23 @@ def in_rust_tests() -> Iterator[str]:
     """The function of the crate for the words of each command on documents."""
     for row in OF_DOCUMENTS:
         words, name = " ".join(row["words"]), row["answer"]["function"]
-        yield f'        "{words}" => |document| modinfo::{OF_TEXTS.get(name, name)}(document).map_err(Fault::from),'
+        yield f'        "{words}" => |text| modinfo::{of_text(name)}(text).map_err(Fault::from),'
     for row in OF_DOCUMENTS:
         words = " ".join(["check", *row["words"]])
         # analyze needn't be named.
         patterns = map(json.dumps, dict.fromkeys((words.replace(" analyze", ""), words)))
-        yield f"        {' | '.join(patterns)} => modinfo::{row['check']['function']},"
+        yield f"        {' | '.join(patterns)} => modinfo::{of_text(row['check']['function'])},"
 
 
 def with_help(text: str) -> str:
-    """The text of the file with --help, with the help as it is."""
-    found = re.search(r'pub const HELP: &str = r#"(.*?)"#;', text, re.DOTALL)
-    if not found:
-        raise BuildError(f"{HELP} has no help")
-    return text[: found.start(1)] + help_text() + text[found.end(1) :]
+    """The text of the file with --help: a screen on all commands, and each command's."""
+    texts = {"HELP": overview(), **{f"{each['name'].upper()}_HELP": help_on(each) for each in COMMANDS["names"]}}
+    for name, written in texts.items():
+        found = re.search(rf'pub const {name}: &str =\s+r#"(.*?)"#;', text, re.DOTALL)
+        if not found:
+            raise BuildError(f"{HELP} has no {name}")
+        text = text[: found.start(1)] + written + text[found.end(1) :]
+    return text
 
 
 def symbols(text: str) -> str:

@@ -13,6 +13,7 @@ from formats.typescript import MEDIA_TYPES
 
 CRATE = "crates/deno_graph_source/src/tree/media_type"
 RUST = "bindings/rust/src/media_type.rs"
+GRAPH = "bindings/node/modinfo-graph/src/files/file_kinds.ts"
 
 
 def blocks(_: Format, __: Format, ___: Format) -> Iterator[Block]:
@@ -21,7 +22,9 @@ def blocks(_: Format, __: Format, ___: Format) -> Iterator[Block]:
     yield f"{CRATE}/file_name.rt", f"ENDINGS: [(&str, MediaType); {len(endings)}] =", in_rattle(endings)
     yield f"{CRATE}/data_url.rt", f"MIME_TYPES: [(&str, MediaType); {len(mime_types)}] =", in_rattle(mime_types)
     for name, found in ("endings", endings), ("declarations", declarations), ("MIME types", mime_types):
-        yield MEDIA_TYPES, name, [f'  ["{key}", "{found[key]}"],' for key in found if found[key] != "Json"]
+        of_code = [f'  ["{key}", "{found[key]}"],' for key in found if found[key] != "Json"]
+        yield MEDIA_TYPES, name, of_code
+        yield GRAPH, name, of_code
         yield RUST, name, [f"    ({rust_key(key, name)}, MediaType::{found[key]})," for key in found]
     rows = [[f"`{key}`", f"`{endings[key]}`", *declared(endings[key], declarations)] for key in endings]
     yield PAGE, "endings", table("Ending | Media type | Of declarations", rows)

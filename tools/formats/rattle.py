@@ -1,18 +1,18 @@
-"""Names in Rattle: of the kinds, of the members of objects and nodes, and of the literal of each kind."""
+"""Names in Rattle, in files that are written by hand: of the members of objects and nodes, and of the literal of each
+kind."""
 
 import json
 from collections.abc import Iterator
 
 from formats.blocks import Block
-from formats.schema import Format
+from formats.schema import Format, Schema
 
 CRATE = "crates/modinfo_document/src"
 
 
 def blocks(document: Format, _: Format, __: Format) -> Iterator[Block]:
     kinds = {node["title"]: node["properties"] for node in document.nodes}
-    yield f"{CRATE}/kind.rt", "KINDS: &[&str] =", [f"&{json.dumps([*kinds])}"]
-    roles = {each["x-rattle"]: [*each["properties"]] for each in document.titled() if "x-rattle" in each}
+    roles = {each["x-rattle"]: [*each["properties"]] for each in document.titled() if is_object(each)}
     for role in roles:
         yield f"{CRATE}/names.rt", f"ObjectKind::{role} =>", [f"&{json.dumps(roles[role])},"]
     members = {kind: f"&{json.dumps([*kinds[kind]])}" for kind in kinds}
@@ -21,6 +21,10 @@ def blocks(document: Format, _: Format, __: Format) -> Iterator[Block]:
     for kind, parts in kinds.items():
         literal |= {kind: f'Some("{name}")' for name in parts if '$defs/literal"' in json.dumps(parts[name])}
     yield f"{CRATE}/report/warnings.rt", "match kind {", arms(literal)
+
+
+def is_object(schema: Schema) -> bool:
+    return "x-rattle" in schema and "properties" in schema
 
 
 def arms(values: dict[str, str]) -> list[str]:

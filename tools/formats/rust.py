@@ -39,13 +39,23 @@ class Rust(Language):
         "string": "String",
         "boolean": "bool",
         "array": "Vec<{}>",
-        "object": "HashMap<String, {}>",
+        "object": "BTreeMap<String, {}>",
         "pair": "{{ {1} }}",
+    }
+
+    # The types that a later version may add variants or fields to: enums of names, and all that only the library makes.
+    # deno_graph's structs are made by their fields, and so have no others.
+    GROWING = {
+        *("StaticDependencyKind", "DynamicDependencyKind", "NodeKind", "Callee", "ImportPhase"),
+        *("ReportWarning", "ValidReport", "TextPlace", "FaultReport"),
     }
 
     def __init__(self, of: Format) -> None:
         super().__init__(of)
         self.declared |= {*self.DECLARED.get(of.path, {})}
+
+    def attributes(self, name: str, traits: str) -> list[str]:
+        return [f"#[derive({traits})]", *["#[non_exhaustive]"] * (name in self.GROWING)]
 
     def module(self) -> str:
         """The text with the imports that it needs."""
@@ -55,7 +65,7 @@ class Rust(Language):
         helpers = f"{{{helpers}}}" if ", " in helpers else helpers
         imports = [f"use crate::{declared[name]}::{name};" for name in declared]
         imports += [f"use crate::information::{helpers};", "use serde::{Deserialize, Serialize};"]
-        imports += ["use std::collections::HashMap;"] * ("HashMap<" in text)
+        imports += ["use std::collections::BTreeMap;"] * ("BTreeMap<" in text)
         return "\n".join([head, "", *sorted(imports), text])
 
     def name(self, schema: Schema) -> str:
@@ -80,7 +90,7 @@ class Rust(Language):
         else:
             form, options, body = "enum", [RENAME, *self.representation(schema)], self.variant_lines(schema)
             traits = "Copy, " * bool(literals(schema)) + TRAITS + ", Default" * ("    #[default]" in body)
-        head = [*filled(schema["description"], "/// ", WIDTH), f"#[derive({traits})]"]
+        head = [*filled(schema["description"], "/// ", WIDTH), *self.attributes(name, traits)]
         return [*head, f"#[serde({', '.join(options)})]", f"pub {form} {name} {{", *body, "}"]
 
     def node(self, name: str) -> list[str]:
@@ -90,7 +100,8 @@ class Rust(Language):
         about = filled(self.format.node["description"], "/// ", WIDTH)
         lines = [*about, f"#[derive({TRAITS})]", f"pub struct {name} {{", *self.fields(schema, "    pub ")]
         lines += ["    /// The kind, with its members.", "    #[serde(flatten)]", "    pub kind: NodeKind,", "}", ""]
-        lines += ["/// The kind of a node, with the members that nodes of this kind have.", f"#[derive({TRAITS})]"]
+        lines += ["/// The kind of a node, with the members that nodes of this kind have."]
+        lines += self.attributes("NodeKind", TRAITS)
         lines += ['#[serde(tag = "kind")]', "pub enum NodeKind {"]
         for node in self.format.nodes:
             own = {key: member for key, member in node["properties"].items() if key not in self.format.shared}

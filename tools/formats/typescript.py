@@ -6,16 +6,17 @@ from formats.blocks import Block
 from formats.language import Language, filled
 from formats.schema import Format, Schema
 
-NODE = "bindings/node/src"
+NODE = "bindings/node/modinfo/src/types"
+REPORT = "bindings/node/modinfo-report/src"
 MEDIA_TYPES = "bindings/node/tests/equipment/document/media_types.mjs"
 WIDTH = 100
 
 
 class TypeScript(Language):
     FILES = {
-        "document": f"{NODE}/document/module_document.d.cts",
-        "module-info": f"{NODE}/document/module_info.d.cts",
-        "report": f"{NODE}/runtime/check_report.d.cts",
+        "document": f"{NODE}/module_document.cts",
+        "module-info": f"{NODE}/module_info.cts",
+        "report": f"{NODE}/check_report.cts",
     }
     WORDS = {
         "integer": "number",
@@ -65,5 +66,5 @@ def blocks(document: Format, info: Format, _: Format) -> Iterator[Block]:
     yield MEDIA_TYPES, "media types", [f'  "{name}",' for name in media_types]
     members = info.root["properties"]
     pragmas = [name for name in members if members[name].get("$ref") == "#/$defs/specifier"]
-    lines = ["const PRAGMAS = [", *(f'  "{name}",' for name in pragmas), "];"]
-    yield f"{NODE}/report/rows.mjs", "pragmas", lines
+    lines = ["const PRAGMAS = [", *(f'  "{name}",' for name in pragmas), "] as const;"]
+    yield f"{REPORT}/rows.ts", "pragmas", lines

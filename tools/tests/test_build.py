@@ -140,6 +140,8 @@ def test_library(repository: Repository) -> None:
     (repository.folder / "build/libmodinfo.so").unlink()
     assert repository.run(script) == (0, "", last)
     assert {path.name for path in (repository.folder / "build").glob("lib*")} >= {"libmodinfo.a", "libmodinfo.so"}
+    source = (repository.folder / "crates/modinfo_c/src/lib.rt").read_text()
+    assert (repository.folder / "build/libmodinfo.bc").read_text() == source
     repository.ask("short", "exit 1")
     repository.change("short/src/lib.rt")
     assert repository.run(script)[0] == 1
@@ -195,9 +197,11 @@ def test_what_rt_ci_has_proved(repository: Repository) -> None:
         (crates / crate / "out/rlib").symlink_to(repository.folder / "build/crates")
     (crates / "modinfo_cli/out").mkdir()
     (repository.folder / "build/modinfo").rename(crates / "modinfo_cli/out/modinfo_cli")
+    repository.write("crates/test_replay/out/test_replay", "a program")
     copy_tracked(repository, ".ci/keep_proved")
     repository.runs()
-    assert repository.run(".ci/keep_proved") == (0, "", "")
+    assert repository.run(".ci/keep_proved", ".") == (0, "", "")
+    assert (repository.folder / "build/test_replay").read_text() == "a program"
     assert repository.runs() == ["modinfo_c 1", "modinfo_c 1"]
     assert repository.is_proved()
     for words in [], ["--target", "aarch64"]:

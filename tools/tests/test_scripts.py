@@ -1,4 +1,4 @@
-"""Tests the help of each script, tools/mutations and tools/set_version."""
+"""Tests the help of each script, and tools/set_version."""
 
 import re
 import subprocess
@@ -12,8 +12,10 @@ VERSION = (ROOT / "VERSION").read_text().strip()
 
 def has_help(name: str) -> bool:
     """Whether it is a script that a person starts. The words of tools/try_modinfo are those of modinfo; node --test
-    tests the commands of the package for node, and analyze.py needs Dask."""
-    others = r"/tests/|^packaging/(aarch64|debian)/|^bindings/node/src/|^tools/try_modinfo$|/cluster/analyze.py$"
+    tests the commands of the package for node; analyze.py needs Dask, and job.py the package for Python."""
+    others = (
+        r"/tests/|^packaging/(aarch64|debian)/|^bindings/node/modinfo|^tools/try_modinfo$|/analyze.py$|^examples/job/"
+    )
     return not re.search(others, name) and (ROOT / name).read_bytes()[:3] == b"#!/"
 
 
@@ -41,44 +43,17 @@ def test_scripts_are_found() -> None:
     assert len(SCRIPTS) >= 40
 
 
-@pytest.fixture
-def mutations(repository: Repository) -> Repository:
-    """A clone with three crates, of which two have mutations that CI leaves out, and an rt that prints those that it
-    tries."""
-    for crate in "short", "long", "lowest":
-        repository.write(f"crates/{crate}/must-fail/tried.edit", "")
-    for crate in "short", "long":
-        repository.write(f"crates/{crate}/must-fail-rest/{crate}.edit", "")
-    copy_tracked(repository, "tools/mutations", "tools/help.bash")
-    repository.put_program(
-        repository.room / "kit/rt", '#!/bin/sh\necho "$@"\nls crates/*/must-fail/*\nexit "${STATUS:-0}"\n'
-    )
-    for words in ["init", "-q"], ["add", "."], ["-c", "user.name=a", "-c", "user.email=a", "commit", "-qm", "A test"]:
-        repository.run("git", *words)
-    return repository
-
-
-@pytest.mark.parametrize(
-    ("words", "status", "printed"),
-    [
-        ([], 0, "ci long short\ncrates/long/must-fail/long.edit\ncrates/short/must-fail/short.edit\n"),
-        (["short"], 0, "ci short\ncrates/short/must-fail/short.edit\n"),
-        (["short"], 1, "ci short\ncrates/short/must-fail/short.edit\n"),
-        (["lowest"], 2, "tools/mutations: crates/lowest/must-fail-rest: no such folder\n"),
-    ],
-)
-def test_mutations(mutations: Repository, words: list[str], status: int, printed: str) -> None:
-    found, output, errors = mutations.run("tools/mutations", *words, STATUS=str(status))
-    assert (found, output + errors) == (status, printed)
-    assert mutations.run("git", "status", "--porcelain") == (0, "", "")
-
-
 # How often the version is in the files of the packages for npm and of the tests of the program.
 VERSIONED = {
-    "bindings/node/package.json": 3,
+    "bindings/node/package.json": 1,
+    "bindings/node/modinfo/package.json": 1,
+    "bindings/node/modinfo-graph/package.json": 4,
+    "bindings/node/modinfo-report/package.json": 2,
     "bindings/node/linux-arm64/package.json": 1,
     "bindings/node/linux-x64/package.json": 1,
-    "bindings/node/README.md": 3,
+    "bindings/node/modinfo/README.md": 1,
+    "bindings/node/modinfo-graph/README.md": 4,
+    "bindings/node/modinfo-report/README.md": 3,
     "crates/test_replay/data/program.rows": 2,
 }
 
