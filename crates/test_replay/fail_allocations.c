@@ -2,9 +2,10 @@
 //
 // At each allocation the program is forked. In the child the allocation fails (where FAIL_ALL is set,
 // every later one too), and the child runs to its end. Its output is kept, and the parent goes on with
-// the memory. Where PARTS is set, only the allocations fail whose number modulo PARTS is PART. When the
-// parent ends, it writes to the file descriptor REPORT a line with the number of allocations, and then
-// each different output of a child, once:
+// the memory. Where PARTS is set, only the allocations fail whose number modulo PARTS is PART. After the
+// first ALL_UP_TO only a third fail, by a hash of their numbers: a plain third would miss a call in a loop
+// that allocates three times a turn. When the parent ends, it writes to the file descriptor REPORT a line
+// with the number of allocations, and then each different output of a child, once:
 //
 //     requests NUMBER
 //     answer REQUEST COUNT STATUS LENGTH LENGTH
@@ -23,7 +24,7 @@
 #include <sys/wait.h>
 #include <unistd.h>
 
-enum { SECONDS = 60, ANSWERS = 64, LONGEST = 1 << 16, DESCRIPTORS = 64 };
+enum { SECONDS = 60, ALL_UP_TO = 1000, ANSWERS = 64, LONGEST = 1 << 16, DESCRIPTORS = 64 };
 
 struct answer {
     long request, count;
@@ -129,13 +130,18 @@ static void note(int status, const int copies[2]) {
     }
 }
 
+// Whether an allocation is one of those that fail.
+static int is_chosen(long request) {
+    return request % parts == part && (request <= ALL_UP_TO || ((uint32_t)request * 2654435761u >> 16) % 3 == 0);
+}
+
 // Whether the allocation fails in this process.
 static int has_to_fail(void) {
     if (succeeds)
         return 0;
     if (is_child)
         return fails_all;
-    if (++requests % parts != part)
+    if (!is_chosen(++requests))
         return 0;
     succeeds = 1;
     int status, copies[2] = {copy_of(1), copy_of(2)};

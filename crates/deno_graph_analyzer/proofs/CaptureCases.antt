@@ -1,25 +1,6 @@
 -- The two cases of a call of a capturing parser: it returns the stored source, or calls the parser.
-use Rattle.std.proofs.Common.{
-  ◌≡◌,
-  ℕ,
-  ◌+◌,
-  ◌≤◌,
-  ◌⊎◌,
-  inr,
-  Bool,
-  Some,
-  Result,
-  Ok,
-  Err,
-  IfSome,
-  IfOk,
-  OnErr,
-  sym,
-  ap,
-  subst,
-  ◌∙◌,
-  arith,
-}
+use Rattle.std.proofs.Common.{◌≡◌, ℕ, ◌+◌, ◌≤◌, ◌⊎◌, inr, Bool, Some, Result, Ok, Err, IfSome, IfOk, OnErr}
+use Rattle.std.proofs.Common.{sym, ap, subst, ◌∙◌, arith}
 use Rattle.deno_graph_source.specs.ParsedSource.{ParsedModule}
 use Rattle.deno_graph_analyzer.specs.Captures.{State, IsSoundState, Captures}
 use Rattle.deno_graph_analyzer.specs.Capturing.{IsFaithful, MatchesInput, HasSourceFor, after_look_up}
@@ -27,13 +8,8 @@ use Rattle.deno_graph_analyzer.specs.Parsing.{ParseFunction, ResultRelation, Inp
 use Rattle.deno_graph_analyzer.specs.Sources.{Sources, source_at, with_source}
 use Rattle.deno_graph_source.specs.declared.tree.parse_error.ParseError.{ParseError}
 use Rattle.deno_graph_source.specs.declared.tree.parse_error.ParseError.TheVariants.{OutOfMemory}
-use Rattle.deno_graph_analyzer.proofs.Captured.{
-  stored_before,
-  stored_after,
-  faithful_asked,
-  faithful_answer,
-  faithful_after,
-}
+use Rattle.deno_graph_analyzer.proofs.Captured.{stored_before, stored_after, faithful_asked, faithful_answer}
+use Rattle.deno_graph_analyzer.proofs.Captured.{faithful_after}
 
 err_weaker : {X E A B : Type 0} (result : Result X E) → (A → B) → OnErr result A → OnErr result B
 err_weaker (Ok x) f err = tt

@@ -1,37 +1,11 @@
 -- A store after a look-up, and after a new source is stored.
-use Rattle.std.proofs.Common.{
-  ◌≡◌,
-  ℕ,
-  Bool,
-  true,
-  false,
-  cond,
-  List,
-  Option,
-  Some,
-  None,
-  Result,
-  Ok,
-  Err,
-  IfOk,
-  OnErr,
-  refl,
-  sym,
-  ap,
-  subst,
-  ◌∙◌,
-}
+use Rattle.std.proofs.Common.{◌≡◌, ℕ, Bool, true, false, cond, List, Option, Some, None, Result, Ok, Err}
+use Rattle.std.proofs.Common.{IfOk, OnErr, refl, sym, ap, subst, ◌∙◌}
 use Rattle.std.specs.Str.{bytes_eq}
 use Rattle.deno_graph_source.specs.ParsedSource.{ParsedModule, marked}
 use Rattle.deno_graph_analyzer.specs.Capturing.{IsFaithful, MatchesInput, HasSourceFor, after_look_up}
-use Rattle.deno_graph_analyzer.specs.Parsing.{
-  ParseFunction,
-  Input,
-  IsParsed,
-  IsParseResult,
-  input_of,
-  input_under,
-}
+use Rattle.deno_graph_analyzer.specs.Parsing.{ParseFunction, Input, IsParsed, IsParseResult, input_of}
+use Rattle.deno_graph_analyzer.specs.Parsing.{input_under}
 use Rattle.deno_graph_analyzer.specs.Sources.{Sources, source_at, with_source, with_mark_of}
 use Rattle.deno_graph_source.specs.declared.tree.parse_error.ParseError.{ParseError}
 use Rattle.deno_graph_analyzer.proofs.StoredSources.{source_at-with_source, equal_text}

@@ -1,34 +1,7 @@
 -- From a sound state, the answers of a capturing analyzer are those of the parser alone.
-use Rattle.std.proofs.Common.{
-  ◌≡◌,
-  ℕ,
-  ◌+◌,
-  ◌≤◌,
-  Bool,
-  true,
-  false,
-  not,
-  ◌&&◌,
-  cond,
-  inl,
-  inr,
-  List,
-  [],
-  ◌∷◌,
-  Option,
-  Some,
-  None,
-  option_map,
-  Result,
-  Ok,
-  Err,
-  refl,
-  sym,
-  ap,
-  subst,
-  ◌∙◌,
-  arith,
-}
+use Rattle.std.proofs.Common.{◌≡◌, ℕ, ◌+◌, ◌≤◌, Bool, true, false, not, ◌&&◌, cond, inl, inr, List, [], ◌∷◌}
+use Rattle.std.proofs.Common.{Option, Some, None, option_map, Result, Ok, Err, refl, sym, ap, subst, ◌∙◌}
+use Rattle.std.proofs.Common.{arith}
 use denote.Enum.Bare.{same_true, true_same}
 use Rattle.std.specs.Option.{option_or}
 use Rattle.std.specs.Rc.{rc_str_bytes}
@@ -38,41 +11,20 @@ use Rattle.deno_graph_source.specs.contracts.tree.media_type.MediaType.{the_type
 use Rattle.deno_graph_source.specs.contracts.tree.media_type.MediaTypePartialEq.TheImpl as media_types
 use Rattle.deno_graph_info.specs.declared.analysis.module_info.ModuleInfo.{ModuleInfo}
 use Rattle.deno_graph_analyzer.specs.Capturing.{IsFaithful, MatchesInput, HasSourceFor, after_look_up}
-use Rattle.deno_graph_analyzer.specs.Parsing.{
-  ParseFunction,
-  ResultRelation,
-  Input,
-  IsParsed,
-  IsParseResult,
-  input_under,
-  specifier_text,
-}
+use Rattle.deno_graph_analyzer.specs.Parsing.{ParseFunction, ResultRelation, Input, IsParsed, IsParseResult}
+use Rattle.deno_graph_analyzer.specs.Parsing.{input_under, specifier_text}
 use Rattle.deno_graph_analyzer.specs.Sources.{Sources, source_at, without_source}
 use Rattle.deno_graph_source.specs.declared.tree.parse_error.ParseDiagnostic.{ParseDiagnostic}
 use Rattle.deno_graph_source.specs.declared.tree.parse_error.ParseError.{ParseError}
 use Rattle.deno_graph_source.specs.declared.tree.parse_error.ParseError.TheVariants as parse
 use Rattle.deno_graph_analyzer.proofs.Analyses.{analysis_of_outcome}
-use Rattle.deno_graph_analyzer.proofs.StoredSources.{
-  source_at-with_source,
-  source_at-without,
-  equal_text,
-  same_text,
-}
+use Rattle.deno_graph_analyzer.proofs.StoredSources.{source_at-with_source, source_at-without, equal_text}
+use Rattle.deno_graph_analyzer.proofs.StoredSources.{same_text}
 use Rattle.deno_graph_analyzer.proofs.Captured.{MayBeMarked, as_before, now_marked, look_up_marks}
 use Rattle.deno_graph_analyzer.specs.Analysis.{IsAnalysisOf}
 use Rattle.deno_graph_analyzer.specs.Captures.{State, IsSoundState, Captures}
-use Rattle.deno_graph_analyzer.specs.Commands.{
-  Unmarked,
-  unmarked,
-  source_of_outcome,
-  input,
-  latest,
-  has_text,
-  is_miss,
-  misses,
-  IsAnswer,
-  AreAnswers,
-}
+use Rattle.deno_graph_analyzer.specs.Commands.{Unmarked, unmarked, source_of_outcome, input, latest, has_text}
+use Rattle.deno_graph_analyzer.specs.Commands.{is_miss, misses, IsAnswer, AreAnswers}
 use Rattle.deno_graph_analyzer.specs.Runs.{with_error, Ran, Runs}
 use Rattle.deno_graph_analyzer.specs.declared.analyzer.AnalyzeError.TheVariants as analyze
 use Rattle.deno_graph_analyzer.specs.declared.run.Command.{Command}

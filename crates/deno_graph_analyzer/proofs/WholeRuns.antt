@@ -1,27 +1,6 @@
 -- Runs of commands: a run with one more command, and what stays true through a run.
-use Rattle.std.proofs.Common.{
-  ◌≡◌,
-  ℕ,
-  ◌⊎◌,
-  inl,
-  inr,
-  List,
-  [],
-  ◌∷◌,
-  ◌++◌,
-  None,
-  option_map,
-  Result,
-  Ok,
-  Err,
-  IfOk,
-  OnErr,
-  refl,
-  sym,
-  ap,
-  subst,
-  ◌∙◌,
-}
+use Rattle.std.proofs.Common.{◌≡◌, ℕ, ◌⊎◌, inl, inr, List, [], ◌∷◌, ◌++◌, None, option_map, Result, Ok, Err}
+use Rattle.std.proofs.Common.{IfOk, OnErr, refl, sym, ap, subst, ◌∙◌}
 use Rattle.std.specs.Cmp.Lexicographic.{slice_cmp}
 use Rattle.std.specs.FinMap.{get-empty}
 use Rattle.std.specs.Ordering.{nat_cmp}

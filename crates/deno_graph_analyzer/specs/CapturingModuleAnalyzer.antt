@@ -1,9 +1,7 @@
 -- The parser and the store of a `CapturingModuleAnalyzer`.
 use Rattle.deno_graph_analyzer.specs.Captures.{State, state}
 use Rattle.deno_graph_analyzer.specs.Sources.{Sources}
-use Rattle.deno_graph_analyzer.specs.declared.capturing.CapturingModuleAnalyzer.{
-  CapturingModuleAnalyzer,
-}
+use Rattle.deno_graph_analyzer.specs.declared.capturing.CapturingModuleAnalyzer.{CapturingModuleAnalyzer}
 
 module _ {P S : Type 0} where
   abbrev pub parser_of : CapturingModuleAnalyzer P S → P

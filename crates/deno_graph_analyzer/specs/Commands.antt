@@ -1,23 +1,6 @@
 -- Commands, and the answers that the parser alone would give to a list of commands.
-use Rattle.std.specs.Prelude.{
-  ◌≡◌,
-  ℕ,
-  ◌+◌,
-  Bool,
-  false,
-  not,
-  ◌&&◌,
-  if◌then◌else◌,
-  List,
-  [],
-  ◌∷◌,
-  Option,
-  Some,
-  None,
-  option_map,
-  Ok,
-  Err,
-}
+use Rattle.std.specs.Prelude.{◌≡◌, ℕ, ◌+◌, Bool, false, not, ◌&&◌, if◌then◌else◌, List, [], ◌∷◌, Option, Some}
+use Rattle.std.specs.Prelude.{None, option_map, Ok, Err}
 use Rattle.std.specs.Option.{option_or}
 use Rattle.std.specs.Rc.{rc_str_bytes}
 use Rattle.std.specs.Str.{bytes_eq}
@@ -27,16 +10,8 @@ use Rattle.deno_graph_source.specs.ParsedSource.{ParsedModule}
 use Rattle.deno_graph_source.specs.declared.tree.media_type.MediaType.{MediaType}
 use Rattle.deno_graph_source.specs.contracts.tree.media_type.MediaTypePartialEq.TheImpl as media_types
 use Rattle.deno_graph_source.specs.declared.tree.node.Program.{Program}
-use Rattle.deno_graph_analyzer.specs.Parsing.{
-  ParseFunction,
-  Input,
-  Outcome,
-  parsed,
-  rejected,
-  specifier_text,
-  input_of,
-  IsParsed,
-}
+use Rattle.deno_graph_analyzer.specs.Parsing.{ParseFunction, Input, Outcome, parsed, rejected, specifier_text}
+use Rattle.deno_graph_analyzer.specs.Parsing.{input_of, IsParsed}
 use Rattle.deno_graph_analyzer.specs.Sources.{Sources, source_at}
 use Rattle.deno_graph_analyzer.specs.Analysis.{IsInfoOf}
 use Rattle.deno_graph_analyzer.specs.declared.run.Command.{Command}

@@ -1,42 +1,7 @@
 -- Positions by the bytes of a text: the line feeds, and the first bytes of characters since the last.
-use Rattle.std.proofs.Common.{
-  ◌≡◌,
-  ◌≢◌,
-  ℕ,
-  zero,
-  suc,
-  ◌+◌,
-  ◌-◌,
-  ◌/◌,
-  ◌<◌,
-  ◌≤◌,
-  inl,
-  inr,
-  Bool,
-  true,
-  false,
-  cond,
-  ◌==◌,
-  List,
-  [],
-  ◌∷◌,
-  ◌++◌,
-  length,
-  take,
-  drop,
-  count_by,
-  slice_index,
-  refl,
-  sym,
-  ap,
-  ◌∙◌,
-  arith,
-  max,
-  drop-cons,
-  append_assoc,
-  length-drop,
-  ltb,
-}
+use Rattle.std.proofs.Common.{◌≡◌, ◌≢◌, ℕ, zero, suc, ◌+◌, ◌-◌, ◌/◌, ◌<◌, ◌≤◌, inl, inr, Bool, true, false}
+use Rattle.std.proofs.Common.{cond, ◌==◌, List, [], ◌∷◌, ◌++◌, length, take, drop, count_by, slice_index}
+use Rattle.std.proofs.Common.{refl, sym, ap, ◌∙◌, arith, max, drop-cons, append_assoc, length-drop, ltb}
 use Rattle.std.proofs.lemmas.Bool.{cases_Bool, cases_lt}
 use Rattle.std.proofs.lemmas.Bool.Decides.{nat_tests}
 use Rattle.std.proofs.lemmas.List.{append-nil, take-append-drop, get_or-drop}

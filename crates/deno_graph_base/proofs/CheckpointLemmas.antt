@@ -1,34 +1,7 @@
 -- Lists of checkpoints in ascending order, and the offsets within their reach.
-use Rattle.std.proofs.Common.{
-  ◌≡◌,
-  ℕ,
-  ◌+◌,
-  ◌-◌,
-  ◌<◌,
-  ◌≤◌,
-  inl,
-  inr,
-  Bool,
-  true,
-  false,
-  List,
-  [],
-  ◌∷◌,
-  ◌++◌,
-  length,
-  get_or,
-  zero,
-  suc,
-  All,
-  not,
-  refl,
-  sym,
-  ap,
-  ◌∙◌,
-  subst,
-  arith,
-  length-append,
-}
+use Rattle.std.proofs.Common.{◌≡◌, ℕ, ◌+◌, ◌-◌, ◌<◌, ◌≤◌, inl, inr, Bool, true, false, List, [], ◌∷◌, ◌++◌}
+use Rattle.std.proofs.Common.{length, get_or, zero, suc, All, not, refl, sym, ap, ◌∙◌, subst, arith}
+use Rattle.std.proofs.Common.{length-append}
 use Rattle.std.proofs.lemmas.Bool.{cases_lt, cases_Bool, false≢true}
 use Rattle.std.proofs.lemmas.List.{get_or_append_left, get_or_push, get_or_default}
 use Rattle.std.proofs.lemmas.List.Elements.{All-append}
@@ -41,12 +14,8 @@ use Rattle.deno_graph_base.specs.Position.{IsAt, IsBefore, position_at}
 use Rattle.deno_graph_base.specs.declared.text.cursor.Cursor.{Cursor}
 use Rattle.deno_graph_base.specs.declared.text.position.Position.{Position}
 use Rattle.deno_graph_base.proofs.CursorLemmas.{before_from_lt}
-use Rattle.deno_graph_base.proofs.PositionLemmas.{
-  IsBefore-trans,
-  IsBefore-irreflexive,
-  is_before-true,
-  is_before-from,
-}
+use Rattle.deno_graph_base.proofs.PositionLemmas.{IsBefore-trans, IsBefore-irreflexive, is_before-true}
+use Rattle.deno_graph_base.proofs.PositionLemmas.{is_before-from}
 
 -- the cursors at or before `wanted` are before the others
 pub partitioned : (text : List ℕ) (cursors : List Cursor) (wanted : Position) → IsUtf8 text

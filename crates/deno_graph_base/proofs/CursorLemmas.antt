@@ -1,49 +1,12 @@
 -- Boundaries of a text, with the characters before and after them.
-use Rattle.std.proofs.Common.{
-  ◌≡◌,
-  ℕ,
-  zero,
-  suc,
-  ◌+◌,
-  ◌-◌,
-  ◌<◌,
-  ◌≤◌,
-  inl,
-  inr,
-  List,
-  [],
-  ◌∷◌,
-  ◌++◌,
-  length,
-  take,
-  drop,
-  refl,
-  sym,
-  ap,
-  ◌∙◌,
-  subst,
-  arith,
-  length-append,
-  length-drop,
-  append_assoc,
-}
+use Rattle.std.proofs.Common.{◌≡◌, ℕ, zero, suc, ◌+◌, ◌-◌, ◌<◌, ◌≤◌, inl, inr, List, [], ◌∷◌, ◌++◌, length}
+use Rattle.std.proofs.Common.{take, drop, refl, sym, ap, ◌∙◌, subst, arith, length-append, length-drop}
+use Rattle.std.proofs.Common.{append_assoc}
 use Rattle.std.proofs.lemmas.Bool.{cases_lt}
 use Rattle.std.proofs.lemmas.List.{length-take-le, take-append-drop, take-append-le, take_all, append-nil}
-use Rattle.std.proofs.lemmas.Str.{
-  IsCharBoundary-start,
-  IsCharBoundary-past_char,
-  IsUtf8-take,
-  IsUtf8-drop,
-  IsUtf8-between,
-  chars-append,
-  chars_past_char,
-  chars-nil,
-  encodes-chars,
-  encode_same,
-  length-encode,
-  length-le-encodes,
-  len_utf8_bounds,
-}
+use Rattle.std.proofs.lemmas.Str.{IsCharBoundary-start, IsCharBoundary-past_char, IsUtf8-take, IsUtf8-drop}
+use Rattle.std.proofs.lemmas.Str.{IsUtf8-between, chars-append, chars_past_char, chars-nil, encodes-chars}
+use Rattle.std.proofs.lemmas.Str.{encode_same, length-encode, length-le-encodes, len_utf8_bounds}
 use Rattle.std.proofs.Math.Seq.{take-add}
 use Rattle.std.specs.Char.{len_utf8}
 use Rattle.std.specs.Cmp.{nat_cmp_is}
@@ -55,16 +18,9 @@ use Rattle.deno_graph_base.specs.internal.Cursor.{IsCursor}
 use Rattle.deno_graph_base.specs.Position.{HasPosition, IsBefore, position_at, position_of}
 use Rattle.deno_graph_base.specs.declared.text.cursor.Cursor.{Cursor}
 use Rattle.deno_graph_base.specs.declared.text.position.Position.{Position}
-use Rattle.deno_graph_base.proofs.PositionLemmas.{
-  line_of-le,
-  character_of-le,
-  before_longer,
-  IsBefore-irreflexive,
-  position_cmp,
-  position_cmp-before,
-  position_cmp-after,
-  position_cmp-same,
-}
+use Rattle.deno_graph_base.proofs.PositionLemmas.{line_of-le, character_of-le, before_longer}
+use Rattle.deno_graph_base.proofs.PositionLemmas.{IsBefore-irreflexive, position_cmp, position_cmp-before}
+use Rattle.deno_graph_base.proofs.PositionLemmas.{position_cmp-after, position_cmp-same}
 
 -- a boundary has at most as many characters before it as bytes
 pub chars_le : (text : List ℕ) (offset : ℕ) → IsUtf8 text → IsCharBoundary text offset

@@ -1,54 +1,13 @@
 -- The lossy text of a string, and of strings without surrogates and empty strings.
-use Rattle.std.proofs.Common.{
-  ◌≡◌,
-  ℕ,
-  ◌+◌,
-  ◌<◌,
-  Bool,
-  true,
-  false,
-  not,
-  ◌&&◌,
-  List,
-  [],
-  ◌∷◌,
-  map,
-  length,
-  get_or,
-  nat_eq,
-  nat_le,
-  nat_lt,
-  encode_utf8_all,
-  Some,
-  None,
-  refl,
-  sym,
-  ap,
-  subst,
-  cond,
-  ◌∙◌,
-  ⊎_elim,
-  arith,
-}
+use Rattle.std.proofs.Common.{◌≡◌, ℕ, ◌+◌, ◌<◌, Bool, true, false, not, ◌&&◌, List, [], ◌∷◌, map, length}
+use Rattle.std.proofs.Common.{get_or, nat_eq, nat_le, nat_lt, encode_utf8_all, Some, None, refl, sym, ap}
+use Rattle.std.proofs.Common.{subst, cond, ◌∙◌, ⊎_elim, arith}
 use Rattle.std.specs.Char.{IsScalar, len_utf8}
 use Rattle.std.specs.Char.Utf16.{is_high_surrogate}
 use Rattle.std.specs.List.{AllByRecursion, list_all}
 use Rattle.std.specs.Str.{chars, IsUtf8, all_scalars}
-use Rattle.std.proofs.lemmas.Bool.{
-  and_parts,
-  and_from,
-  ltb-true,
-  lt-ltb,
-  le-ltb,
-  lt-leb,
-  false≢true,
-  cases_lt,
-  cases_Bool,
-  eq-eqb,
-  ne_eqb,
-  not-true,
-  false_from_ne_true,
-}
+use Rattle.std.proofs.lemmas.Bool.{and_parts, and_from, ltb-true, lt-ltb, le-ltb, lt-leb, false≢true}
+use Rattle.std.proofs.lemmas.Bool.{cases_lt, cases_Bool, eq-eqb, ne_eqb, not-true, false_from_ne_true}
 use Rattle.std.proofs.lemmas.Bool.Decides.{same_from_decides, Decides-like, Decides-and, Decides-eqb}
 use Rattle.std.proofs.lemmas.List.{get_or_past}
 use Rattle.std.proofs.lemmas.Slice.Eq.{slice_eq-Decides, bytes_eq-Decides}
@@ -57,14 +16,8 @@ use Rattle.std.specs.Cmp.Lexicographic.{pointwise}
 use Rattle.std.proofs.lemmas.List.Elements.{All-from_recursion, recursion_from_All}
 use Rattle.std.proofs.lemmas.Str.{chars-nil, chars-encodes, encodes-chars, scalars-chars, len_utf8_bounds}
 use Rattle.std.proofs.Math.Utf8.{scalar_cases}
-use Rattle.deno_graph_base.specs.JsString.{
-  is_surrogate,
-  lossy_char,
-  lossy_text,
-  readable_text,
-  IsReadable,
-  IsPaired,
-}
+use Rattle.deno_graph_base.specs.JsString.{is_surrogate, lossy_char, lossy_text, readable_text, IsReadable}
+use Rattle.deno_graph_base.specs.JsString.{IsPaired}
 use Rattle.deno_graph_base.specs.internal.StoredString.{lone_from, points_from, points_of, IsStored}
 
 -- a character is no surrogate

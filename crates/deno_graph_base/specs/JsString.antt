@@ -1,27 +1,6 @@
 -- JavaScript strings: lists of code points, some of which may be surrogates.
-use Rattle.std.specs.Prelude.{
-  ◌≡◌,
-  ℕ,
-  ◌+◌,
-  Bool,
-  false,
-  not,
-  ◌&&◌,
-  List,
-  [],
-  ◌∷◌,
-  map,
-  All,
-  IsTrue,
-  nat_le,
-  nat_lt,
-  slice_index,
-  if◌then◌else◌,
-  encode_utf8_all,
-  Option,
-  Some,
-  None,
-}
+use Rattle.std.specs.Prelude.{◌≡◌, ℕ, ◌+◌, Bool, false, not, ◌&&◌, List, [], ◌∷◌, map, All, IsTrue, nat_le}
+use Rattle.std.specs.Prelude.{nat_lt, slice_index, if◌then◌else◌, encode_utf8_all, Option, Some, None}
 use Rattle.std.specs.Char.Utf16.{is_high_surrogate, is_low_surrogate, surrogate_pair_char}
 use Rattle.std.specs.List.{list_all}
 

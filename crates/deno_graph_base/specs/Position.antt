@@ -1,17 +1,5 @@
 -- Positions in a text: a line and a character, both counted from zero.
-use Rattle.std.specs.Prelude.{
-  ◌≡◌,
-  ◌==◌,
-  ◌<◌,
-  ◌⊎◌,
-  ◌++◌,
-  ℕ,
-  List,
-  length,
-  take,
-  count_by,
-  encode_utf8_all,
-}
+use Rattle.std.specs.Prelude.{◌≡◌, ◌==◌, ◌<◌, ◌⊎◌, ◌++◌, ℕ, List, length, take, count_by, encode_utf8_all}
 use Rattle.std.specs.List.{after_last}
 use Rattle.std.specs.Str.{IsCharBoundary, chars}
 use Rattle.deno_graph_base.specs.declared.text.position.Position.{Position}

@@ -3,13 +3,9 @@ use Rattle.std.specs.Prelude.{ℕ, List, Option, Some, None, codes, if◌then◌
 use Rattle.std.specs.Str.{bytes_eq}
 use Rattle.deno_graph_base.specs.declared.values.resolution_mode.ResolutionMode.{ResolutionMode}
 use Rattle.deno_graph_base.specs.declared.values.resolution_mode.ResolutionMode.TheVariants as graph
-use Rattle.deno_graph_base.specs.declared.values.resolution_mode.TypeScriptTypesResolutionMode.{
-  TypeScriptTypesResolutionMode,
-}
-use Rattle.deno_graph_base.specs.declared.values.resolution_mode.TypeScriptTypesResolutionMode.TheVariants.{
-  Require,
-  Import,
-}
+use Rattle.deno_graph_base.specs.declared.values.resolution_mode.TypeScriptTypesResolutionMode.{TypeScriptTypesResolutionMode}
+use Rattle.deno_graph_base.specs.declared.values.resolution_mode.TypeScriptTypesResolutionMode.TheVariants.{Require}
+use Rattle.deno_graph_base.specs.declared.values.resolution_mode.TypeScriptTypesResolutionMode.TheVariants.{Import}
 
 -- the mode with this name, in UTF-8: `None` if no mode has the name
 abbrev pub mode_named : List ℕ → Option TypeScriptTypesResolutionMode

@@ -1,28 +1,6 @@
 -- Ascending lists: membership and order by recursion, and a list is determined by its members.
-use Rattle.std.proofs.Common.{
-  ◌≡◌,
-  ℕ,
-  zero,
-  suc,
-  ◌<◌,
-  List,
-  [],
-  ◌∷◌,
-  ◌++◌,
-  length,
-  get_or,
-  map,
-  ◌⊎◌,
-  inl,
-  inr,
-  ⊎_elim,
-  sym,
-  ap,
-  ◌∙◌,
-  refl,
-  subst,
-  arith,
-}
+use Rattle.std.proofs.Common.{◌≡◌, ℕ, zero, suc, ◌<◌, List, [], ◌∷◌, ◌++◌, length, get_or, map, ◌⊎◌, inl, inr}
+use Rattle.std.proofs.Common.{⊎_elim, sym, ap, ◌∙◌, refl, subst, arith}
 use Rattle.std.specs.Prelude.{Contains, AllPairs, All}
 use Rattle.std.proofs.lemmas.List.Kept.{AllPairs-cons}
 use Rattle.std.proofs.lemmas.List.Elements.{All-nil, All-cons}

@@ -1,45 +1,11 @@
 -- The arguments of a call among its children, and which calls are no dependencies.
-use Rattle.std.proofs.Common.{
-  ◌≡◌,
-  ℕ,
-  zero,
-  suc,
-  Bool,
-  true,
-  false,
-  ◌&&◌,
-  ◌+◌,
-  ◌<◌,
-  List,
-  [],
-  ◌∷◌,
-  Option,
-  Some,
-  None,
-  option_map,
-  option_and_then,
-  slice_get,
-  length,
-  arith,
-  ap,
-  sym,
-  ◌∙◌,
-  refl,
-  subst,
-  All,
-  inl,
-  inr,
-}
+use Rattle.std.proofs.Common.{◌≡◌, ℕ, zero, suc, Bool, true, false, ◌&&◌, ◌+◌, ◌<◌, List, [], ◌∷◌, Option}
+use Rattle.std.proofs.Common.{Some, None, option_map, option_and_then, slice_get, length, arith, ap, sym, ◌∙◌}
+use Rattle.std.proofs.Common.{refl, subst, All, inl, inr}
 use Rattle.std.specs.Prelude.{is_some}
 use Rattle.std.proofs.lemmas.Option.{same_Some, slice_get_within, get_or_from_slice_get}
-use Rattle.deno_graph_source.specs.Node.{
-  kind_of,
-  children_of,
-  nodes_in,
-  callee_count,
-  HasCountOfKind,
-  IsShaped,
-}
+use Rattle.deno_graph_source.specs.Node.{kind_of, children_of, nodes_in, callee_count, HasCountOfKind}
+use Rattle.deno_graph_source.specs.Node.{IsShaped}
 use Rattle.deno_graph_source.specs.declared.tree.node.Arg.{Arg}
 use Rattle.deno_graph_source.specs.declared.tree.node.Callee.{Callee}
 use Rattle.deno_graph_source.specs.declared.tree.node.Kind.{Kind}

@@ -1,38 +1,7 @@
 -- The count of a stack: the passed paths, which are those of the nodes entered when a step returns.
-use Rattle.std.proofs.Common.{
-  ◌≡◌,
-  ◌≢◌,
-  ℕ,
-  suc,
-  ◌+◌,
-  ◌-◌,
-  ◌^◌,
-  min,
-  List,
-  [],
-  ◌∷◌,
-  ◌++◌,
-  length,
-  Bool,
-  true,
-  false,
-  not,
-  ◌&&◌,
-  Option,
-  Some,
-  None,
-  inl,
-  inr,
-  ⊎_elim,
-  sym,
-  ap,
-  ◌∙◌,
-  refl,
-  subst,
-  arith,
-  append_assoc,
-  Contains,
-}
+use Rattle.std.proofs.Common.{◌≡◌, ◌≢◌, ℕ, suc, ◌+◌, ◌-◌, ◌^◌, min, List, [], ◌∷◌, ◌++◌, length, Bool, true}
+use Rattle.std.proofs.Common.{false, not, ◌&&◌, Option, Some, None, inl, inr, ⊎_elim, sym, ap, ◌∙◌, refl}
+use Rattle.std.proofs.Common.{subst, arith, append_assoc, Contains}
 use Rattle.std.specs.Prelude.{◌↔◌, IsSome, IsSomeAnd, IsTrue, AllPairs}
 use Rattle.std.proofs.lemmas.Bool.{false≢true}
 use Rattle.std.proofs.lemmas.List.{append-nil, length-append}
@@ -41,70 +10,27 @@ use Rattle.deno_graph_source.specs.declared.tree.node.Node.{Node}
 use Rattle.deno_graph_dep.specs.DependencyRules.{children_to_visit, dependency_rules}
 use Rattle.deno_graph_dep.specs.Entered as by
 use Rattle.deno_graph_dep.specs.Entered.{IsEnteredBy, EnteredBy, IsCountOf}
-use Rattle.deno_graph_dep.specs.internal.Stack.{
-  entry_rules,
-  frame_of,
-  comes_before,
-  comes_after,
-  index_of,
-  next_path,
-  paths_to_come,
-  next_of,
-  AreNested,
-  to_come,
-  IsPassed,
-  IsStackOf,
-}
+use Rattle.deno_graph_dep.specs.internal.Stack.{entry_rules, frame_of, comes_before, comes_after, index_of}
+use Rattle.deno_graph_dep.specs.internal.Stack.{next_path, paths_to_come, next_of, AreNested, to_come}
+use Rattle.deno_graph_dep.specs.internal.Stack.{IsPassed, IsStackOf}
 use Rattle.deno_graph_dep.specs.internal.ListingPaths.{listing_paths}
 use Rattle.deno_graph_dep.specs.Listing.{Rules, IsReachable, IsMember, IsAfterInside, Precedes}
 use Rattle.deno_graph_source.specs.NodePath.{NodePath, node_at}
 use Rattle.deno_graph_dep.specs.declared.stack.Stack.{Stack}
-use Rattle.deno_graph_dep.proofs.Ascending.{
-  Member,
-  Ascending,
-  Member-append,
-  Member-left,
-  Contains-from_Member,
-  Member-from_Contains,
-  AllPairs-from_Ascending,
-  Ascending-from_AllPairs,
-  Ascending-weaker,
-}
+use Rattle.deno_graph_dep.proofs.Ascending.{Member, Ascending, Member-append, Member-left}
+use Rattle.deno_graph_dep.proofs.Ascending.{Contains-from_Member, Member-from_Contains}
+use Rattle.deno_graph_dep.proofs.Ascending.{AllPairs-from_Ascending, Ascending-from_AllPairs}
+use Rattle.deno_graph_dep.proofs.Ascending.{Ascending-weaker}
 use Rattle.deno_graph_dep.proofs.Listings.{IsListing-listing_paths, Precedes-asymmetric}
-use Rattle.deno_graph_dep.proofs.NodePaths.{
-  Below-from_IsStrictPrefix,
-  IsStrictPrefix-from_Below,
-  Apart-from_PartsBelow,
-  PartsBelow-from_Apart,
-}
-use Rattle.deno_graph_dep.proofs.Passed.{
-  Around,
-  Past,
-  UpTo,
-  Past-from_IsPassed,
-  IsPassed-from_Past,
-  Past-enter,
-  Past-leave,
-  Past-from_UpTo,
-  UpTo-from_Past,
-  Past-from_Around,
-  Around-from_Past,
-  next_path-inside,
-  next_path-sibling,
-  AreNext,
-  to_come-not_past,
-}
+use Rattle.deno_graph_dep.proofs.NodePaths.{Below-from_IsStrictPrefix, IsStrictPrefix-from_Below}
+use Rattle.deno_graph_dep.proofs.NodePaths.{Apart-from_PartsBelow, PartsBelow-from_Apart}
+use Rattle.deno_graph_dep.proofs.Passed.{Around, Past, UpTo, Past-from_IsPassed, IsPassed-from_Past}
+use Rattle.deno_graph_dep.proofs.Passed.{Past-enter, Past-leave, Past-from_UpTo, UpTo-from_Past}
+use Rattle.deno_graph_dep.proofs.Passed.{Past-from_Around, Around-from_Past, next_path-inside}
+use Rattle.deno_graph_dep.proofs.Passed.{next_path-sibling, AreNext, to_come-not_past}
 use Rattle.deno_graph_dep.proofs.IterationsLeft.{entries_close}
-use Rattle.deno_graph_dep.proofs.Steps.{
-  Enters,
-  Left,
-  path_of,
-  to_come-enter,
-  to_come-leave,
-  nested-left,
-  nested-enter,
-  nested-leave,
-}
+use Rattle.deno_graph_dep.proofs.Steps.{Enters, Left, path_of, to_come-enter, to_come-leave, nested-left}
+use Rattle.deno_graph_dep.proofs.Steps.{nested-enter, nested-leave}
 
 next-first : (body : List Node) (old new : Stack) (node : Bor Node) (siblings : Bor (List Node))
     → Enters old new node siblings

@@ -1,25 +1,6 @@
 -- The entries of a body by plain recursion are those at the paths of its listing.
-use Rattle.std.proofs.Common.{
-  ◌≡◌,
-  ℕ,
-  suc,
-  List,
-  [],
-  ◌∷◌,
-  ◌++◌,
-  Bool,
-  true,
-  false,
-  cond,
-  Option,
-  Some,
-  None,
-  map,
-  sym,
-  ap,
-  ◌∙◌,
-  refl,
-}
+use Rattle.std.proofs.Common.{◌≡◌, ℕ, suc, List, [], ◌∷◌, ◌++◌, Bool, true, false, cond, Option, Some, None}
+use Rattle.std.proofs.Common.{map, sym, ap, ◌∙◌, refl}
 use Rattle.std.specs.Prelude.{slice_get, is_some, option_and_then}
 use Rattle.std.specs.List.{flat_map}
 use Rattle.std.specs.Option.{option_to_list}
@@ -28,12 +9,8 @@ use Rattle.std.proofs.lemmas.List.{map-append}
 use Rattle.deno_graph_source.specs.Node.{children_of}
 use Rattle.deno_graph_source.specs.declared.tree.node.Node.{Node}
 use Rattle.deno_graph_dep.specs.DependencyRules.{dependency_rules, is_dependency}
-use Rattle.deno_graph_dep.specs.DependencyNodes.{
-  AreDependencyNodes,
-  dependency_at,
-  dependency_nodes_below,
-  dependency_node,
-}
+use Rattle.deno_graph_dep.specs.DependencyNodes.{AreDependencyNodes, dependency_at, dependency_nodes_below}
+use Rattle.deno_graph_dep.specs.DependencyNodes.{dependency_node}
 use Rattle.deno_graph_dep.specs.Listing.{Rules}
 use Rattle.deno_graph_source.specs.NodePath.{NodePath, node_below, node_at}
 use Rattle.deno_graph_dep.specs.Recursion.{entries_at}

@@ -1,67 +1,25 @@
 -- The dependencies of a valid source: the shapes of their nodes, and the ranges in their descriptors.
-use Rattle.std.proofs.Common.{
-  ◌≡◌,
-  ℕ,
-  suc,
-  Bool,
-  true,
-  false,
-  cond,
-  List,
-  [],
-  ◌∷◌,
-  ◌++◌,
-  Option,
-  Some,
-  None,
-  map,
-  slice_get,
-  ap,
-  sym,
-  refl,
-  subst,
-  ◌∙◌,
-  All,
-  Contains,
-  option_and_then,
-  option_map,
-}
+use Rattle.std.proofs.Common.{◌≡◌, ℕ, suc, Bool, true, false, cond, List, [], ◌∷◌, ◌++◌, Option, Some, None}
+use Rattle.std.proofs.Common.{map, slice_get, ap, sym, refl, subst, ◌∙◌, All, Contains, option_and_then}
+use Rattle.std.proofs.Common.{option_map}
 use Rattle.std.proofs.lemmas.List.Elements.{All-head, All-nil, All-cons}
 use Rattle.std.proofs.lemmas.Option.{slice_get_within, get_or_from_slice_get, slice_get-map}
 use Rattle.deno_graph_source.specs.Comments.{FiledComments}
-use Rattle.deno_graph_source.specs.Node.{
-  kind_of,
-  children_of,
-  ranges_in_kind,
-  node_ranges,
-  nodes_in,
-  nodes_of,
-  IsShaped,
-}
+use Rattle.deno_graph_source.specs.Node.{kind_of, children_of, ranges_in_kind, node_ranges, nodes_in}
+use Rattle.deno_graph_source.specs.Node.{nodes_of, IsShaped}
 use Rattle.deno_graph_source.specs.Source.{IsValid}
 use Rattle.deno_graph_base.specs.SourceRange.{IsTextRange}
 use Rattle.deno_graph_base.specs.declared.text.position.SourceRange.{SourceRange}
 use Rattle.deno_graph_source.specs.declared.tree.node.Arg.{Arg}
 use Rattle.deno_graph_source.specs.declared.tree.node.Kind.{Kind}
-use Rattle.deno_graph_source.specs.declared.tree.node.Kind.TheVariants.{
-  ImportDecl,
-  NamedExport,
-  ExportAll,
-  ImportEquals,
-  ImportType,
-  ModuleDecl,
-  Call,
-}
+use Rattle.deno_graph_source.specs.declared.tree.node.Kind.TheVariants.{ImportDecl, NamedExport, ExportAll}
+use Rattle.deno_graph_source.specs.declared.tree.node.Kind.TheVariants.{ImportEquals, ImportType, ModuleDecl}
+use Rattle.deno_graph_source.specs.declared.tree.node.Kind.TheVariants.{Call}
 use Rattle.deno_graph_source.specs.declared.tree.node.Node.{Node}
 use Rattle.deno_graph_source.specs.declared.tree.node.Program.{Program}
 use Rattle.deno_graph_source.specs.declared.tree.node.StrLit.{StrLit}
-use Rattle.deno_graph_source.proofs.ValidSource.{
-  All-child_ranges,
-  All-kind_ranges,
-  valid_item,
-  All-item_nodes,
-  All-child_nodes,
-}
+use Rattle.deno_graph_source.proofs.ValidSource.{All-child_ranges, All-kind_ranges, valid_item}
+use Rattle.deno_graph_source.proofs.ValidSource.{All-item_nodes, All-child_nodes}
 use Rattle.deno_graph_info.specs.declared.analysis.import_attributes.ImportAttributes.{ImportAttributes}
 use Rattle.deno_graph_info.specs.declared.analysis.static_dependency.StaticDependencyKind.{StaticDependencyKind}
 use Rattle.deno_graph_dep.specs.Dependencies.{AreDependencies}
@@ -69,12 +27,8 @@ use Rattle.deno_graph_dep.specs.DependencyNodes.{AreDependencyNodes, dependency_
 use Rattle.deno_graph_dep.specs.DependencyRules.{is_dependency}
 use Rattle.deno_graph_dep.specs.Descriptor.{Descriptor, HasTextRanges}
 use Rattle.deno_graph_source.specs.NodePath.{NodePath, node_at, node_below}
-use Rattle.deno_graph_dep.specs.DescriptorOf.{
-  IsDescriptorOf,
-  IsDescriptorOfKind,
-  IsStaticDescriptorOf,
-  AreDescriptorsOf,
-}
+use Rattle.deno_graph_dep.specs.DescriptorOf.{IsDescriptorOf, IsDescriptorOfKind, IsStaticDescriptorOf}
+use Rattle.deno_graph_dep.specs.DescriptorOf.{AreDescriptorsOf}
 
 there : {X : Type 0} (xs : List X) (k : ℕ) (x : X) → slice_get xs k ≡ Some x → Contains xs x
 there xs k x at = (k, slice_get_within xs k x at, get_or_from_slice_get xs k x x at)

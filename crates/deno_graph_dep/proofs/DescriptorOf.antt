@@ -1,21 +1,6 @@
 -- Only dependencies have descriptors, and a spread first argument is unknown.
-use Rattle.std.proofs.Common.{
-  ◌≡◌,
-  Bool,
-  true,
-  false,
-  ◌&&◌,
-  List,
-  Option,
-  Some,
-  None,
-  ap,
-  sym,
-  subst,
-  ◌∙◌,
-  refl,
-  slice_get,
-}
+use Rattle.std.proofs.Common.{◌≡◌, Bool, true, false, ◌&&◌, List, Option, Some, None, ap, sym, subst, ◌∙◌}
+use Rattle.std.proofs.Common.{refl, slice_get}
 use Rattle.std.specs.Prelude.{All, MatchBool, MatchOption, is_some}
 use Rattle.std.proofs.lemmas.Bool.{false≢true}
 use Rattle.deno_graph_source.specs.Comments.{FiledComments}
@@ -23,25 +8,15 @@ use Rattle.deno_graph_source.specs.Node.{kind_of, children_of, nodes_in, IsShape
 use Rattle.deno_graph_source.specs.declared.tree.node.Arg.{Arg}
 use Rattle.deno_graph_source.specs.declared.tree.node.Callee.{Callee}
 use Rattle.deno_graph_source.specs.declared.tree.node.Kind.{Kind}
-use Rattle.deno_graph_source.specs.declared.tree.node.Kind.TheVariants.{
-  ImportDecl,
-  NamedExport,
-  ExportAll,
-  ImportEquals,
-  ImportType,
-  ModuleDecl,
-  Call,
-}
+use Rattle.deno_graph_source.specs.declared.tree.node.Kind.TheVariants.{ImportDecl, NamedExport, ExportAll}
+use Rattle.deno_graph_source.specs.declared.tree.node.Kind.TheVariants.{ImportEquals, ImportType, ModuleDecl}
+use Rattle.deno_graph_source.specs.declared.tree.node.Kind.TheVariants.{Call}
 use Rattle.deno_graph_source.specs.declared.tree.node.Node.{Node}
 use Rattle.deno_graph_dep.specs.DependencyRules.{is_dependency_kind, is_dependency}
 use Rattle.deno_graph_dep.specs.DependencyKind.{call_kind}
 use Rattle.deno_graph_dep.specs.Argument.{HasForm, expression}
-use Rattle.deno_graph_dep.specs.Descriptor.{
-  DynamicDescriptor,
-  Descriptor,
-  descriptor_seen,
-  dynamic_descriptor,
-}
+use Rattle.deno_graph_dep.specs.Descriptor.{DynamicDescriptor, Descriptor, descriptor_seen}
+use Rattle.deno_graph_dep.specs.Descriptor.{dynamic_descriptor}
 use Rattle.deno_graph_dep.specs.declared.descriptor.DependencyDescriptor.{DependencyDescriptor}
 use Rattle.deno_graph_dep.specs.internal.CallSteps.{IsNoModuleCall}
 use Rattle.deno_graph_dep.proofs.Calls.{no_module_call}

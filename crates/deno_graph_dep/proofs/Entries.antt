@@ -1,19 +1,5 @@
 -- The entries of a node by plain recursion, in three pieces: before, inside and after.
-use Rattle.std.proofs.Common.{
-  ◌≡◌,
-  List,
-  [],
-  ◌∷◌,
-  ◌++◌,
-  Bool,
-  true,
-  false,
-  cond,
-  map,
-  ap,
-  ◌∙◌,
-  refl,
-}
+use Rattle.std.proofs.Common.{◌≡◌, List, [], ◌∷◌, ◌++◌, Bool, true, false, cond, map, ap, ◌∙◌, refl}
 use Rattle.std.specs.List.{flat_map}
 use Rattle.deno_graph_source.specs.Node.{children_of}
 use Rattle.deno_graph_source.specs.declared.tree.node.Node.{Node}

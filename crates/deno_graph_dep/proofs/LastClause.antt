@@ -1,38 +1,7 @@
 -- The clauses of a call's second argument, found one property after another.
-use Rattle.std.proofs.Common.{
-  ◌≡◌,
-  ◌≢◌,
-  ℕ,
-  ◌+◌,
-  ◌<◌,
-  ◌≤◌,
-  Bool,
-  true,
-  false,
-  ◌&&◌,
-  ◌||◌,
-  cond,
-  List,
-  length,
-  get_or,
-  codes,
-  Option,
-  Some,
-  None,
-  option_and_then,
-  ◌⊎◌,
-  inl,
-  inr,
-  ⊎_elim,
-  ◌↔◌,
-  refl,
-  sym,
-  ap,
-  subst,
-  ◌∙◌,
-  arith,
-  MatchBool,
-}
+use Rattle.std.proofs.Common.{◌≡◌, ◌≢◌, ℕ, ◌+◌, ◌<◌, ◌≤◌, Bool, true, false, ◌&&◌, ◌||◌, cond, List, length}
+use Rattle.std.proofs.Common.{get_or, codes, Option, Some, None, option_and_then, ◌⊎◌, inl, inr, ⊎_elim, ◌↔◌}
+use Rattle.std.proofs.Common.{refl, sym, ap, subst, ◌∙◌, arith, MatchBool}
 use Rattle.std.specs.List.{slice_get}
 use Rattle.std.proofs.lemmas.Bool.{cases_lt, false_from_ne_true, or_cases, or_parts, and_parts, both_ways}
 use Rattle.std.proofs.lemmas.Option.{none-some, cond_some, slice_get_read, slice_get_past}
@@ -40,17 +9,9 @@ use Rattle.deno_graph_source.specs.declared.tree.node.Node.{Node}
 use Rattle.deno_graph_source.specs.Node.{kind_of, is_object}
 use Rattle.deno_graph_info.specs.declared.analysis.import_attributes.ImportAttributes.{ImportAttributes}
 use Rattle.deno_graph_info.specs.declared.analysis.import_attributes.ImportAttributes.TheVariants as attributes
-use Rattle.deno_graph_dep.specs.Attributes.{
-  static_key,
-  value_node,
-  has_static_keys,
-  AreObjectAttributes,
-  AreValueAttributes,
-  AreAttributesAt,
-  key_at,
-  IsAttributeClause,
-  AreClauseAttributes,
-}
+use Rattle.deno_graph_dep.specs.Attributes.{static_key, value_node, has_static_keys, AreObjectAttributes}
+use Rattle.deno_graph_dep.specs.Attributes.{AreValueAttributes, AreAttributesAt, key_at, IsAttributeClause}
+use Rattle.deno_graph_dep.specs.Attributes.{AreClauseAttributes}
 use Rattle.deno_graph_dep.specs.internal.AttributeSteps.{known_object}
 
 -- the attributes of a value that is a known object are those of the object

@@ -1,35 +1,7 @@
 -- The entries that the properties of an object literal give last, when one more property is read.
-use Rattle.std.proofs.Common.{
-  ◌≡◌,
-  ◌≢◌,
-  ℕ,
-  zero,
-  suc,
-  ◌+◌,
-  ◌<◌,
-  true,
-  false,
-  cond,
-  List,
-  [],
-  ◌∷◌,
-  ◌++◌,
-  length,
-  take,
-  get_or,
-  Some,
-  None,
-  ◌⊎◌,
-  inl,
-  inr,
-  ⊎_elim,
-  refl,
-  sym,
-  ap,
-  subst,
-  ◌∙◌,
-  arith,
-}
+use Rattle.std.proofs.Common.{◌≡◌, ◌≢◌, ℕ, zero, suc, ◌+◌, ◌<◌, true, false, cond, List, [], ◌∷◌, ◌++◌}
+use Rattle.std.proofs.Common.{length, take, get_or, Some, None, ◌⊎◌, inl, inr, ⊎_elim, refl, sym, ap, subst}
+use Rattle.std.proofs.Common.{◌∙◌, arith}
 use Rattle.std.specs.List.{slice_get}
 use Rattle.std.specs.List.Sorted.{IsStrictlySortedBy}
 use Rattle.std.specs.Str.{bytes_eq}
@@ -40,16 +12,8 @@ use Rattle.std.proofs.lemmas.Slice.Eq.{bytes_eq-Decides}
 use Rattle.deno_graph_source.specs.declared.tree.node.Node.{Node}
 use Rattle.deno_graph_base.specs.TextMap.{value_at}
 use Rattle.deno_graph_info.specs.declared.analysis.import_attributes.ImportAttribute.{ImportAttribute}
-use Rattle.deno_graph_dep.specs.Attributes.{
-  static_key,
-  static_value,
-  Entries,
-  Giving,
-  attribute_of,
-  in_object,
-  GivesLast,
-  HoldsLast,
-}
+use Rattle.deno_graph_dep.specs.Attributes.{static_key, static_value, Entries, Giving, attribute_of}
+use Rattle.deno_graph_dep.specs.Attributes.{in_object, GivesLast, HoldsLast}
 use Rattle.deno_graph_dep.specs.internal.AttributeSteps.{Puts}
 
 -- a member of a list with one more at its end is a member of the list, or the last

@@ -1,61 +1,19 @@
 -- The listing by recursion on the tree: its members are the paths that a descent from a node finds, and
 -- they ascend.
-use Rattle.std.proofs.Common.{
-  ◌≡◌,
-  ℕ,
-  zero,
-  suc,
-  ◌<◌,
-  List,
-  [],
-  ◌∷◌,
-  ◌++◌,
-  Bool,
-  true,
-  false,
-  cond,
-  Option,
-  Some,
-  None,
-  map,
-  ◌⊎◌,
-  inl,
-  inr,
-  ⊎_elim,
-  sym,
-  ap,
-  ◌∙◌,
-  refl,
-  subst,
-  arith,
-}
+use Rattle.std.proofs.Common.{◌≡◌, ℕ, zero, suc, ◌<◌, List, [], ◌∷◌, ◌++◌, Bool, true, false, cond, Option}
+use Rattle.std.proofs.Common.{Some, None, map, ◌⊎◌, inl, inr, ⊎_elim, sym, ap, ◌∙◌, refl, subst, arith}
 use Rattle.std.specs.Prelude.{slice_get, option_map}
 use Rattle.std.proofs.lemmas.Option.{slice_get-map}
 use Rattle.std.proofs.lemmas.Bool.{false≢true}
 use Rattle.deno_graph_source.specs.Node.{children_of}
 use Rattle.deno_graph_source.specs.declared.tree.node.Node.{Node}
-use Rattle.deno_graph_dep.specs.internal.ListingPaths.{
-  under,
-  here,
-  placed,
-  path_step,
-  paths_at,
-  listing_paths,
-}
+use Rattle.deno_graph_dep.specs.internal.ListingPaths.{under, here, placed, path_step, paths_at}
+use Rattle.deno_graph_dep.specs.internal.ListingPaths.{listing_paths}
 use Rattle.deno_graph_dep.specs.Listing.{Rules}
 use Rattle.deno_graph_source.specs.NodePath.{NodePath, node_below, node_at}
-use Rattle.deno_graph_dep.proofs.Ascending.{
-  Member,
-  Ascending,
-  Member-append,
-  Member-left,
-  Member-right,
-  Member-map,
-  Member-mapped,
-  Ascending-append,
-  Ascending-map,
-  Ascending-weaker,
-}
+use Rattle.deno_graph_dep.proofs.Ascending.{Member, Ascending, Member-append, Member-left, Member-right}
+use Rattle.deno_graph_dep.proofs.Ascending.{Member-map, Member-mapped, Ascending-append, Ascending-map}
+use Rattle.deno_graph_dep.proofs.Ascending.{Ascending-weaker}
 use Rattle.deno_graph_dep.proofs.NodePaths.{Before, apart, outer, inner, Before-cons, Before-same}
 use Rattle.deno_graph_dep.proofs.Nodes.{node_induction, by_children-is}
 

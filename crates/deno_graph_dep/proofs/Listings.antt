@@ -1,27 +1,6 @@
 -- A body has exactly one listing, and of two different paths exactly one precedes the other.
-use Rattle.std.proofs.Common.{
-  ◌≡◌,
-  ℕ,
-  List,
-  [],
-  ◌∷◌,
-  Bool,
-  true,
-  Option,
-  Some,
-  None,
-  map,
-  ◌⊎◌,
-  inl,
-  inr,
-  ⊎_elim,
-  ◌≢◌,
-  sym,
-  ap,
-  ◌∙◌,
-  refl,
-  subst,
-}
+use Rattle.std.proofs.Common.{◌≡◌, ℕ, List, [], ◌∷◌, Bool, true, Option, Some, None, map, ◌⊎◌, inl, inr}
+use Rattle.std.proofs.Common.{⊎_elim, ◌≢◌, sym, ap, ◌∙◌, refl, subst}
 use Rattle.std.specs.Prelude.{slice_get, option_map, IsSome, IsSomeAnd, IsTrue}
 use Rattle.std.proofs.lemmas.Bool.{false≢true, false_from_ne_true}
 use Rattle.deno_graph_source.specs.Node.{children_of}
@@ -29,41 +8,16 @@ use Rattle.deno_graph_source.specs.declared.tree.node.Node.{Node}
 use Rattle.deno_graph_dep.specs.Listing as listing
 use Rattle.deno_graph_dep.specs.Listing.{Rules, IsReachable, IsMember, Precedes, IsListing}
 use Rattle.deno_graph_source.specs.NodePath.{NodePath, node_below, node_at}
-use Rattle.deno_graph_dep.proofs.Ascending.{
-  Member,
-  Ascending,
-  Ascending-unique,
-  Ascending-weaker,
-  Contains-from_Member,
-  Member-from_Contains,
-  AllPairs-from_Ascending,
-  Ascending-from_AllPairs,
-}
-use Rattle.deno_graph_dep.proofs.ListingPaths.{
-  Found,
-  Found-from_Member,
-  Member-from_Found,
-  is_after,
-  Ascending-listing_paths,
-  Member-under,
-  Member-of_under,
-  got_map,
-}
+use Rattle.deno_graph_dep.proofs.Ascending.{Member, Ascending, Ascending-unique, Ascending-weaker}
+use Rattle.deno_graph_dep.proofs.Ascending.{Contains-from_Member, Member-from_Contains}
+use Rattle.deno_graph_dep.proofs.Ascending.{AllPairs-from_Ascending, Ascending-from_AllPairs}
+use Rattle.deno_graph_dep.proofs.ListingPaths.{Found, Found-from_Member, Member-from_Found, is_after}
+use Rattle.deno_graph_dep.proofs.ListingPaths.{Ascending-listing_paths, Member-under, Member-of_under}
+use Rattle.deno_graph_dep.proofs.ListingPaths.{got_map}
 use Rattle.deno_graph_dep.specs.internal.ListingPaths.{listing_paths, paths_at}
-use Rattle.deno_graph_dep.proofs.NodePaths.{
-  Below,
-  Below-from_IsStrictPrefix,
-  IsStrictPrefix-from_Below,
-  Apart-from_PartsBelow,
-  PartsBelow-from_Apart,
-  Before,
-  apart,
-  outer,
-  inner,
-  Before-asymmetric,
-  Before-total,
-  Before-transitive,
-}
+use Rattle.deno_graph_dep.proofs.NodePaths.{Below, Below-from_IsStrictPrefix, IsStrictPrefix-from_Below}
+use Rattle.deno_graph_dep.proofs.NodePaths.{Apart-from_PartsBelow, PartsBelow-from_Apart, Before, apart}
+use Rattle.deno_graph_dep.proofs.NodePaths.{outer, inner, Before-asymmetric, Before-total, Before-transitive}
 use Rattle.std.proofs.lemmas.Option.{slice_get-map}
 
 after_true : (rules : Rules) (o : Option Node) → IsSomeAnd o (λ node. IsTrue (rules.is_after_inside node))

@@ -1,25 +1,6 @@
 -- The relations between two paths, by recursion on both.
-use Rattle.std.proofs.Common.{
-  ◌≡◌,
-  ℕ,
-  ◌<◌,
-  [],
-  ◌∷◌,
-  ◌++◌,
-  Bool,
-  true,
-  false,
-  ◌⊎◌,
-  inl,
-  inr,
-  ⊎_elim,
-  sym,
-  ap,
-  ◌∙◌,
-  refl,
-  subst,
-  arith,
-}
+use Rattle.std.proofs.Common.{◌≡◌, ℕ, ◌<◌, [], ◌∷◌, ◌++◌, Bool, true, false, ◌⊎◌, inl, inr, ⊎_elim, sym, ap}
+use Rattle.std.proofs.Common.{◌∙◌, refl, subst, arith}
 use Rattle.std.proofs.lemmas.Bool.{cases_order, false≢true}
 use Rattle.deno_graph_source.specs.NodePath.{NodePath, IsStrictPrefix, PartsBelow}
 

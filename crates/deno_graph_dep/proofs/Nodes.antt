@@ -4,14 +4,8 @@ use Rattle.std.specs.Prelude.{slice_get, option_map}
 use Rattle.std.proofs.lemmas.Option.{slice_get-map}
 use Rattle.deno_graph_source.specs.Node.{children_of}
 use Rattle.deno_graph_source.specs.declared.tree.node.Node as layers
-use Rattle.deno_graph_source.specs.declared.tree.node.Node.{
-  Node,
-  Node-F,
-  fold-Node,
-  roll-Node,
-  out-Node,
-  ind-Node,
-}
+use Rattle.deno_graph_source.specs.declared.tree.node.Node.{Node, Node-F, fold-Node, roll-Node, out-Node}
+use Rattle.deno_graph_source.specs.declared.tree.node.Node.{ind-Node}
 use Rattle.deno_graph_source.specs.declared.tree.node.Node.TheFolds.{fold_out-Node}
 use Rattle.deno_graph_source.specs.declared.tree.node.Node.TheViews.{roll-out-Node, out-roll-Node}
 use Rattle.deno_graph_dep.specs.Recursion.{with_result, by_children}

@@ -1,53 +1,21 @@
 -- The paths that a walk has passed, by the path that it enters next.
-use Rattle.std.proofs.Common.{
-  ◌≡◌,
-  ℕ,
-  suc,
-  ◌+◌,
-  ◌<◌,
-  List,
-  [],
-  ◌∷◌,
-  ◌++◌,
-  map,
-  ◌⊎◌,
-  inl,
-  inr,
-  ⊎_elim,
-  sym,
-  ap,
-  refl,
-  subst,
-  arith,
-}
+use Rattle.std.proofs.Common.{◌≡◌, ℕ, suc, ◌+◌, ◌<◌, List, [], ◌∷◌, ◌++◌, map, ◌⊎◌, inl, inr, ⊎_elim, sym, ap}
+use Rattle.std.proofs.Common.{refl, subst, arith}
 use Rattle.std.proofs.lemmas.Bool.{cases_order}
 use Rattle.std.specs.Borrow.{Bor}
 use Rattle.deno_graph_source.specs.declared.tree.node.Node.{Node}
 use Rattle.deno_graph_dep.specs.DependencyRules.{children_to_visit}
-use Rattle.deno_graph_dep.specs.internal.Stack.{
-  entry_rules,
-  frame_of,
-  index_of,
-  frame_index,
-  next_path,
-  paths_to_come,
-  AreNested,
-  IsPassed,
-}
+use Rattle.deno_graph_dep.specs.internal.Stack.{entry_rules, frame_of, index_of, frame_index, next_path}
+use Rattle.deno_graph_dep.specs.internal.Stack.{paths_to_come, AreNested, IsPassed}
 use Rattle.deno_graph_dep.specs.internal.ListingPaths.{under, paths_at}
 use Rattle.deno_graph_dep.specs.Listing.{Rules}
 use Rattle.deno_graph_source.specs.NodePath.{NodePath}
 use Rattle.deno_graph_dep.specs.declared.stack.Frame.{Frame}
 use Rattle.deno_graph_dep.proofs.Ascending.{Member, Member-append, Member-map}
 use Rattle.deno_graph_dep.proofs.ListingPaths.{Member-under}
-use Rattle.deno_graph_dep.proofs.NodePaths.{
-  Below,
-  Apart,
-  Below-from_IsStrictPrefix,
-  IsStrictPrefix-from_Below,
-  Apart-from_PartsBelow,
-  PartsBelow-from_Apart,
-}
+use Rattle.deno_graph_dep.proofs.NodePaths.{Below, Apart, Below-from_IsStrictPrefix}
+use Rattle.deno_graph_dep.proofs.NodePaths.{IsStrictPrefix-from_Below, Apart-from_PartsBelow}
+use Rattle.deno_graph_dep.proofs.NodePaths.{PartsBelow-from_Apart}
 use Rattle.deno_graph_dep.proofs.Stacks.{next_index}
 
 -- passed paths by recursion on both paths

@@ -1,25 +1,6 @@
 -- The progress of a step: the nodes passed since it began, and its result.
-use Rattle.std.proofs.Common.{
-  ◌≡◌,
-  ℕ,
-  ◌+◌,
-  ◌-◌,
-  ◌^◌,
-  ◌≤◌,
-  min,
-  List,
-  [],
-  ◌++◌,
-  true,
-  false,
-  Some,
-  None,
-  sym,
-  ap,
-  ◌∙◌,
-  refl,
-  arith,
-}
+use Rattle.std.proofs.Common.{◌≡◌, ℕ, ◌+◌, ◌-◌, ◌^◌, ◌≤◌, min, List, [], ◌++◌, true, false, Some, None, sym}
+use Rattle.std.proofs.Common.{ap, ◌∙◌, refl, arith}
 use Rattle.std.specs.Borrow.{Bor}
 use Rattle.deno_graph_source.specs.declared.tree.node.Node.{Node}
 use Rattle.deno_graph_source.specs.declared.tree.node.Program.{Program}
@@ -28,24 +9,12 @@ use Rattle.deno_graph_dep.specs.internal.Stack.{comes_before, comes_after, once,
 use Rattle.deno_graph_dep.specs.Walk.{IsWalkStep}
 use Rattle.deno_graph_dep.specs.internal.WalkSteps.{state_of}
 use Rattle.deno_graph_dep.specs.declared.stack.Stack.{Stack}
-use Rattle.deno_graph_dep.proofs.Counts.{
-  IsStackOf-enter,
-  IsStackOf-leave,
-  count-enter,
-  count-leave,
-  count-end,
-}
+use Rattle.deno_graph_dep.proofs.Counts.{IsStackOf-enter, IsStackOf-leave, count-enter, count-leave}
+use Rattle.deno_graph_dep.proofs.Counts.{count-end}
 use Rattle.deno_graph_dep.proofs.IterationsLeft.{dependency_close}
 use Rattle.deno_graph_dep.proofs.Stacks.{node_at-next_path}
-use Rattle.deno_graph_dep.proofs.Steps.{
-  Enters,
-  Left,
-  path_of,
-  to_come-enter,
-  to_come-leave,
-  nested-first,
-  nested-left,
-}
+use Rattle.deno_graph_dep.proofs.Steps.{Enters, Left, path_of, to_come-enter, to_come-leave, nested-first}
+use Rattle.deno_graph_dep.proofs.Steps.{nested-left}
 
 -- the nodes passed so far are no dependencies
 pub record Progress (body : List Node) (first now : Stack) : Type 0 where

@@ -1,25 +1,6 @@
 -- The nodes that a walk has returned so far, and the next one.
-use Rattle.std.proofs.Common.{
-  ◌≡◌,
-  List,
-  [],
-  ◌∷◌,
-  ◌++◌,
-  map,
-  Option,
-  Some,
-  None,
-  true,
-  sym,
-  ap,
-  ◌∙◌,
-  refl,
-  subst,
-  append_assoc,
-  option_and_then,
-  cond,
-  inl,
-}
+use Rattle.std.proofs.Common.{◌≡◌, List, [], ◌∷◌, ◌++◌, map, Option, Some, None, true, sym, ap, ◌∙◌, refl}
+use Rattle.std.proofs.Common.{subst, append_assoc, option_and_then, cond, inl}
 use Rattle.std.specs.Prelude.{IsSomeAnd, IsTrue, All}
 use Rattle.std.specs.Borrow.{Bor}
 use Rattle.std.proofs.lemmas.List.{append-nil, map-append}
@@ -32,20 +13,14 @@ use Rattle.deno_graph_dep.specs.Descriptor.{Descriptor}
 use Rattle.deno_graph_dep.specs.DescriptorOf.{AreDescriptorsOf, IsDescriptorOf}
 use Rattle.deno_graph_dep.proofs.DependencyRanges.{AreDescriptorsOf-more, shaped_node}
 use Rattle.deno_graph_dep.specs.DependencyRules.{dependency_rules, is_dependency}
-use Rattle.deno_graph_dep.specs.DependencyNodes.{
-  AreDependencyNodes,
-  dependency_at,
-  dependency_nodes_below,
-  dependency_node,
-}
+use Rattle.deno_graph_dep.specs.DependencyNodes.{AreDependencyNodes, dependency_at, dependency_nodes_below}
+use Rattle.deno_graph_dep.specs.DependencyNodes.{dependency_node}
 use Rattle.deno_graph_dep.specs.Listing.{IsListing}
 use Rattle.deno_graph_source.specs.NodePath.{NodePath, node_at}
 use Rattle.deno_graph_dep.specs.Walk.{IsWalkStep, WalkState}
 use Rattle.deno_graph_dep.proofs.Ascending.{Member-right, Contains-from_Member}
-use Rattle.deno_graph_dep.proofs.DependencyNodes.{
-  AreDependencyNodes-dependencies_below,
-  AreDependencyNodes-unique,
-}
+use Rattle.deno_graph_dep.proofs.DependencyNodes.{AreDependencyNodes-dependencies_below}
+use Rattle.deno_graph_dep.proofs.DependencyNodes.{AreDependencyNodes-unique}
 
 -- The paths of the returned nodes, followed by those still to come, are the listing; and the descriptors are
 -- those of the returned nodes.

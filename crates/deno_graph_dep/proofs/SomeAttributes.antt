@@ -1,41 +1,7 @@
 -- Each clause and each argument has attributes.
-use Rattle.std.proofs.Common.{
-  ◌≡◌,
-  ℕ,
-  zero,
-  suc,
-  ◌+◌,
-  ◌<◌,
-  ◌≤◌,
-  Bool,
-  true,
-  false,
-  not,
-  ◌&&◌,
-  List,
-  [],
-  ◌∷◌,
-  ◌++◌,
-  length,
-  get_or,
-  codes,
-  Option,
-  Some,
-  None,
-  ◌⊎◌,
-  inl,
-  inr,
-  ⊎_elim,
-  ◌↔◌,
-  refl,
-  sym,
-  ap,
-  subst,
-  ◌∙◌,
-  arith,
-  append_assoc,
-  MatchBool,
-}
+use Rattle.std.proofs.Common.{◌≡◌, ℕ, zero, suc, ◌+◌, ◌<◌, ◌≤◌, Bool, true, false, not, ◌&&◌, List, [], ◌∷◌}
+use Rattle.std.proofs.Common.{◌++◌, length, get_or, codes, Option, Some, None, ◌⊎◌, inl, inr, ⊎_elim, ◌↔◌}
+use Rattle.std.proofs.Common.{refl, sym, ap, subst, ◌∙◌, arith, append_assoc, MatchBool}
 use Rattle.std.specs.List.{slice_get}
 use Rattle.std.specs.Str.{bytes_eq}
 use Rattle.std.proofs.lemmas.Bool.{false≢true}
@@ -49,32 +15,15 @@ use Rattle.deno_graph_base.specs.TextMap.{insert_entry}
 use Rattle.deno_graph_info.specs.declared.analysis.import_attributes.ImportAttribute.{ImportAttribute}
 use Rattle.deno_graph_info.specs.declared.analysis.import_attributes.ImportAttributes.{ImportAttributes}
 use Rattle.deno_graph_info.specs.declared.analysis.import_attributes.ImportAttributes.TheVariants as attributes
-use Rattle.deno_graph_dep.specs.Attributes.{
-  static_key,
-  has_static_keys,
-  declared,
-  in_object,
-  Entries,
-  Giving,
-  HoldsLast,
-  KnowsLast,
-  AreDeclarationAttributes,
-  AreObjectAttributes,
-  AreClauseAttributes,
-  AreCallAttributes,
-}
+use Rattle.deno_graph_dep.specs.Attributes.{static_key, has_static_keys, declared, in_object, Entries, Giving}
+use Rattle.deno_graph_dep.specs.Attributes.{HoldsLast, KnowsLast, AreDeclarationAttributes}
+use Rattle.deno_graph_dep.specs.Attributes.{AreObjectAttributes, AreClauseAttributes, AreCallAttributes}
 use Rattle.deno_graph_dep.specs.internal.AttributeSteps.{known_object}
 use Rattle.deno_graph_dep.specs.DescriptorOf.{AreTypeAttributes}
 use Rattle.deno_graph_dep.proofs.Inserted.{Puts-inserted}
-use Rattle.deno_graph_dep.proofs.LastClause.{
-  IsClauseAfter,
-  ClausesBelow,
-  ClausesBelow-skip,
-  ClausesBelow-clause,
-  AreClauseAttributes-unknown,
-  AreClauseAttributes-none,
-  AreClauseAttributes-last,
-}
+use Rattle.deno_graph_dep.proofs.LastClause.{IsClauseAfter, ClausesBelow, ClausesBelow-skip}
+use Rattle.deno_graph_dep.proofs.LastClause.{ClausesBelow-clause, AreClauseAttributes-unknown}
+use Rattle.deno_graph_dep.proofs.LastClause.{AreClauseAttributes-none, AreClauseAttributes-last}
 use Rattle.deno_graph_dep.proofs.LastGiven.{HoldsLast-nil, HoldsLast-skip, HoldsLast-put}
 
 -- The entries that properties give last

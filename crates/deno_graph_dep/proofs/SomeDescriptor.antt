@@ -1,86 +1,35 @@
 -- Each dependency has a descriptor, and each body has a list of descriptors.
-use Rattle.std.proofs.Common.{
-  ◌≡◌,
-  ℕ,
-  suc,
-  ◌+◌,
-  Bool,
-  true,
-  false,
-  not,
-  List,
-  [],
-  ◌∷◌,
-  Option,
-  Some,
-  None,
-  is_some,
-  slice_get,
-  refl,
-  arith,
-  All,
-  MatchBool,
-}
+use Rattle.std.proofs.Common.{◌≡◌, ℕ, suc, ◌+◌, Bool, true, false, not, List, [], ◌∷◌, Option, Some, None}
+use Rattle.std.proofs.Common.{is_some, slice_get, refl, arith, All, MatchBool}
 use Rattle.std.proofs.lemmas.Bool.{and_parts, false≢true}
 use Rattle.deno_graph_source.specs.Comments.{FiledComments, leading_at}
-use Rattle.deno_graph_source.specs.Node.{
-  kind_of,
-  range_of,
-  children_of,
-  callee_count,
-  nodes_in,
-  nodes_of,
-  IsShaped,
-}
+use Rattle.deno_graph_source.specs.Node.{kind_of, range_of, children_of, callee_count, nodes_in, nodes_of}
+use Rattle.deno_graph_source.specs.Node.{IsShaped}
 use Rattle.deno_graph_base.specs.JsString.{lossy_text}
 use Rattle.deno_graph_base.specs.declared.text.position.SourceRange.{SourceRange}
 use Rattle.deno_graph_source.specs.declared.tree.node.Arg.{Arg}
 use Rattle.deno_graph_source.specs.declared.tree.node.Callee.{Callee}
 use Rattle.deno_graph_source.specs.declared.tree.node.Kind.{Kind}
-use Rattle.deno_graph_source.specs.declared.tree.node.Kind.TheVariants.{
-  ImportDecl,
-  NamedExport,
-  ExportAll,
-  ImportEquals,
-  ImportType,
-  ModuleDecl,
-  Call,
-  Str,
-  Template,
-  Binary,
-}
+use Rattle.deno_graph_source.specs.declared.tree.node.Kind.TheVariants.{ImportDecl, NamedExport, ExportAll}
+use Rattle.deno_graph_source.specs.declared.tree.node.Kind.TheVariants.{ImportEquals, ImportType, ModuleDecl}
+use Rattle.deno_graph_source.specs.declared.tree.node.Kind.TheVariants.{Call, Str, Template, Binary}
 use Rattle.deno_graph_source.specs.declared.tree.node.Node.{Node}
 use Rattle.deno_graph_source.specs.declared.tree.node.Program.{Program}
 use Rattle.deno_graph_source.specs.declared.tree.node.StrLit.{StrLit}
-use Rattle.deno_graph_info.specs.declared.analysis.dynamic_dependency.DynamicDependencyKind.{
-  DynamicDependencyKind,
-}
+use Rattle.deno_graph_info.specs.declared.analysis.dynamic_dependency.DynamicDependencyKind.{DynamicDependencyKind}
 use Rattle.deno_graph_info.specs.declared.analysis.import_attributes.ImportAttributes.{ImportAttributes}
 use Rattle.deno_graph_info.specs.declared.analysis.import_attributes.ImportAttributes.TheVariants as attributes
 use Rattle.deno_graph_info.specs.declared.analysis.static_dependency.StaticDependencyKind.{StaticDependencyKind}
 use Rattle.deno_graph_info.specs.declared.analysis.static_dependency.StaticDependencyKind.TheVariants as static_kind
 use Rattle.deno_graph_dep.specs.Argument.{Form, HasForm, HasFormAt, expression, sum_form, template_form, text}
 use Rattle.deno_graph_dep.specs.Dependencies.{AreDependencies}
-use Rattle.deno_graph_dep.specs.DependencyKind.{
-  call_kind,
-  export_kind,
-  import_equals_kind,
-  import_kind,
-}
+use Rattle.deno_graph_dep.specs.DependencyKind.{call_kind, export_kind, import_equals_kind, import_kind}
 use Rattle.deno_graph_dep.specs.DependencyRules.{is_dependency_kind, is_dependency}
 use Rattle.deno_graph_dep.specs.Descriptor.{Descriptor, dynamic_descriptor, static_descriptor}
 use Rattle.deno_graph_dep.specs.DependencyNodes.{dependency_nodes_below}
-use Rattle.deno_graph_dep.specs.DescriptorOf.{
-  AreDescriptorsOf,
-  AreNoAttributes,
-  IsDescriptorOf,
-  IsDescriptorOfKind,
-  IsDynamicDescriptorOf,
-  IsStaticDescriptorOf,
-  argument_at,
-  specified_descriptor,
-  with_clause,
-}
+use Rattle.deno_graph_dep.specs.DescriptorOf.{AreDescriptorsOf, AreNoAttributes, IsDescriptorOf}
+use Rattle.deno_graph_dep.specs.DescriptorOf.{IsDescriptorOfKind, IsDynamicDescriptorOf, IsStaticDescriptorOf}
+use Rattle.deno_graph_dep.specs.DescriptorOf.{argument_at, specified_descriptor, with_clause}
 use Rattle.deno_graph_dep.proofs.Calls.{argument_shaped, first_argument_within, node_within}
 use Rattle.deno_graph_dep.proofs.DependencyRanges.{dependency_one, shaped_node}
 use Rattle.deno_graph_dep.proofs.DependencyNodes.{AreDependencyNodes-dependencies_below}

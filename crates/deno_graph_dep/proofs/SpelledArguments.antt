@@ -1,36 +1,13 @@
 -- The argument in a descriptor spells the text of its expression.
-use Rattle.std.proofs.Common.{
-  ◌≡◌,
-  ℕ,
-  suc,
-  Bool,
-  true,
-  false,
-  List,
-  [],
-  ◌∷◌,
-  None,
-  Some,
-  slice_get,
-  refl,
-  sym,
-  subst,
-  All,
-  MatchBool,
-}
+use Rattle.std.proofs.Common.{◌≡◌, ℕ, suc, Bool, true, false, List, [], ◌∷◌, None, Some, slice_get, refl, sym}
+use Rattle.std.proofs.Common.{subst, All, MatchBool}
 use Rattle.std.specs.List.{AllZip}
 use Rattle.deno_graph_source.specs.Comments.{FiledComments}
 use Rattle.deno_graph_source.specs.Node.{kind_of, nodes_of, IsShaped}
 use Rattle.deno_graph_source.specs.declared.tree.node.Kind.{Kind}
-use Rattle.deno_graph_source.specs.declared.tree.node.Kind.TheVariants.{
-  ImportDecl,
-  NamedExport,
-  ExportAll,
-  ImportEquals,
-  ImportType,
-  ModuleDecl,
-  Call,
-}
+use Rattle.deno_graph_source.specs.declared.tree.node.Kind.TheVariants.{ImportDecl, NamedExport, ExportAll}
+use Rattle.deno_graph_source.specs.declared.tree.node.Kind.TheVariants.{ImportEquals, ImportType, ModuleDecl}
+use Rattle.deno_graph_source.specs.declared.tree.node.Kind.TheVariants.{Call}
 use Rattle.deno_graph_source.specs.declared.tree.node.Node.{Node}
 use Rattle.deno_graph_source.specs.declared.tree.node.Program.{Program}
 use Rattle.deno_graph_source.specs.declared.tree.node.StrLit.{StrLit}
@@ -41,12 +18,8 @@ use Rattle.deno_graph_dep.specs.Argument.{Form, HasForm, expression}
 use Rattle.deno_graph_dep.specs.Dependencies.{AreDependencies}
 use Rattle.deno_graph_dep.specs.Descriptor.{Descriptor}
 use Rattle.deno_graph_dep.specs.SpelledArguments.{SpellArguments, SpellsArgumentAt, SpellsIn}
-use Rattle.deno_graph_dep.specs.DescriptorOf.{
-  AreDescriptorsOf,
-  IsDescriptorOf,
-  IsDescriptorOfKind,
-  IsStaticDescriptorOf,
-}
+use Rattle.deno_graph_dep.specs.DescriptorOf.{AreDescriptorsOf, IsDescriptorOf, IsDescriptorOfKind}
+use Rattle.deno_graph_dep.specs.DescriptorOf.{IsStaticDescriptorOf}
 use Rattle.deno_graph_dep.specs.Value.{SpellsItsText}
 use Rattle.deno_graph_dep.proofs.Calls.{argument_shaped}
 use Rattle.deno_graph_dep.proofs.DependencyRanges.{dependency_one, shaped_node}

@@ -1,29 +1,6 @@
 -- A form spells its node's text.
-use Rattle.std.proofs.Common.{
-  ◌≡◌,
-  ℕ,
-  ◌+◌,
-  List,
-  [],
-  ◌∷◌,
-  ◌++◌,
-  map,
-  length,
-  All,
-  Some,
-  Bool,
-  true,
-  false,
-  ◌&&◌,
-  if◌then◌else◌,
-  arith,
-  ap,
-  sym,
-  refl,
-  ◌∙◌,
-  subst,
-  append_assoc,
-}
+use Rattle.std.proofs.Common.{◌≡◌, ℕ, ◌+◌, List, [], ◌∷◌, ◌++◌, map, length, All, Some, Bool, true, false}
+use Rattle.std.proofs.Common.{◌&&◌, if◌then◌else◌, arith, ap, sym, refl, ◌∙◌, subst, append_assoc}
 use Rattle.std.specs.List.{flat_map, list_all}
 use Rattle.std.proofs.lemmas.List.{append-nil, map-append, length-append, length-map}
 use Rattle.std.proofs.lemmas.List.Elements.{All-head, All-pop}
@@ -35,44 +12,13 @@ use Rattle.deno_graph_source.specs.declared.tree.node.Node.{Node}
 use Rattle.deno_graph_base.specs.JsString.{lossy_text, IsReadable}
 use Rattle.deno_graph_source.specs.Node.{kind_of, children_of, HasCountOfKind}
 use Rattle.deno_graph_source.specs.NodePath.{NodePath}
-use Rattle.deno_graph_dep.specs.Argument.{
-  Form,
-  parts,
-  expression,
-  ArgumentPart,
-  known,
-  unknown,
-  quasi_part,
-  template_parts,
-  template_form,
-  is_string,
-  is_add,
-  SpineStep,
-  LeftSpine,
-  operands_of,
-  part_of,
-  HasFormAt,
-  HasForm,
-}
-use Rattle.deno_graph_dep.specs.Value.{
-  Assignment,
-  template_text,
-  ContributesAt,
-  HasText,
-  of_string,
-  of_template,
-  of_sum,
-  joined,
-  child_paths,
-  unknown_path,
-  unknown_operands,
-  AreUnknownsAt,
-  IsReadableAt,
-  HasReadableLiteralsAt,
-  SpellsUnder,
-  SpellsItsText,
-  unknown_count,
-}
+use Rattle.deno_graph_dep.specs.Argument.{Form, parts, expression, ArgumentPart, known, unknown, quasi_part}
+use Rattle.deno_graph_dep.specs.Argument.{template_parts, template_form, is_string, is_add, SpineStep}
+use Rattle.deno_graph_dep.specs.Argument.{LeftSpine, operands_of, part_of, HasFormAt, HasForm}
+use Rattle.deno_graph_dep.specs.Value.{Assignment, template_text, ContributesAt, HasText, of_string}
+use Rattle.deno_graph_dep.specs.Value.{of_template, of_sum, joined, child_paths, unknown_path}
+use Rattle.deno_graph_dep.specs.Value.{unknown_operands, AreUnknownsAt, IsReadableAt, HasReadableLiteralsAt}
+use Rattle.deno_graph_dep.specs.Value.{SpellsUnder, SpellsItsText, unknown_count}
 
 joined-quasi : (quasi : List ℕ) (ps : List ArgumentPart) (texts : List (List ℕ))
     → joined (quasi_part quasi ++ ps) texts ≡ lossy_text quasi ++ joined ps texts

@@ -1,34 +1,7 @@
 -- Left spines: their shape in a valid tree, and a descent joined with the spine below it.
-use Rattle.std.proofs.Common.{
-  ◌≡◌,
-  ℕ,
-  zero,
-  suc,
-  ◌<◌,
-  ◌≤◌,
-  ◌+◌,
-  List,
-  [],
-  ◌∷◌,
-  ◌++◌,
-  map,
-  reverse,
-  length,
-  Some,
-  All,
-  slice_get,
-  Bool,
-  true,
-  false,
-  ◌&&◌,
-  arith,
-  ap,
-  sym,
-  refl,
-  ◌∙◌,
-  subst,
-  if◌then◌else◌,
-}
+use Rattle.std.proofs.Common.{◌≡◌, ℕ, zero, suc, ◌<◌, ◌≤◌, ◌+◌, List, [], ◌∷◌, ◌++◌, map, reverse, length}
+use Rattle.std.proofs.Common.{Some, All, slice_get, Bool, true, false, ◌&&◌, arith, ap, sym, refl, ◌∙◌, subst}
+use Rattle.std.proofs.Common.{if◌then◌else◌}
 use Rattle.std.specs.List.{list_all}
 use Rattle.std.proofs.lemmas.List.{reverse-append, map-append}
 use Rattle.deno_graph_source.specs.declared.tree.node.Kind.{Kind}
@@ -38,22 +11,9 @@ use Rattle.deno_graph_source.specs.declared.tree.node.Node.{Node, size-Node}
 use Rattle.deno_graph_source.specs.Node.{kind_of, children_of, nodes_in, HasCountOfKind, IsShaped}
 use Rattle.std.proofs.lemmas.Option.{slice_get_within, get_or_from_slice_get}
 use Rattle.deno_graph_source.proofs.ValidSource.{All-child_nodes, node-holds}
-use Rattle.deno_graph_dep.specs.Argument.{
-  is_binary,
-  is_sum,
-  is_string,
-  is_add,
-  SpineStep,
-  LeftSpine,
-  operands_of,
-  part_of,
-  sum_form,
-  ArgumentPart,
-  Form,
-  parts,
-  expression,
-  HasFormAt,
-}
+use Rattle.deno_graph_dep.specs.Argument.{is_binary, is_sum, is_string, is_add, SpineStep, LeftSpine}
+use Rattle.deno_graph_dep.specs.Argument.{operands_of, part_of, sum_form, ArgumentPart, Form, parts}
+use Rattle.deno_graph_dep.specs.Argument.{expression, HasFormAt}
 use Rattle.deno_graph_dep.proofs.Depth.{child_smaller}
 
 -- the node and all nodes below it have the children that their kinds need

@@ -1,31 +1,6 @@
 -- The paths still to come on the stack of a walk, when a node is entered and when one is left.
-use Rattle.std.proofs.Common.{
-  ◌≡◌,
-  ℕ,
-  suc,
-  ◌+◌,
-  List,
-  [],
-  ◌∷◌,
-  ◌++◌,
-  length,
-  map,
-  Bool,
-  true,
-  false,
-  not,
-  ◌&&◌,
-  cond,
-  Some,
-  None,
-  slice_get,
-  sym,
-  ap,
-  ◌∙◌,
-  refl,
-  arith,
-  append_assoc,
-}
+use Rattle.std.proofs.Common.{◌≡◌, ℕ, suc, ◌+◌, List, [], ◌∷◌, ◌++◌, length, map, Bool, true, false, not}
+use Rattle.std.proofs.Common.{◌&&◌, cond, Some, None, slice_get, sym, ap, ◌∙◌, refl, arith, append_assoc}
 use Rattle.std.proofs.lemmas.List.{map-append, length-append}
 use Rattle.std.specs.Borrow.{Bor}
 use Rattle.deno_graph_source.specs.Node.{kind_of, children_of}
@@ -34,18 +9,8 @@ use Rattle.deno_graph_dep.specs.DependencyRules.{children_to_visit, is_closed}
 use Rattle.deno_graph_dep.specs.internal.ListingPaths.{under, here, paths_at}
 use Rattle.deno_graph_dep.specs.Listing.{Rules}
 use Rattle.deno_graph_source.specs.NodePath.{NodePath, node_below, node_at}
-use Rattle.deno_graph_dep.specs.internal.Stack.{
-  frame_of,
-  comes_before,
-  comes_after,
-  once,
-  index_of,
-  frame_index,
-  next_path,
-  paths_to_come,
-  AreLastOf,
-  AreNested,
-}
+use Rattle.deno_graph_dep.specs.internal.Stack.{frame_of, comes_before, comes_after, once, index_of}
+use Rattle.deno_graph_dep.specs.internal.Stack.{frame_index, next_path, paths_to_come, AreLastOf, AreNested}
 use Rattle.deno_graph_dep.specs.declared.stack.Frame.{Frame}
 use Rattle.deno_graph_dep.proofs.ListingPaths.{paths_at-is}
 

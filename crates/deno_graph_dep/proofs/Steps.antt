@@ -5,32 +5,14 @@ use Rattle.deno_graph_source.specs.declared.tree.node.Node.{Node}
 use Rattle.deno_graph_dep.specs.DependencyRules.{children_to_visit}
 use Rattle.deno_graph_dep.specs.Listing.{Rules}
 use Rattle.deno_graph_source.specs.NodePath.{NodePath}
-use Rattle.deno_graph_dep.specs.internal.Stack.{
-  frame_of,
-  comes_before,
-  comes_after,
-  once,
-  next_path,
-  AreNested,
-}
-use Rattle.deno_graph_dep.specs.internal.Stack.{to_come}
+use Rattle.deno_graph_dep.specs.internal.Stack.{frame_of, comes_before, comes_after, once, next_path}
+use Rattle.deno_graph_dep.specs.internal.Stack.{AreNested, to_come}
 use Rattle.deno_graph_dep.specs.declared.stack.Frame.{Frame}
 use Rattle.deno_graph_dep.specs.declared.stack.Stack.{Stack}
-use Rattle.deno_graph_dep.proofs.IterationsLeft.{
-  iterations_left,
-  iterations_left_in,
-  iterations_left_in-push,
-  to_enter,
-  to_enter-first,
-}
-use Rattle.deno_graph_dep.proofs.Stacks.{
-  ClosesAsVisited,
-  paths_to_come-enter,
-  paths_to_come-leave,
-  AreNested-enter,
-  AreNested-leave,
-  AreNested-left,
-}
+use Rattle.deno_graph_dep.proofs.IterationsLeft.{iterations_left, iterations_left_in, iterations_left_in-push}
+use Rattle.deno_graph_dep.proofs.IterationsLeft.{to_enter, to_enter-first}
+use Rattle.deno_graph_dep.proofs.Stacks.{ClosesAsVisited, paths_to_come-enter, paths_to_come-leave}
+use Rattle.deno_graph_dep.proofs.Stacks.{AreNested-enter, AreNested-leave, AreNested-left}
 
 pub record Enters (old new : Stack) (node : Bor Node) (siblings : Bor (List Node)) : Type 0 where
   pub first : old.nodes.now ≡ node.now ∷ siblings.now

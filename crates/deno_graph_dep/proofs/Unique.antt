@@ -8,18 +8,9 @@ use Rattle.deno_graph_source.specs.declared.tree.node.Arg.{Arg}
 use Rattle.deno_graph_source.specs.declared.tree.node.BinaryOp.{BinaryOp}
 use Rattle.deno_graph_source.specs.declared.tree.node.Callee.{Callee}
 use Rattle.deno_graph_source.specs.declared.tree.node.Kind.{Kind}
-use Rattle.deno_graph_source.specs.declared.tree.node.Kind.TheVariants.{
-  ImportDecl,
-  NamedExport,
-  ExportAll,
-  ImportEquals,
-  ImportType,
-  ModuleDecl,
-  Call,
-  Str,
-  Template,
-  Binary,
-}
+use Rattle.deno_graph_source.specs.declared.tree.node.Kind.TheVariants.{ImportDecl, NamedExport, ExportAll}
+use Rattle.deno_graph_source.specs.declared.tree.node.Kind.TheVariants.{ImportEquals, ImportType, ModuleDecl}
+use Rattle.deno_graph_source.specs.declared.tree.node.Kind.TheVariants.{Call, Str, Template, Binary}
 use Rattle.deno_graph_source.specs.declared.tree.node.Node.{Node}
 use Rattle.deno_graph_source.specs.declared.tree.node.StrLit.{StrLit}
 use Rattle.deno_graph_base.specs.declared.text.position.SourceRange.{SourceRange}
@@ -27,44 +18,21 @@ use Rattle.deno_graph_info.specs.declared.analysis.import_attributes.ImportAttri
 use Rattle.deno_graph_info.specs.declared.analysis.import_attributes.ImportAttributes.TheVariants as attributes
 use Rattle.deno_graph_info.specs.declared.analysis.static_dependency.StaticDependencyKind.{StaticDependencyKind}
 use Rattle.deno_graph_info.specs.declared.analysis.static_dependency.StaticDependencyKind.TheVariants as static_kind
-use Rattle.deno_graph_info.specs.declared.analysis.dynamic_dependency.DynamicDependencyKind.{
-  DynamicDependencyKind,
-}
-use Rattle.deno_graph_dep.specs.Argument.{
-  Form,
-  HasForm,
-  HasFormAt,
-  LeftSpine,
-  SpineStep,
-  expression,
-  is_binary,
-  sum_form,
-}
+use Rattle.deno_graph_info.specs.declared.analysis.dynamic_dependency.DynamicDependencyKind.{DynamicDependencyKind}
+use Rattle.deno_graph_dep.specs.Argument.{Form, HasForm, HasFormAt, LeftSpine, SpineStep, expression}
+use Rattle.deno_graph_dep.specs.Argument.{is_binary, sum_form}
 use Rattle.deno_graph_dep.specs.Dependencies.{AreDependencies}
 use Rattle.deno_graph_dep.specs.DependencyKind.{import_kind, export_kind, import_equals_kind}
 use Rattle.deno_graph_dep.specs.Descriptor.{Descriptor, dynamic_descriptor, static_descriptor}
-use Rattle.deno_graph_dep.specs.DescriptorOf.{
-  AreDescriptorsOf,
-  ArgumentHasForm,
-  AreNoAttributes,
-  IsDescriptorOf,
-  IsDescriptorOfKind,
-  IsDynamicDescriptorOf,
-  IsStaticDescriptorOf,
-  argument_at,
-  specified_descriptor,
-  with_clause,
-}
+use Rattle.deno_graph_dep.specs.DescriptorOf.{AreDescriptorsOf, ArgumentHasForm, AreNoAttributes}
+use Rattle.deno_graph_dep.specs.DescriptorOf.{IsDescriptorOf, IsDescriptorOfKind, IsDynamicDescriptorOf}
+use Rattle.deno_graph_dep.specs.DescriptorOf.{IsStaticDescriptorOf, argument_at, specified_descriptor}
+use Rattle.deno_graph_dep.specs.DescriptorOf.{with_clause}
 use Rattle.deno_graph_dep.proofs.DependencyNodes.{AreDependencyNodes-unique}
 use Rattle.deno_graph_dep.proofs.Spine.{step_with}
-use Rattle.deno_graph_dep.proofs.UniqueAttributes.{
-  IsUnique,
-  unique_equal,
-  unique_by,
-  AreDeclarationAttributes-unique,
-  AreTypeAttributes-unique,
-  AreCallAttributes-unique,
-}
+use Rattle.deno_graph_dep.proofs.UniqueAttributes.{IsUnique, unique_equal, unique_by}
+use Rattle.deno_graph_dep.proofs.UniqueAttributes.{AreDeclarationAttributes-unique, AreTypeAttributes-unique}
+use Rattle.deno_graph_dep.proofs.UniqueAttributes.{AreCallAttributes-unique}
 
 -- The form of an argument
 

@@ -1,34 +1,7 @@
 -- The attributes of a node are unique.
-use Rattle.std.proofs.Common.{
-  ◌≡◌,
-  ℕ,
-  Bool,
-  true,
-  false,
-  not,
-  ◌&&◌,
-  cond,
-  List,
-  [],
-  ◌∷◌,
-  Option,
-  Some,
-  None,
-  option_and_then,
-  ◌⊎◌,
-  inl,
-  inr,
-  ⊎_elim,
-  ◌↔◌,
-  refl,
-  sym,
-  ap,
-  subst,
-  ◌∙◌,
-  arith,
-  slice_get,
-  MatchBool,
-}
+use Rattle.std.proofs.Common.{◌≡◌, ℕ, Bool, true, false, not, ◌&&◌, cond, List, [], ◌∷◌, Option, Some, None}
+use Rattle.std.proofs.Common.{option_and_then, ◌⊎◌, inl, inr, ⊎_elim, ◌↔◌, refl, sym, ap, subst, ◌∙◌, arith}
+use Rattle.std.proofs.Common.{slice_get, MatchBool}
 use Rattle.std.specs.Cmp.Lexicographic.{slice_cmp}
 use Rattle.std.specs.List.{AllByRecursion}
 use Rattle.std.specs.List.Sorted.{IsStrictlySortedBy}
@@ -48,23 +21,10 @@ use Rattle.deno_graph_source.specs.declared.tree.node.Node.{Node}
 use Rattle.deno_graph_base.specs.TextMap.{value_at, IsAscending}
 use Rattle.deno_graph_info.specs.declared.analysis.import_attributes.ImportAttributes.{ImportAttributes}
 use Rattle.deno_graph_info.specs.declared.analysis.import_attributes.ImportAttributes.TheVariants as attributes
-use Rattle.deno_graph_dep.specs.Attributes.{
-  value_node,
-  has_static_keys,
-  declared,
-  in_object,
-  Entries,
-  Giving,
-  HoldsLast,
-  KnowsLast,
-  AreDeclarationAttributes,
-  AreObjectAttributes,
-  AreValueAttributes,
-  AreAttributesAt,
-  IsOfLastClause,
-  AreClauseAttributes,
-  AreCallAttributes,
-}
+use Rattle.deno_graph_dep.specs.Attributes.{value_node, has_static_keys, declared, in_object, Entries, Giving}
+use Rattle.deno_graph_dep.specs.Attributes.{HoldsLast, KnowsLast, AreDeclarationAttributes}
+use Rattle.deno_graph_dep.specs.Attributes.{AreObjectAttributes, AreValueAttributes, AreAttributesAt}
+use Rattle.deno_graph_dep.specs.Attributes.{IsOfLastClause, AreClauseAttributes, AreCallAttributes}
 use Rattle.deno_graph_dep.specs.DescriptorOf.{AreTypeAttributes}
 
 -- at most one value has the property

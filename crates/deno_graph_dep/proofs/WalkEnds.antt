@@ -1,33 +1,6 @@
 -- A walk stays at its end, and ends.
-use Rattle.std.proofs.Common.{
-  ◌≡◌,
-  ◌≢◌,
-  ℕ,
-  ◌+◌,
-  ◌-◌,
-  ◌^◌,
-  ◌≤◌,
-  min,
-  List,
-  [],
-  ◌∷◌,
-  ◌++◌,
-  length,
-  Option,
-  Some,
-  None,
-  inl,
-  inr,
-  ⊎_elim,
-  sym,
-  ap,
-  ◌∙◌,
-  refl,
-  subst,
-  arith,
-  cond,
-  zero-le,
-}
+use Rattle.std.proofs.Common.{◌≡◌, ◌≢◌, ℕ, ◌+◌, ◌-◌, ◌^◌, ◌≤◌, min, List, [], ◌∷◌, ◌++◌, length, Option, Some}
+use Rattle.std.proofs.Common.{None, inl, inr, ⊎_elim, sym, ap, ◌∙◌, refl, subst, arith, cond, zero-le}
 use Rattle.std.proofs.lemmas.List.{length-append}
 use Rattle.std.proofs.lemmas.List.Sums.{sum_by-cons}
 use Rattle.std.specs.Borrow.{Bor}
@@ -40,16 +13,9 @@ use Rattle.deno_graph_dep.specs.DependencyRules.{dependency_rules}
 use Rattle.deno_graph_dep.specs.Entered.{IsCountOf}
 use Rattle.deno_graph_dep.specs.Listing.{IsReachable}
 use Rattle.deno_graph_dep.specs.Walk.{AreWalkSteps, IsWalkStep, WalkState}
-use Rattle.deno_graph_dep.proofs.Ascending.{
-  Member,
-  Ascending,
-  Member-append,
-  Member-left,
-  Member-right,
-  Member-from_Contains,
-  Contains-from_Member,
-  Ascending-from_AllPairs,
-}
+use Rattle.deno_graph_dep.proofs.Ascending.{Member, Ascending, Member-append, Member-left, Member-right}
+use Rattle.deno_graph_dep.proofs.Ascending.{Member-from_Contains, Contains-from_Member}
+use Rattle.deno_graph_dep.proofs.Ascending.{Ascending-from_AllPairs}
 
 -- two counts of one property are equal
 

@@ -1,41 +1,12 @@
 -- A walk from its start, and from one step to the next.
-use Rattle.std.proofs.Common.{
-  ◌≡◌,
-  ℕ,
-  ◌+◌,
-  List,
-  [],
-  ◌∷◌,
-  ◌++◌,
-  map,
-  Option,
-  Some,
-  None,
-  Result,
-  Ok,
-  Err,
-  IfOk,
-  OnErr,
-  sym,
-  ap,
-  ◌∙◌,
-  refl,
-  subst,
-  arith,
-  append_assoc,
-}
+use Rattle.std.proofs.Common.{◌≡◌, ℕ, ◌+◌, List, [], ◌∷◌, ◌++◌, map, Option, Some, None, Result, Ok, Err}
+use Rattle.std.proofs.Common.{IfOk, OnErr, sym, ap, ◌∙◌, refl, subst, arith, append_assoc}
 use Rattle.std.specs.Borrow.{Bor}
 use Rattle.deno_graph_source.specs.declared.tree.node.Node.{Node}
 use Rattle.deno_graph_source.specs.declared.tree.node.Program.{Program}
 use Rattle.deno_graph_dep.specs.DependencyRules.{dependency_rules}
-use Rattle.deno_graph_dep.specs.internal.Stack.{
-  entry_rules,
-  index_of,
-  paths_to_come,
-  to_come,
-  AreNested,
-  IsStackOf,
-}
+use Rattle.deno_graph_dep.specs.internal.Stack.{entry_rules, index_of, paths_to_come, to_come, AreNested}
+use Rattle.deno_graph_dep.specs.internal.Stack.{IsStackOf}
 use Rattle.deno_graph_dep.specs.internal.ListingPaths.{listing_paths, paths_at}
 use Rattle.deno_graph_dep.specs.Listing.{Rules, IsListing}
 use Rattle.deno_graph_source.specs.NodePath.{NodePath}

@@ -1,28 +1,7 @@
 -- The import attributes of a declaration, an import type or a call, by the properties of an object
 -- literal.
-use Rattle.std.specs.Prelude.{
-  ◌≡◌,
-  ◌≢◌,
-  ℕ,
-  ◌<◌,
-  ◌-◌,
-  ◌↔◌,
-  ◌⊎◌,
-  Bool,
-  not,
-  ◌&&◌,
-  List,
-  length,
-  codes,
-  Option,
-  Some,
-  None,
-  is_some,
-  option_map,
-  option_and_then,
-  slice_get,
-  MatchBool,
-}
+use Rattle.std.specs.Prelude.{◌≡◌, ◌≢◌, ℕ, ◌<◌, ◌-◌, ◌↔◌, ◌⊎◌, Bool, not, ◌&&◌, List, length, codes, Option}
+use Rattle.std.specs.Prelude.{Some, None, is_some, option_map, option_and_then, slice_get, MatchBool}
 use Rattle.std.specs.List.{list_all}
 use Rattle.deno_graph_source.specs.declared.tree.node.Arg.{Arg}
 use Rattle.deno_graph_source.specs.declared.tree.node.Kind.{Kind}

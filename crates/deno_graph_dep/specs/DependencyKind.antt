@@ -1,17 +1,6 @@
 -- The kind of the dependency that a node is.
-use Rattle.std.specs.Prelude.{
-  List,
-  Bool,
-  true,
-  false,
-  Option,
-  Some,
-  None,
-  codes,
-  option_map,
-  slice_get,
-  if◌then◌else◌,
-}
+use Rattle.std.specs.Prelude.{List, Bool, true, false, Option, Some, None, codes, option_map, slice_get}
+use Rattle.std.specs.Prelude.{if◌then◌else◌}
 use Rattle.std.specs.Str.{bytes_eq}
 use Rattle.deno_graph_source.specs.Node.{kind_of}
 use Rattle.deno_graph_source.specs.declared.tree.node.Callee.{Callee}
@@ -21,9 +10,7 @@ use Rattle.deno_graph_source.specs.declared.tree.node.ImportPhase.TheVariants.{E
 use Rattle.deno_graph_source.specs.declared.tree.node.Kind.{Kind}
 use Rattle.deno_graph_source.specs.declared.tree.node.Kind.TheVariants.{Ident}
 use Rattle.deno_graph_source.specs.declared.tree.node.Node.{Node}
-use Rattle.deno_graph_info.specs.declared.analysis.dynamic_dependency.DynamicDependencyKind.{
-  DynamicDependencyKind,
-}
+use Rattle.deno_graph_info.specs.declared.analysis.dynamic_dependency.DynamicDependencyKind.{DynamicDependencyKind}
 use Rattle.deno_graph_info.specs.declared.analysis.dynamic_dependency.DynamicDependencyKind.TheVariants as dynamic_kind
 use Rattle.deno_graph_info.specs.declared.analysis.static_dependency.StaticDependencyKind.{StaticDependencyKind}
 use Rattle.deno_graph_info.specs.declared.analysis.static_dependency.StaticDependencyKind.TheVariants as static_kind

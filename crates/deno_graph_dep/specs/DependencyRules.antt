@@ -1,36 +1,13 @@
 -- Which nodes of a tree are dependencies, and which come after the dependencies inside them.
-use Rattle.std.specs.Prelude.{
-  ℕ,
-  List,
-  [],
-  Bool,
-  true,
-  false,
-  not,
-  ◌&&◌,
-  ◌||◌,
-  Some,
-  None,
-  is_some,
-  slice_get,
-  if◌then◌else◌,
-  codes,
-  nat_eq,
-  ◌==◌,
-}
+use Rattle.std.specs.Prelude.{ℕ, List, [], Bool, true, false, not, ◌&&◌, ◌||◌, Some, None, is_some, slice_get}
+use Rattle.std.specs.Prelude.{if◌then◌else◌, codes, nat_eq, ◌==◌}
 use Rattle.std.specs.List.{list_any, starts_with}
 use Rattle.deno_graph_base.specs.JsString.{lossy_text}
 use Rattle.deno_graph_source.specs.Node.{kind_of, children_of}
 use Rattle.deno_graph_source.specs.declared.tree.node.Kind.{Kind}
-use Rattle.deno_graph_source.specs.declared.tree.node.Kind.TheVariants.{
-  ImportDecl,
-  NamedExport,
-  ExportAll,
-  ImportEquals,
-  ImportType,
-  ModuleDecl,
-  Call,
-}
+use Rattle.deno_graph_source.specs.declared.tree.node.Kind.TheVariants.{ImportDecl, NamedExport, ExportAll}
+use Rattle.deno_graph_source.specs.declared.tree.node.Kind.TheVariants.{ImportEquals, ImportType, ModuleDecl}
+use Rattle.deno_graph_source.specs.declared.tree.node.Kind.TheVariants.{Call}
 use Rattle.deno_graph_source.specs.declared.tree.node.Node.{Node}
 use Rattle.deno_graph_dep.specs.DependencyKind.{call_kind}
 use Rattle.deno_graph_dep.specs.Listing.{Rules}

@@ -3,9 +3,7 @@ use Rattle.std.specs.Prelude.{ℕ, List, Bool}
 use Rattle.deno_graph_base.specs.SourceRange.{IsTextRange}
 use Rattle.deno_graph_base.specs.declared.text.position.SourceRange.{SourceRange}
 use Rattle.deno_graph_source.specs.declared.tree.comments.DependencyComment.{DependencyComment}
-use Rattle.deno_graph_info.specs.declared.analysis.dynamic_dependency.DynamicDependencyKind.{
-  DynamicDependencyKind,
-}
+use Rattle.deno_graph_info.specs.declared.analysis.dynamic_dependency.DynamicDependencyKind.{DynamicDependencyKind}
 use Rattle.deno_graph_info.specs.declared.analysis.import_attributes.ImportAttributes.{ImportAttributes}
 use Rattle.deno_graph_info.specs.declared.analysis.static_dependency.StaticDependencyKind.{StaticDependencyKind}
 use Rattle.deno_graph_dep.specs.Argument.{Form, form_seen}

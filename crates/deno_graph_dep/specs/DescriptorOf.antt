@@ -1,24 +1,6 @@
 -- The descriptor of a node that is a dependency.
-use Rattle.std.specs.Prelude.{
-  ◌≡◌,
-  ℕ,
-  ◌+◌,
-  List,
-  [],
-  ◌∷◌,
-  Bool,
-  false,
-  not,
-  Option,
-  Some,
-  None,
-  option_map,
-  option_and_then,
-  slice_get,
-  IsTrue,
-  MatchBool,
-  if◌then◌else◌,
-}
+use Rattle.std.specs.Prelude.{◌≡◌, ℕ, ◌+◌, List, [], ◌∷◌, Bool, false, not, Option, Some, None, option_map}
+use Rattle.std.specs.Prelude.{option_and_then, slice_get, IsTrue, MatchBool, if◌then◌else◌}
 use Rattle.deno_graph_source.specs.Comments.{FiledComments, leading_at}
 use Rattle.deno_graph_base.specs.JsString.{lossy_text}
 use Rattle.deno_graph_source.specs.Node.{kind_of, range_of, children_of, callee_count, has_with}
@@ -26,20 +8,12 @@ use Rattle.deno_graph_base.specs.declared.text.position.SourceRange.{SourceRange
 use Rattle.deno_graph_source.specs.declared.tree.node.Arg.{Arg}
 use Rattle.deno_graph_source.specs.declared.tree.node.Callee.{Callee}
 use Rattle.deno_graph_source.specs.declared.tree.node.Kind.{Kind}
-use Rattle.deno_graph_source.specs.declared.tree.node.Kind.TheVariants.{
-  ImportDecl,
-  NamedExport,
-  ExportAll,
-  ImportEquals,
-  ImportType,
-  ModuleDecl,
-  Call,
-}
+use Rattle.deno_graph_source.specs.declared.tree.node.Kind.TheVariants.{ImportDecl, NamedExport, ExportAll}
+use Rattle.deno_graph_source.specs.declared.tree.node.Kind.TheVariants.{ImportEquals, ImportType, ModuleDecl}
+use Rattle.deno_graph_source.specs.declared.tree.node.Kind.TheVariants.{Call}
 use Rattle.deno_graph_source.specs.declared.tree.node.Node.{Node}
 use Rattle.deno_graph_source.specs.declared.tree.node.StrLit.{StrLit}
-use Rattle.deno_graph_info.specs.declared.analysis.dynamic_dependency.DynamicDependencyKind.{
-  DynamicDependencyKind,
-}
+use Rattle.deno_graph_info.specs.declared.analysis.dynamic_dependency.DynamicDependencyKind.{DynamicDependencyKind}
 use Rattle.deno_graph_info.specs.declared.analysis.import_attributes.ImportAttributes.{ImportAttributes}
 use Rattle.deno_graph_info.specs.declared.analysis.import_attributes.ImportAttributes.TheVariants as attributes
 use Rattle.deno_graph_info.specs.declared.analysis.static_dependency.StaticDependencyKind.{StaticDependencyKind}
@@ -47,12 +21,8 @@ use Rattle.deno_graph_info.specs.declared.analysis.static_dependency.StaticDepen
 use Rattle.deno_graph_dep.specs.Argument.{Form, HasForm, expression}
 use Rattle.deno_graph_dep.specs.Attributes.{AreDeclarationAttributes, AreObjectAttributes, AreCallAttributes}
 use Rattle.deno_graph_dep.specs.DependencyKind.{import_kind, export_kind, import_equals_kind, call_kind}
-use Rattle.deno_graph_dep.specs.Descriptor.{
-  Descriptor,
-  StaticDescriptor,
-  static_descriptor,
-  dynamic_descriptor,
-}
+use Rattle.deno_graph_dep.specs.Descriptor.{Descriptor, StaticDescriptor, static_descriptor}
+use Rattle.deno_graph_dep.specs.Descriptor.{dynamic_descriptor}
 use Rattle.deno_graph_dep.specs.DependencyRules.{may_name_module}
 
 -- the object literal of a node's `with` clause, if it has one: its first child

@@ -8,19 +8,8 @@ use Rattle.deno_graph_source.specs.declared.tree.node.Node.{Node}
 use Rattle.deno_graph_base.specs.JsString.{lossy_text, IsReadable}
 use Rattle.deno_graph_source.specs.Node.{kind_of, children_of}
 use Rattle.deno_graph_source.specs.NodePath.{NodePath}
-use Rattle.deno_graph_dep.specs.Argument.{
-  Form,
-  text,
-  parts,
-  expression,
-  ArgumentPart,
-  known,
-  unknown,
-  is_string,
-  SpineStep,
-  LeftSpine,
-  operands_of,
-}
+use Rattle.deno_graph_dep.specs.Argument.{Form, text, parts, expression, ArgumentPart, known, unknown}
+use Rattle.deno_graph_dep.specs.Argument.{is_string, SpineStep, LeftSpine, operands_of}
 
 -- an assignment: a text for the expression at each path below an argument
 abbrev pub Assignment : Type 0

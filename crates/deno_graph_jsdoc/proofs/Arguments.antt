@@ -10,9 +10,8 @@ use denote.Ref.{Bor}
 use Rattle.deno_graph_jsdoc.specs.Characters.{opening_brace, closing_brace}
 use Rattle.deno_graph_jsdoc.specs.JsDocGrammar.{◌·◌, Is, IsSpace, IsModeBlock, IsOptions, IsSecond, IsUpTo}
 use Rattle.deno_graph_jsdoc.specs.JsDocGrammar.{Lacks, Begins, Anything, NoSpace}
-use Rattle.deno_graph_jsdoc.specs.internal.Reading.{ReadsImport, HasArguments, IsDynamicEnd}
-use Rattle.deno_graph_jsdoc.specs.internal.Reading.{EndsArguments, Reads}
-use Rattle.deno_graph_jsdoc.specs.internal.Reading.{rest_and_mode}
+use Rattle.deno_graph_jsdoc.specs.internal.Reading.{ReadsImport, HasArguments, IsDynamicEnd, EndsArguments}
+use Rattle.deno_graph_jsdoc.specs.internal.Reading.{Reads, rest_and_mode}
 use Rattle.deno_graph_jsdoc.specs.JsDocImport.{Mode, Import, IsDynamicImport, EndsDynamicImport, byte_count}
 use Rattle.deno_graph_jsdoc.specs.JsDocImport.{moved}
 use Rattle.deno_graph_jsdoc.proofs.Blocks.{IsSolid-block, IsSolid-front, Closed-solid}

@@ -9,9 +9,7 @@ use Rattle.deno_graph_jsdoc.specs.JsDocGrammar.{AreFurther, AreAttributes, IsBlo
 use Rattle.deno_graph_jsdoc.specs.JsDocGrammar.{resolution_mode_value, mode_of, Begins, Anything, NoSpace}
 use Rattle.deno_graph_jsdoc.specs.internal.Reading.{IsModeBlockEnd, Reads}
 use Rattle.deno_graph_base.specs.ResolutionMode.{mode_named}
-use Rattle.deno_graph_base.specs.declared.values.resolution_mode.TypeScriptTypesResolutionMode.{
-  TypeScriptTypesResolutionMode,
-}
+use Rattle.deno_graph_base.specs.declared.values.resolution_mode.TypeScriptTypesResolutionMode.{TypeScriptTypesResolutionMode}
 use Rattle.deno_graph_jsdoc.proofs.Alphabetic.{Alphabetic-is_whitespace}
 use Rattle.deno_graph_jsdoc.proofs.Attributes.{IsSolid-quote, key_no_brace}
 use Rattle.deno_graph_jsdoc.proofs.Readings.{Begins-split, Begins-join, IsSolid, IsSolid-append, IsSolid-word}

@@ -5,8 +5,8 @@ use Rattle.std.specs.Str.{skip_leading_whitespace}
 use Rattle.deno_graph_jsdoc.specs.Characters.{closing_brace}
 use Rattle.deno_graph_jsdoc.specs.JsDocGrammar.{◌·◌, Is, IsSpace, IsQuote, IsModeBlock, IsOptions, IsUpTo}
 use Rattle.deno_graph_jsdoc.specs.JsDocGrammar.{Anything, NoSpace}
-use Rattle.deno_graph_jsdoc.specs.internal.Reading.{ReadsImport, IsDynamicEnd, HasArguments}
-use Rattle.deno_graph_jsdoc.specs.internal.Reading.{EndsArguments, Reads}
+use Rattle.deno_graph_jsdoc.specs.internal.Reading.{ReadsImport, IsDynamicEnd, HasArguments, EndsArguments}
+use Rattle.deno_graph_jsdoc.specs.internal.Reading.{Reads}
 use Rattle.deno_graph_jsdoc.specs.JsDocImport.{Mode, Import, IsDynamicImport, moved, byte_count}
 use Rattle.deno_graph_jsdoc.proofs.Arguments.{open_none, open_read, options_no_comma, options_no_brace}
 use Rattle.deno_graph_jsdoc.proofs.Arguments.{options_no_with, options_no_colon, options_no_block}

@@ -11,8 +11,8 @@ use Rattle.deno_graph_jsdoc.specs.Characters.{double_quote, apostrophe, closing_
 use Rattle.deno_graph_jsdoc.specs.JsDocGrammar.{◌·◌, Is, IsSpace, IsGap, IsBetween, IsQuote, IsIdent, IsKey}
 use Rattle.deno_graph_jsdoc.specs.JsDocGrammar.{Attribute, IsAttribute, IsModeBlock, IsWith, Lacks}
 use Rattle.deno_graph_jsdoc.specs.JsDocGrammar.{ends_ident, resolution_mode_value, Anything, NoSpace}
-use Rattle.deno_graph_jsdoc.specs.internal.Reading.{IsModeBlockEnd, begins_ident, ReadsImport}
-use Rattle.deno_graph_jsdoc.specs.internal.Reading.{EndOfIdent, Reads}
+use Rattle.deno_graph_jsdoc.specs.internal.Reading.{IsModeBlockEnd, begins_ident, ReadsImport, EndOfIdent}
+use Rattle.deno_graph_jsdoc.specs.internal.Reading.{Reads}
 use Rattle.deno_graph_jsdoc.specs.JsDocImport.{Mode, Import, byte_count}
 use Rattle.deno_graph_jsdoc.proofs.Attributes.{attribute_no_key, attribute_no_colon, attribute_read}
 use Rattle.deno_graph_jsdoc.proofs.Attributes.{key_quoted, key_named}

@@ -9,9 +9,9 @@ use Rattle.deno_graph_jsdoc.specs.Characters.{at_sign}
 use Rattle.deno_graph_jsdoc.specs.JsDocGrammar.{◌·◌, Is, IsSpace, IsGap, IsClause, IsUpTo, IsQuote, Begins}
 use Rattle.deno_graph_jsdoc.specs.JsDocGrammar.{Anything}
 use Rattle.deno_graph_jsdoc.specs.internal.Reading.{ReadsImport, IsDeclarationEnd, IsDynamicEnd}
-use Rattle.deno_graph_jsdoc.specs.JsDocImport.{Mode, Import, BeginsWithImport}
-use Rattle.deno_graph_jsdoc.specs.JsDocImport.{EndsDeclaration, EndsDynamicImport}
-use Rattle.deno_graph_jsdoc.specs.JsDocImport.{IsDeclaration, IsDynamicImport, moved, byte_count}
+use Rattle.deno_graph_jsdoc.specs.JsDocImport.{Mode, Import, BeginsWithImport, EndsDeclaration}
+use Rattle.deno_graph_jsdoc.specs.JsDocImport.{EndsDynamicImport, IsDeclaration, IsDynamicImport, moved}
+use Rattle.deno_graph_jsdoc.specs.JsDocImport.{byte_count}
 use Rattle.deno_graph_jsdoc.specs.JsDocImports.{IsImportIn, EndsAtDynamicImport, EndsAtDeclaration}
 use Rattle.deno_graph_jsdoc.proofs.Imports.{parts_of, joined, byte_count-append}
 use Rattle.deno_graph_jsdoc.proofs.Readings.{regroup, ungroup, textwise}

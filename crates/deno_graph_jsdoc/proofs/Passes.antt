@@ -10,13 +10,12 @@ use Rattle.deno_graph_jsdoc.specs.Characters.{at_sign, opening_brace}
 use Rattle.deno_graph_jsdoc.specs.internal.Reading.{ReadsImport, IsDeclarationEnd, IsDynamicEnd}
 use Rattle.deno_graph_jsdoc.specs.JsDocImport.{Import, moved, byte_count}
 use Rattle.deno_graph_jsdoc.specs.JsDocImports.{AreImportsIn, HasFronts, IsImportIn, IsFront}
-use Rattle.deno_graph_jsdoc.specs.JsDocImports.{EndsAtDynamicImport}
-use Rattle.deno_graph_jsdoc.specs.JsDocImports.{EndsAtDeclaration}
+use Rattle.deno_graph_jsdoc.specs.JsDocImports.{EndsAtDynamicImport, EndsAtDeclaration}
 use Rattle.deno_graph_jsdoc.specs.internal.Pass.{EndsWithAt, GainsImport, LeavesOpen}
 use Rattle.deno_graph_jsdoc.proofs.ImportsIn.{IsImportAfter, IsDynamicImportAfter, IsDeclarationAfter}
-use Rattle.deno_graph_jsdoc.proofs.ImportsIn.{import_after_word, dynamic_in}
-use Rattle.deno_graph_jsdoc.proofs.ImportsIn.{declaration_in, dynamic_ends, declaration_ends, no_import_after}
-use Rattle.deno_graph_jsdoc.proofs.ImportsIn.{only_import_after, import_after, one_import_in}
+use Rattle.deno_graph_jsdoc.proofs.ImportsIn.{import_after_word, dynamic_in, declaration_in, dynamic_ends}
+use Rattle.deno_graph_jsdoc.proofs.ImportsIn.{declaration_ends, no_import_after, only_import_after}
+use Rattle.deno_graph_jsdoc.proofs.ImportsIn.{import_after, one_import_in}
 use Rattle.deno_graph_jsdoc.proofs.Runs.{front_of_front}
 use Rattle.deno_graph_jsdoc.proofs.Sites.{word, EndsIn, IsCut, Skips, same_front, skips_to, no_further}
 use Rattle.deno_graph_jsdoc.proofs.Sites.{Counted, Counted-start, Counted-skip, Counted-more, Counted-all}

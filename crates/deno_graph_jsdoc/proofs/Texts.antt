@@ -9,8 +9,8 @@ use Rattle.std.proofs.lemmas.Bool.{eqb-false}
 use Rattle.std.proofs.lemmas.Str.{IsUtf8-from_ascii, IsUtf8-past_char, IsUtf8-take, IsUtf8-drop, chars-append}
 use Rattle.std.proofs.lemmas.Str.{chars-nil, chars-IsAscii, chars_from_encodes, chars_past_char}
 use Rattle.std.proofs.lemmas.Str.{encodes-append, encodes-chars, encodes-IsAscii, IsCharBoundary-before_ascii}
-use Rattle.std.proofs.lemmas.Str.{IsCharBoundary-after_ascii, encode_ascii}
-use Rattle.std.proofs.lemmas.Str.{length-le-encodes, len_utf8_bounds}
+use Rattle.std.proofs.lemmas.Str.{IsCharBoundary-after_ascii, encode_ascii, length-le-encodes}
+use Rattle.std.proofs.lemmas.Str.{len_utf8_bounds}
 use Rattle.std.specs.List.{AllByRecursion}
 use Rattle.std.specs.Option.{MatchOption, unwrap_or}
 use Rattle.std.specs.Str.{IsAscii, IsUtf8, IsCharBoundary, NonePass, NoCharPasses, chars}

@@ -7,9 +7,8 @@ use Rattle.deno_graph_jsdoc.specs.Characters.{closing_brace}
 use Rattle.deno_graph_jsdoc.specs.JsDocGrammar.{◌·◌, Is, IsSpace, IsGap, IsNames, IsNamespace, IsName}
 use Rattle.deno_graph_jsdoc.specs.JsDocGrammar.{IsClause, IsOptions, IsUpTo, Begins, Anything, NoSpace}
 use Rattle.deno_graph_jsdoc.specs.internal.Reading.{EndOfIdent}
-use Rattle.deno_graph_jsdoc.specs.JsDocImport.{Mode, Import, BeginsWithImport}
-use Rattle.deno_graph_jsdoc.specs.JsDocImport.{EndsDeclaration, EndsDynamicImport}
-use Rattle.deno_graph_jsdoc.specs.JsDocImport.{IsDeclaration, IsDynamicImport, byte_count}
+use Rattle.deno_graph_jsdoc.specs.JsDocImport.{Mode, Import, BeginsWithImport, EndsDeclaration}
+use Rattle.deno_graph_jsdoc.specs.JsDocImport.{EndsDynamicImport, IsDeclaration, IsDynamicImport, byte_count}
 use Rattle.deno_graph_jsdoc.proofs.Arguments.{tail_apart, options_apart, end_apart, up_to_read, parts_of}
 use Rattle.deno_graph_jsdoc.proofs.Arguments.{Paren, Paren-solid, Through as ThroughBrace}
 use Rattle.deno_graph_jsdoc.proofs.Attributes.{IsSolid-quote}

@@ -16,12 +16,8 @@ use lib.Utf8.{encodes}
 use Rattle.deno_graph_jsdoc.specs.JsDocGrammar.{Attribute, resolution_mode_value}
 use Rattle.deno_graph_jsdoc.specs.internal.Reading.{chars_of}
 use Rattle.deno_graph_base.specs.ResolutionMode.{mode_named}
-use Rattle.deno_graph_base.specs.declared.values.resolution_mode.TypeScriptTypesResolutionMode.TheVariants.{
-  Require,
-}
-use Rattle.deno_graph_base.specs.declared.values.resolution_mode.TypeScriptTypesResolutionMode.TheVariants.{
-  Import,
-}
+use Rattle.deno_graph_base.specs.declared.values.resolution_mode.TypeScriptTypesResolutionMode.TheVariants.{Require}
+use Rattle.deno_graph_base.specs.declared.values.resolution_mode.TypeScriptTypesResolutionMode.TheVariants.{Import}
 
 -- whether a text is a word
 pub bytes_eq-chars : (text word : List ℕ) → IsUtf8 text → IsAscii word

@@ -1,15 +1,13 @@
 -- The parts of a JSDoc import, as sets of texts. A text is its list of characters.
-use Rattle.std.specs.Prelude.{◌≡◌, ◌≢◌, ◌==◌, ◌<◌, ◌⊎◌, ◌||◌, ℕ, Bool, true, false, Option, None}
-use Rattle.std.specs.Prelude.{List, [], ◌∷◌, ◌++◌, length, codes, option_and_then, option_map}
+use Rattle.std.specs.Prelude.{◌≡◌, ◌≢◌, ◌==◌, ◌<◌, ◌⊎◌, ◌||◌, ℕ, Bool, true, false, Option, None, List, []}
+use Rattle.std.specs.Prelude.{◌∷◌, ◌++◌, length, codes, option_and_then, option_map}
 use Rattle.std.specs.Char.{is_whitespace}
 use Rattle.std.specs.Char.Unicode.Alphabetic.{is_alphabetic}
 use Rattle.std.specs.List.{AllByRecursion, find}
 use Rattle.std.specs.Str.{bytes_eq}
 use Rattle.deno_graph_jsdoc.specs.Characters.{double_quote, apostrophe, hyphen, colon, closing_brace}
 use Rattle.deno_graph_base.specs.ResolutionMode.{mode_named}
-use Rattle.deno_graph_base.specs.declared.values.resolution_mode.TypeScriptTypesResolutionMode.{
-  TypeScriptTypesResolutionMode,
-}
+use Rattle.deno_graph_base.specs.declared.values.resolution_mode.TypeScriptTypesResolutionMode.{TypeScriptTypesResolutionMode}
 
 -- a text of `P` and then a text of `Q`
 infixr 6 ◌·◌

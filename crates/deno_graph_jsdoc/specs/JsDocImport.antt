@@ -2,12 +2,10 @@
 use Rattle.std.specs.Prelude.{◌≡◌, ◌+◌, ◌⊎◌, ℕ, Option, None, List, ◌++◌, length, codes, encode_utf8_all}
 use Rattle.std.specs.Str.{chars}
 use Rattle.deno_graph_jsdoc.specs.Characters.{closing_brace}
-use Rattle.deno_graph_jsdoc.specs.JsDocGrammar.{◌·◌, Begins, NoSpace, Is, IsSpace, IsGap, Lacks}
-use Rattle.deno_graph_jsdoc.specs.JsDocGrammar.{IsClause, IsQuote, IsWith, IsSecond, IsUpTo}
+use Rattle.deno_graph_jsdoc.specs.JsDocGrammar.{◌·◌, Begins, NoSpace, Is, IsSpace, IsGap, Lacks, IsClause}
+use Rattle.deno_graph_jsdoc.specs.JsDocGrammar.{IsQuote, IsWith, IsSecond, IsUpTo}
 use Rattle.deno_graph_jsdoc.specs.declared.import.JsDocImport.{JsDocImport}
-use Rattle.deno_graph_base.specs.declared.values.resolution_mode.TypeScriptTypesResolutionMode.{
-  TypeScriptTypesResolutionMode,
-}
+use Rattle.deno_graph_base.specs.declared.values.resolution_mode.TypeScriptTypesResolutionMode.{TypeScriptTypesResolutionMode}
 
 -- a mode, or none
 abbrev pub Mode : Type 0

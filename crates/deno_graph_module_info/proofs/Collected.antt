@@ -1,29 +1,6 @@
 -- The list of all imports in comments, built one comment after another.
-use Rattle.std.proofs.Common.{
-  ◌≡◌,
-  ℕ,
-  ◌+◌,
-  ◌==◌,
-  ◌⊎◌,
-  inl,
-  inr,
-  Bool,
-  true,
-  false,
-  List,
-  [],
-  ◌∷◌,
-  ◌++◌,
-  map,
-  refl,
-  sym,
-  ap,
-  ◌∙◌,
-  subst,
-  codes,
-  append_assoc,
-  arith,
-}
+use Rattle.std.proofs.Common.{◌≡◌, ℕ, ◌+◌, ◌==◌, ◌⊎◌, inl, inr, Bool, true, false, List, [], ◌∷◌, ◌++◌, map}
+use Rattle.std.proofs.Common.{refl, sym, ap, ◌∙◌, subst, codes, append_assoc, arith}
 use Rattle.std.proofs.lemmas.Bool.{eqb-true, eqb-false}
 use Rattle.std.proofs.lemmas.List.{append-nil}
 use Rattle.std.proofs.lemmas.List.Elements.{All-contains, Contains-append_left, Contains-push}
@@ -35,18 +12,9 @@ use Rattle.deno_graph_jsdoc.specs.JsDocImport.{Import, moved}
 use Rattle.deno_graph_jsdoc.proofs.Collected.{gain, all_imports}
 use Rattle.deno_graph_module_info.specs.CommentImports.{AreApart, AreImports, IsJsDoc}
 use Rattle.deno_graph_module_info.specs.internal.CommentImportSteps.{GainsImports, IsMovedImport}
-use Rattle.deno_graph_module_info.proofs.Gathered.{
-  Gathered,
-  Gathered-start,
-  Gathered-more,
-  Gathered-skip,
-  Gathered-imports,
-  GainsImports-start,
-  GainsImports-more,
-  GainsImports-as,
-  moved_is_inner,
-  inner_is_moved,
-}
+use Rattle.deno_graph_module_info.proofs.Gathered.{Gathered, Gathered-start, Gathered-more, Gathered-skip}
+use Rattle.deno_graph_module_info.proofs.Gathered.{Gathered-imports, GainsImports-start, GainsImports-more}
+use Rattle.deno_graph_module_info.proofs.Gathered.{GainsImports-as, moved_is_inner, inner_is_moved}
 use Rattle.deno_graph_source.specs.Source.{IsSpelled}
 use Rattle.deno_graph_source.specs.declared.tree.comments.CommentKind.{CommentKind}
 use Rattle.deno_graph_source.specs.declared.tree.comments.CommentKind.TheVariants.{Line, Block}

@@ -1,56 +1,21 @@
 -- The ranges of the `ModuleInfo` of a valid source are exact.
-use Rattle.std.proofs.Common.{
-  ◌≡◌,
-  ℕ,
-  ◌-◌,
-  ⊎_elim,
-  Bool,
-  true,
-  false,
-  List,
-  [],
-  ◌∷◌,
-  ◌++◌,
-  length,
-  Option,
-  Some,
-  None,
-  All,
-  IfSome,
-  refl,
-  sym,
-  subst,
-  ◌∙◌,
-  slice_get,
-  get_or,
-  codes,
-  if◌then◌else◌,
-}
+use Rattle.std.proofs.Common.{◌≡◌, ℕ, ◌-◌, ⊎_elim, Bool, true, false, List, [], ◌∷◌, ◌++◌, length, Option}
+use Rattle.std.proofs.Common.{Some, None, All, IfSome, refl, sym, subst, ◌∙◌, slice_get, get_or, codes}
+use Rattle.std.proofs.Common.{if◌then◌else◌}
 use Rattle.std.specs.List.{AllZip, Contains, flat_map}
 use Rattle.std.specs.Option.{option_to_list}
 use Rattle.std.specs.Str.{IsUtf8, chars}
 use Rattle.std.proofs.lemmas.Bool.{false≢true}
 use Rattle.std.proofs.lemmas.Option.{get_or_from_slice_get, slice_get_within}
-use Rattle.std.proofs.lemmas.List.Elements.{
-  All-nil,
-  All-cons,
-  All-head,
-  All-tail,
-  All-map,
-  All-append,
-  All-from_recursion,
-  All-contains,
-  Contains-get_or,
-}
+use Rattle.std.proofs.lemmas.List.Elements.{All-nil, All-cons, All-head, All-tail, All-map, All-append}
+use Rattle.std.proofs.lemmas.List.Elements.{All-from_recursion, All-contains, Contains-get_or}
 use Rattle.deno_graph_info.specs.declared.analysis.dependency.DependencyDescriptor.{DependencyDescriptor}
 use Rattle.deno_graph_info.specs.declared.analysis.specifier_with_range.SpecifierWithRange.{SpecifierWithRange}
 use Rattle.deno_graph_info.specs.declared.analysis.js_doc_import_info.JsDocImportInfo.{JsDocImportInfo}
 use Rattle.deno_graph_info.specs.declared.analysis.module_info.ModuleInfo.{ModuleInfo}
 use Rattle.deno_graph_info.specs.declared.analysis.type_script_reference.TypeScriptReference.{TypeScriptReference}
-use Rattle.deno_graph_info.specs.declared.analysis.type_script_reference.TypeScriptReference.TheVariants.{
-  Path,
-  Types,
-}
+use Rattle.deno_graph_info.specs.declared.analysis.type_script_reference.TypeScriptReference.TheVariants.{Path}
+use Rattle.deno_graph_info.specs.declared.analysis.type_script_reference.TypeScriptReference.TheVariants.{Types}
 use Rattle.deno_graph_jsdoc.specs.JsDocImport.{Import}
 use Rattle.deno_graph_jsdoc.proofs.ImportsIn.{has_specifier}
 use Rattle.deno_graph_pragmas.specs.Finders as finder
@@ -67,37 +32,14 @@ use Rattle.deno_graph_module_info.specs.CommentImports.{IsImportOf, reads_jsdoc}
 use Rattle.deno_graph_module_info.specs.internal.HeadPragma.{Covers}
 use Rattle.deno_graph_module_info.specs.HeadTail.{head_comments, tail_comments}
 use Rattle.deno_graph_module_info.specs.JsDocInfo.{IsJsDocList, info_of}
-use Rattle.deno_graph_module_info.specs.ModuleInfo.{
-  CoversTypes,
-  Describes,
-  HasExactRanges,
-  IsModuleInfo,
-  comments_before,
-  dependency_of,
-  types_of,
-}
-use Rattle.deno_graph_module_info.specs.Pragma.{
-  Names,
-  NamesDependencyTypesIn,
-  NamesFirst,
-  NamesLast,
-  Pragma,
-  dependency_types_pragmas,
-  has_jsx,
-  jsx_import_source_pragma,
-  jsx_import_source_types_pragma,
-  quoted,
-  quoteless,
-  self_types_pragma,
-  source_mapping_url_pragma,
-}
-use Rattle.deno_graph_module_info.specs.References.{
-  CoversReference,
-  IsReferenceOf,
-  RefersTo,
-  path_reference_pragma,
-  types_reference_pragma,
-}
+use Rattle.deno_graph_module_info.specs.ModuleInfo.{CoversTypes, Describes, HasExactRanges, IsModuleInfo}
+use Rattle.deno_graph_module_info.specs.ModuleInfo.{comments_before, dependency_of, types_of}
+use Rattle.deno_graph_module_info.specs.Pragma.{Names, NamesDependencyTypesIn, NamesFirst, NamesLast, Pragma}
+use Rattle.deno_graph_module_info.specs.Pragma.{dependency_types_pragmas, has_jsx, jsx_import_source_pragma}
+use Rattle.deno_graph_module_info.specs.Pragma.{jsx_import_source_types_pragma, quoted, quoteless}
+use Rattle.deno_graph_module_info.specs.Pragma.{self_types_pragma, source_mapping_url_pragma}
+use Rattle.deno_graph_module_info.specs.References.{CoversReference, IsReferenceOf, RefersTo}
+use Rattle.deno_graph_module_info.specs.References.{path_reference_pragma, types_reference_pragma}
 use Rattle.deno_graph_module_info.specs.Spelled.{CoversAsWritten, CoversInSameQuotes}
 use Rattle.deno_graph_module_info.proofs.InSource.{in_source, in_same_quotes}
 use Rattle.deno_graph_module_info.proofs.ItemComments.{all_head, all_tail, all_before_dependencies}

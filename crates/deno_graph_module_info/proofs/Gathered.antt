@@ -1,36 +1,9 @@
 -- The imports in comments, one comment after another.
-use Rattle.std.proofs.Common.{
-  ◌≡◌,
-  ℕ,
-  ◌+◌,
-  ◌<◌,
-  ◌≤◌,
-  ◌⊎◌,
-  inl,
-  inr,
-  ⊎_elim,
-  List,
-  [],
-  ◌∷◌,
-  ◌++◌,
-  length,
-  take,
-  map,
-  get_or,
-  sym,
-  ap,
-  ◌∙◌,
-  subst,
-  arith,
-}
+use Rattle.std.proofs.Common.{◌≡◌, ℕ, ◌+◌, ◌<◌, ◌≤◌, ◌⊎◌, inl, inr, ⊎_elim, List, [], ◌∷◌, ◌++◌, length, take}
+use Rattle.std.proofs.Common.{map, get_or, sym, ap, ◌∙◌, subst, arith}
 use Rattle.std.proofs.lemmas.List.{get_or-map, length-map, map-append, take_all, take_more}
-use Rattle.std.proofs.lemmas.List.Elements.{
-  All-contains,
-  Contains-append_left,
-  Contains-get_or,
-  Contains-push,
-  Contains-push_cases,
-}
+use Rattle.std.proofs.lemmas.List.Elements.{All-contains, Contains-append_left, Contains-get_or}
+use Rattle.std.proofs.lemmas.List.Elements.{Contains-push, Contains-push_cases}
 use Rattle.std.proofs.lemmas.Simd.{map-map}
 use Rattle.std.specs.List.{All, AllPairs, Contains}
 use Rattle.std.specs.Str.{IsUtf8, chars}

@@ -1,47 +1,9 @@
 -- A part of a comment's text is a part of the source, two bytes after the comment's start.
-use Rattle.std.proofs.Common.{
-  ◌≡◌,
-  ℕ,
-  ◌+◌,
-  ◌-◌,
-  ◌<◌,
-  ◌≤◌,
-  ◌⊎◌,
-  inl,
-  inr,
-  ⊎_elim,
-  false,
-  true,
-  Bool,
-  List,
-  [],
-  ◌∷◌,
-  ◌++◌,
-  length,
-  take,
-  drop,
-  get_or,
-  refl,
-  sym,
-  ap,
-  subst,
-  ◌∙◌,
-  append_assoc,
-  length-append,
-  length-drop,
-  arith,
-  encode_utf8_all,
-}
-use Rattle.std.proofs.lemmas.List.{
-  drop-drop,
-  drop-append-le,
-  take-append-le,
-  take-append-drop,
-  get_or_at,
-  get_or_append_left,
-  append-nil,
-  length-take,
-}
+use Rattle.std.proofs.Common.{◌≡◌, ℕ, ◌+◌, ◌-◌, ◌<◌, ◌≤◌, ◌⊎◌, inl, inr, ⊎_elim, false, true, Bool, List, []}
+use Rattle.std.proofs.Common.{◌∷◌, ◌++◌, length, take, drop, get_or, refl, sym, ap, subst, ◌∙◌, append_assoc}
+use Rattle.std.proofs.Common.{length-append, length-drop, arith, encode_utf8_all}
+use Rattle.std.proofs.lemmas.List.{drop-drop, drop-append-le, take-append-le, take-append-drop, get_or_at}
+use Rattle.std.proofs.lemmas.List.{get_or_append_left, append-nil, length-take}
 use Rattle.std.proofs.lemmas.Bool.{cases_order}
 use Rattle.std.proofs.lemmas.Str.{IsCharBoundary-before_ascii, IsCharBoundary-from_rest}
 use Rattle.std.specs.Str.{IsCharBoundary}

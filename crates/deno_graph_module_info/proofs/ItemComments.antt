@@ -1,26 +1,7 @@
 -- The comments before the dependencies of a program, at its head and at its tail are among all
 -- comments.
-use Rattle.std.proofs.Common.{
-  ◌≡◌,
-  ℕ,
-  List,
-  [],
-  ◌∷◌,
-  Bool,
-  true,
-  false,
-  Option,
-  Some,
-  None,
-  refl,
-  sym,
-  ap,
-  subst,
-  All,
-  Contains,
-  unwrap_or,
-  slice_get,
-}
+use Rattle.std.proofs.Common.{◌≡◌, ℕ, List, [], ◌∷◌, Bool, true, false, Option, Some, None, refl, sym, ap}
+use Rattle.std.proofs.Common.{subst, All, Contains, unwrap_or, slice_get}
 use Rattle.std.proofs.lemmas.List.Elements.{All-nil, All-cons}
 use Rattle.deno_graph_source.specs.ByOffset.{value_at}
 use Rattle.deno_graph_source.specs.Comments.{FiledComments, comments_of, leading_at}
@@ -28,15 +9,9 @@ use Rattle.deno_graph_source.specs.Node.{kind_of, range_of}
 use Rattle.deno_graph_source.specs.Source.{IsSpelled, IsValid}
 use Rattle.deno_graph_source.specs.declared.tree.comments.DependencyComment.{DependencyComment}
 use Rattle.deno_graph_source.specs.declared.tree.node.Kind.{Kind}
-use Rattle.deno_graph_source.specs.declared.tree.node.Kind.TheVariants.{
-  ImportDecl,
-  NamedExport,
-  ExportAll,
-  ImportEquals,
-  ImportType,
-  ModuleDecl,
-  Call,
-}
+use Rattle.deno_graph_source.specs.declared.tree.node.Kind.TheVariants.{ImportDecl, NamedExport, ExportAll}
+use Rattle.deno_graph_source.specs.declared.tree.node.Kind.TheVariants.{ImportEquals, ImportType, ModuleDecl}
+use Rattle.deno_graph_source.specs.declared.tree.node.Kind.TheVariants.{Call}
 use Rattle.deno_graph_source.specs.declared.tree.node.Node.{Node}
 use Rattle.deno_graph_source.specs.declared.tree.node.Program.{Program}
 use Rattle.deno_graph_source.proofs.Lists.{All-within}
@@ -45,12 +20,8 @@ use Rattle.deno_graph_dep.specs.Dependencies.{AreDependencies}
 use Rattle.deno_graph_dep.specs.Descriptor.{Descriptor}
 use Rattle.deno_graph_dep.specs.DescriptorOf.{AreDescriptorsOf, IsDescriptorOf, IsDescriptorOfKind}
 use Rattle.deno_graph_dep.proofs.DependencyRanges.{dependency_ranges}
-use Rattle.deno_graph_module_info.specs.HeadTail.{
-  comments_before_items,
-  head_comments,
-  tail_comments,
-  trailing_at,
-}
+use Rattle.deno_graph_module_info.specs.HeadTail.{comments_before_items, head_comments, tail_comments}
+use Rattle.deno_graph_module_info.specs.HeadTail.{trailing_at}
 use Rattle.deno_graph_module_info.specs.ModuleInfo.{comments_before, FitsText}
 
 -- a property of all comments, for those at an offset, at the head and at the tail

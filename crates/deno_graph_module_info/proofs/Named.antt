@@ -1,38 +1,7 @@
 -- The first and the last element of a list with a property, and the specifiers of their pragmas.
-use Rattle.std.proofs.Common.{
-  ◌≡◌,
-  ℕ,
-  ◌+◌,
-  ◌<◌,
-  List,
-  [],
-  ◌∷◌,
-  ◌++◌,
-  length,
-  take,
-  drop,
-  get_or,
-  append_assoc,
-  refl,
-  sym,
-  ap,
-  ◌∙◌,
-  All,
-  add-one,
-  drop-cons,
-  IsTrue,
-  Bool,
-  true,
-  false,
-  Option,
-  Some,
-  None,
-  IfSome,
-  IsNone,
-  subst,
-  inl,
-  inr,
-}
+use Rattle.std.proofs.Common.{◌≡◌, ℕ, ◌+◌, ◌<◌, List, [], ◌∷◌, ◌++◌, length, take, drop, get_or, append_assoc}
+use Rattle.std.proofs.Common.{refl, sym, ap, ◌∙◌, All, add-one, drop-cons, IsTrue, Bool, true, false, Option}
+use Rattle.std.proofs.Common.{Some, None, IfSome, IsNone, subst, inl, inr}
 use Rattle.std.proofs.lemmas.List.{take-append-drop}
 use Rattle.std.proofs.lemmas.List.Elements.{All-nil, All-cons}
 use denote.Enum.Bare.{sameb}
@@ -45,17 +14,9 @@ use Rattle.deno_graph_pragmas.specs.Finders as finder
 use Rattle.deno_graph_pragmas.specs.Match.{IsCapturedIn, FindsFirst, IsQuotedIn, IsSliceIn, match_part_of}
 use Rattle.deno_graph_pragmas.specs.declared.finders.matches.Match.{Match}
 use Rattle.deno_graph_pragmas.specs.Split.{TextPart, HasSplit, IsCaptured}
-use Rattle.deno_graph_module_info.specs.Pragma.{
-  Pragma,
-  HasPragma,
-  Names,
-  NamesByFirst,
-  IsFirstWith,
-  dependency_types_pragmas,
-  quoted,
-  quoteless,
-  specifier_of_part,
-}
+use Rattle.deno_graph_module_info.specs.Pragma.{Pragma, HasPragma, Names, NamesByFirst, IsFirstWith}
+use Rattle.deno_graph_module_info.specs.Pragma.{dependency_types_pragmas, quoted, quoteless}
+use Rattle.deno_graph_module_info.specs.Pragma.{specifier_of_part}
 use Rattle.deno_graph_module_info.specs.internal.HeadPragma.{Covers, IsMatch}
 use Rattle.deno_graph_module_info.specs.Spelled.{CoversAsWritten}
 

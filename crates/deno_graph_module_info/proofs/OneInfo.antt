@@ -1,31 +1,6 @@
 -- A source has at most one `ModuleInfo`.
-use Rattle.std.proofs.Common.{
-  ◌≡◌,
-  ℕ,
-  ◌-◌,
-  inl,
-  inr,
-  ◌↔◌,
-  Bool,
-  true,
-  false,
-  IsTrue,
-  List,
-  [],
-  ◌∷◌,
-  ◌++◌,
-  length,
-  Option,
-  Some,
-  None,
-  All,
-  refl,
-  sym,
-  ap,
-  ◌∙◌,
-  subst,
-  slice_get,
-}
+use Rattle.std.proofs.Common.{◌≡◌, ℕ, ◌-◌, inl, inr, ◌↔◌, Bool, true, false, IsTrue, List, [], ◌∷◌, ◌++◌}
+use Rattle.std.proofs.Common.{length, Option, Some, None, All, refl, sym, ap, ◌∙◌, subst, slice_get}
 use Rattle.std.specs.List.{AllZip, flat_map}
 use Rattle.std.specs.Option.{option_to_list}
 use Rattle.std.proofs.lemmas.Bool.{false≢true}
@@ -34,10 +9,8 @@ use Rattle.deno_graph_info.specs.declared.analysis.dependency.DependencyDescript
 use Rattle.deno_graph_info.specs.declared.analysis.specifier_with_range.SpecifierWithRange.{SpecifierWithRange}
 use Rattle.deno_graph_info.specs.declared.analysis.module_info.ModuleInfo.{ModuleInfo}
 use Rattle.deno_graph_info.specs.declared.analysis.type_script_reference.TypeScriptReference.{TypeScriptReference}
-use Rattle.deno_graph_info.specs.declared.analysis.type_script_reference.TypeScriptReference.TheVariants.{
-  Path,
-  Types,
-}
+use Rattle.deno_graph_info.specs.declared.analysis.type_script_reference.TypeScriptReference.TheVariants.{Path}
+use Rattle.deno_graph_info.specs.declared.analysis.type_script_reference.TypeScriptReference.TheVariants.{Types}
 use Rattle.deno_graph_base.specs.ResolutionMode.{mode_named}
 use Rattle.deno_graph_base.specs.declared.values.resolution_mode.TypeScriptTypesResolutionMode.{TypeScriptTypesResolutionMode}
 use Rattle.deno_graph_pragmas.specs.Finders.{EachFinder}
@@ -50,35 +23,14 @@ use Rattle.deno_graph_dep.specs.Descriptor.{Descriptor}
 use Rattle.deno_graph_dep.proofs.Unique.{AreDependencies-unique}
 use Rattle.deno_graph_module_info.specs.CommentImports.{reads_jsdoc}
 use Rattle.deno_graph_module_info.specs.HeadTail.{head_comments, tail_comments}
-use Rattle.deno_graph_module_info.specs.ModuleInfo.{
-  Describes,
-  IsModuleInfo,
-  comments_before,
-  dependency_of,
-}
-use Rattle.deno_graph_module_info.specs.Pragma.{
-  HasPragma,
-  Names,
-  NamesDependencyTypesIn,
-  NamesFirst,
-  NamesLast,
-  Pragma,
-  comments_for_jsx,
-  comments_for_types,
-  dependency_types_pragmas,
-  jsx_import_source_pragma,
-  jsx_import_source_types_pragma,
-  self_types_pragma,
-  source_mapping_url_pragma,
-  specifier_of_part,
-}
-use Rattle.deno_graph_module_info.specs.References.{
-  IsModeOf,
-  IsReferenceOf,
-  RefersTo,
-  path_reference_pragma,
-  types_reference_pragma,
-}
+use Rattle.deno_graph_module_info.specs.ModuleInfo.{Describes, IsModuleInfo, comments_before, dependency_of}
+use Rattle.deno_graph_module_info.specs.Pragma.{HasPragma, Names, NamesDependencyTypesIn, NamesFirst}
+use Rattle.deno_graph_module_info.specs.Pragma.{NamesLast, Pragma, comments_for_jsx, comments_for_types}
+use Rattle.deno_graph_module_info.specs.Pragma.{dependency_types_pragmas, jsx_import_source_pragma}
+use Rattle.deno_graph_module_info.specs.Pragma.{jsx_import_source_types_pragma, self_types_pragma}
+use Rattle.deno_graph_module_info.specs.Pragma.{source_mapping_url_pragma, specifier_of_part}
+use Rattle.deno_graph_module_info.specs.References.{IsModeOf, IsReferenceOf, RefersTo, path_reference_pragma}
+use Rattle.deno_graph_module_info.specs.References.{types_reference_pragma}
 use Rattle.deno_graph_module_info.proofs.ExactRanges.{at_middle}
 use Rattle.deno_graph_module_info.proofs.JsDocComments.{one_info_list}
 

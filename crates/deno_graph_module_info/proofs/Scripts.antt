@@ -1,42 +1,11 @@
 -- The nodes that make a program a module.
-use Rattle.std.proofs.Common.{
-  ◌≡◌,
-  ℕ,
-  Bool,
-  true,
-  false,
-  ◌||◌,
-  List,
-  [],
-  ◌∷◌,
-  ◌++◌,
-  Option,
-  Some,
-  None,
-  slice_get,
-  IsTrue,
-  IsSomeAnd,
-  ◌⊎◌,
-  inl,
-  inr,
-  ap,
-  sym,
-  refl,
-  subst,
-  ◌∙◌,
-  All,
-}
+use Rattle.std.proofs.Common.{◌≡◌, ℕ, Bool, true, false, ◌||◌, List, [], ◌∷◌, ◌++◌, Option, Some, None}
+use Rattle.std.proofs.Common.{slice_get, IsTrue, IsSomeAnd, ◌⊎◌, inl, inr, ap, sym, refl, subst, ◌∙◌, All}
 use Rattle.deno_graph_source.specs.declared.tree.node.Node.{Node}
 use Rattle.deno_graph_source.specs.Node.{kind_of, children_of}
 use Rattle.deno_graph_source.specs.NodePath.{NodePath, node_below, LeadsTo, IsStrictPrefix}
-use Rattle.deno_graph_module_info.specs.Script.{
-  is_function,
-  IsAwait,
-  IsFunction,
-  IsImportMeta,
-  IsScript,
-  is_module_item,
-}
+use Rattle.deno_graph_module_info.specs.Script.{is_function, IsAwait, IsFunction, IsImportMeta, IsScript}
+use Rattle.deno_graph_module_info.specs.Script.{is_module_item}
 use Rattle.deno_graph_module_info.specs.internal.ScriptSteps.{LeadsBelow, IsBareAwait, MakesModule}
 
 -- a path below a child is a path below its parent

@@ -14,29 +14,14 @@ use Rattle.deno_graph_dep.proofs.SomeDescriptor.{some_dependencies}
 use Rattle.deno_graph_module_info.specs.CommentImports.{AreApart, reads_jsdoc}
 use Rattle.deno_graph_module_info.specs.HeadTail.{head_comments, tail_comments}
 use Rattle.deno_graph_module_info.specs.JsDocInfo.{IsJsDocList, info_of}
-use Rattle.deno_graph_module_info.specs.ModuleInfo.{
-  AreDescribed,
-  Describes,
-  IsModuleInfo,
-  comments_before,
-  dependency_of,
-}
-use Rattle.deno_graph_module_info.specs.Pragma.{
-  comments_for_jsx,
-  comments_for_types,
-  jsx_import_source_pragma,
-  jsx_import_source_types_pragma,
-  self_types_pragma,
-  source_mapping_url_pragma,
-}
+use Rattle.deno_graph_module_info.specs.ModuleInfo.{AreDescribed, Describes, IsModuleInfo, comments_before}
+use Rattle.deno_graph_module_info.specs.ModuleInfo.{dependency_of}
+use Rattle.deno_graph_module_info.specs.Pragma.{comments_for_jsx, comments_for_types}
+use Rattle.deno_graph_module_info.specs.Pragma.{jsx_import_source_pragma, jsx_import_source_types_pragma}
+use Rattle.deno_graph_module_info.specs.Pragma.{self_types_pragma, source_mapping_url_pragma}
 use Rattle.deno_graph_module_info.proofs.Collected.{imports_of}
-use Rattle.deno_graph_module_info.proofs.SomeNamed.{
-  names_first,
-  names_last,
-  names_types,
-  partners,
-  references,
-}
+use Rattle.deno_graph_module_info.proofs.SomeNamed.{names_first, names_last, names_types, partners}
+use Rattle.deno_graph_module_info.proofs.SomeNamed.{references}
 use Rattle.deno_graph_module_info.proofs.SomeScript.{some_script}
 
 described : (source : List ℕ) (item : Descriptor)

@@ -1,28 +1,6 @@
 -- The specifiers and the references that comments name exist.
-use Rattle.std.proofs.Common.{
-  ◌≡◌,
-  ℕ,
-  ◌⊎◌,
-  inl,
-  inr,
-  ⊎_elim,
-  Bool,
-  true,
-  false,
-  List,
-  [],
-  ◌∷◌,
-  Option,
-  Some,
-  None,
-  All,
-  IsTrue,
-  refl,
-  ap,
-  slice_get,
-  ◌-◌,
-  length,
-}
+use Rattle.std.proofs.Common.{◌≡◌, ℕ, ◌⊎◌, inl, inr, ⊎_elim, Bool, true, false, List, [], ◌∷◌, Option, Some}
+use Rattle.std.proofs.Common.{None, All, IsTrue, refl, ap, slice_get, ◌-◌, length}
 use Rattle.std.specs.List.{AllZip, flat_map}
 use Rattle.std.specs.Option.{option_to_list}
 use Rattle.std.proofs.lemmas.Bool.{false≢true}
@@ -32,37 +10,19 @@ use Rattle.deno_graph_source.specs.declared.tree.comments.CommentKind.TheVariant
 use Rattle.deno_graph_source.specs.declared.tree.comments.DependencyComment.{DependencyComment}
 use Rattle.deno_graph_info.specs.declared.analysis.specifier_with_range.SpecifierWithRange.{SpecifierWithRange}
 use Rattle.deno_graph_info.specs.declared.analysis.type_script_reference.TypeScriptReference.{TypeScriptReference}
-use Rattle.deno_graph_info.specs.declared.analysis.type_script_reference.TypeScriptReference.TheVariants.{
-  Path,
-  Types,
-}
+use Rattle.deno_graph_info.specs.declared.analysis.type_script_reference.TypeScriptReference.TheVariants.{Path}
+use Rattle.deno_graph_info.specs.declared.analysis.type_script_reference.TypeScriptReference.TheVariants.{Types}
 use Rattle.deno_graph_base.specs.ResolutionMode.{mode_named}
 use Rattle.deno_graph_base.specs.declared.values.resolution_mode.TypeScriptTypesResolutionMode.{TypeScriptTypesResolutionMode}
 use Rattle.deno_graph_pragmas.specs.Finders as finder
 use Rattle.deno_graph_pragmas.specs.Split.{HasSplit}
-use Rattle.deno_graph_module_info.specs.Pragma.{
-  HasPragma,
-  IsFirstWith,
-  IsLastWith,
-  Names,
-  NamesByFirst,
-  NamesDependencyTypes,
-  NamesDependencyTypesIn,
-  NamesFirst,
-  NamesLast,
-  Pragma,
-  dependency_types_pragmas,
-  specifier_of_part,
-}
-use Rattle.deno_graph_module_info.specs.References.{
-  AreReferences,
-  IsModeOf,
-  IsReferenceOf,
-  IsTripleSlashReference,
-  RefersTo,
-  path_reference_pragma,
-  types_reference_pragma,
-}
+use Rattle.deno_graph_module_info.specs.Pragma.{HasPragma, IsFirstWith, IsLastWith, Names, NamesByFirst}
+use Rattle.deno_graph_module_info.specs.Pragma.{NamesDependencyTypes, NamesDependencyTypesIn, NamesFirst}
+use Rattle.deno_graph_module_info.specs.Pragma.{NamesLast, Pragma, dependency_types_pragmas}
+use Rattle.deno_graph_module_info.specs.Pragma.{specifier_of_part}
+use Rattle.deno_graph_module_info.specs.References.{AreReferences, IsModeOf, IsReferenceOf}
+use Rattle.deno_graph_module_info.specs.References.{IsTripleSlashReference, RefersTo, path_reference_pragma}
+use Rattle.deno_graph_module_info.specs.References.{types_reference_pragma}
 use Rattle.deno_graph_pragmas.proofs.SomeSplit.{Decided, decide_split, some_part}
 
 -- The first and the last element of a list

@@ -1,30 +1,6 @@
 -- A body is a script or isn't.
-use Rattle.std.proofs.Common.{
-  ◌≡◌,
-  ◌↔◌,
-  ℕ,
-  Bool,
-  true,
-  false,
-  inl,
-  inr,
-  List,
-  [],
-  ◌∷◌,
-  Option,
-  Some,
-  None,
-  slice_get,
-  All,
-  Contains,
-  IsTrue,
-  IsSome,
-  IsSomeAnd,
-  refl,
-  sym,
-  subst,
-  arith,
-}
+use Rattle.std.proofs.Common.{◌≡◌, ◌↔◌, ℕ, Bool, true, false, inl, inr, List, [], ◌∷◌, Option, Some, None}
+use Rattle.std.proofs.Common.{slice_get, All, Contains, IsTrue, IsSome, IsSomeAnd, refl, sym, subst, arith}
 use Rattle.std.proofs.lemmas.Bool.{false≢true}
 use Rattle.std.proofs.lemmas.List.Elements.{All-cons, All-head, All-nil, All-tail}
 use Rattle.deno_graph_source.specs.declared.tree.node.Node.{Node}
@@ -33,15 +9,8 @@ use Rattle.deno_graph_dep.specs.internal.ListingPaths.{listing_paths}
 use Rattle.deno_graph_dep.specs.Listing.{IsReachable, Rules}
 use Rattle.deno_graph_source.specs.NodePath.{NodePath, LeadsTo, node_at}
 use Rattle.deno_graph_dep.proofs.Listings.{IsListing-listing_paths}
-use Rattle.deno_graph_module_info.specs.Script.{
-  is_await,
-  is_function,
-  is_import_meta,
-  is_module_item,
-  IsAwait,
-  IsImportMeta,
-  IsScript,
-}
+use Rattle.deno_graph_module_info.specs.Script.{is_await, is_function, is_import_meta, is_module_item}
+use Rattle.deno_graph_module_info.specs.Script.{IsAwait, IsImportMeta, IsScript}
 use Rattle.deno_graph_module_info.specs.internal.ScriptSteps.{MakesModule}
 use Rattle.deno_graph_module_info.proofs.Scripts.{in_body, no_function_around, IsScript-made}
 use Rattle.deno_graph_pragmas.proofs.SomeSplit.{Decided}

@@ -1,21 +1,6 @@
 -- The list of the imports in the JSDoc comments of a source.
-use Rattle.std.specs.Prelude.{
-  ◌≡◌,
-  ◌<◌,
-  ◌≤◌,
-  ◌+◌,
-  ◌-◌,
-  ◌⊎◌,
-  ◌↔◌,
-  ℕ,
-  Bool,
-  true,
-  false,
-  List,
-  ◌++◌,
-  codes,
-  encode_utf8_all,
-}
+use Rattle.std.specs.Prelude.{◌≡◌, ◌<◌, ◌≤◌, ◌+◌, ◌-◌, ◌⊎◌, ◌↔◌, ℕ, Bool, true, false, List, ◌++◌, codes}
+use Rattle.std.specs.Prelude.{encode_utf8_all}
 use Rattle.std.specs.List.{AllPairs, Contains}
 use Rattle.std.specs.Str.{IsCharBoundary, chars}
 use Rattle.deno_graph_jsdoc.specs.JsDocImports.{IsImportIn}
@@ -24,12 +9,7 @@ use Rattle.deno_graph_source.specs.Source.{SharesByte}
 use Rattle.deno_graph_source.specs.declared.tree.comments.CommentKind.TheVariants.{Block}
 use Rattle.deno_graph_source.specs.declared.tree.comments.DependencyComment.{DependencyComment}
 use Rattle.deno_graph_source.specs.declared.tree.media_type.MediaType.{MediaType}
-use Rattle.deno_graph_source.specs.declared.tree.media_type.MediaType.TheVariants.{
-  JavaScript,
-  Jsx,
-  Mjs,
-  Cjs,
-}
+use Rattle.deno_graph_source.specs.declared.tree.media_type.MediaType.TheVariants.{JavaScript, Jsx, Mjs, Cjs}
 use Rattle.deno_graph_base.specs.SourceRange.{slice_of}
 use Rattle.deno_graph_base.specs.declared.text.position.SourceRange.{SourceRange}
 

@@ -7,10 +7,8 @@ use Rattle.deno_graph_source.specs.declared.tree.comments.DependencyComment.{Dep
 use Rattle.deno_graph_source.specs.declared.tree.media_type.MediaType.{MediaType}
 use Rattle.deno_graph_source.specs.declared.tree.node.Program.{Program}
 use Rattle.deno_graph_info.specs.declared.analysis.dependency.DependencyDescriptor.{DependencyDescriptor}
-use Rattle.deno_graph_info.specs.declared.analysis.dependency.DependencyDescriptor.TheVariants.{
-  Static,
-  Dynamic,
-}
+use Rattle.deno_graph_info.specs.declared.analysis.dependency.DependencyDescriptor.TheVariants.{Static}
+use Rattle.deno_graph_info.specs.declared.analysis.dependency.DependencyDescriptor.TheVariants.{Dynamic}
 use Rattle.deno_graph_info.specs.declared.analysis.dynamic_argument.DynamicArgument.{DynamicArgument}
 use Rattle.deno_graph_info.specs.declared.analysis.dynamic_argument.DynamicArgument.TheVariants as argument
 use Rattle.deno_graph_info.specs.declared.analysis.dynamic_argument.DynamicTemplatePart.{DynamicTemplatePart}
@@ -21,37 +19,19 @@ use Rattle.deno_graph_info.specs.declared.analysis.specifier_with_range.Specifie
 use Rattle.deno_graph_info.specs.declared.analysis.static_dependency.StaticDependencyDescriptor.{StaticDependencyDescriptor}
 use Rattle.deno_graph_dep.specs.Argument.{Form, ArgumentPart, text, parts, expression, known, unknown}
 use Rattle.deno_graph_dep.specs.Dependencies.{AreDependencies}
-use Rattle.deno_graph_dep.specs.Descriptor.{
-  Descriptor,
-  StaticDescriptor,
-  DynamicDescriptor,
-  static_descriptor,
-  dynamic_descriptor,
-  HasTextRanges,
-}
+use Rattle.deno_graph_dep.specs.Descriptor.{Descriptor, StaticDescriptor, DynamicDescriptor}
+use Rattle.deno_graph_dep.specs.Descriptor.{static_descriptor, dynamic_descriptor, HasTextRanges}
 use Rattle.deno_graph_module_info.specs.JsDocInfo.{IsJsDocList}
 use Rattle.deno_graph_module_info.specs.CommentImports.{reads_jsdoc}
 use Rattle.deno_graph_module_info.specs.HeadTail.{head_comments, tail_comments}
-use Rattle.deno_graph_module_info.specs.Pragma.{
-  comments_for_jsx,
-  comments_for_types,
-  jsx_import_source_pragma,
-  jsx_import_source_types_pragma,
-  positions_of,
-  self_types_pragma,
-  source_mapping_url_pragma,
-  NamesFirst,
-  NamesLast,
-  NamesDependencyTypes,
-}
+use Rattle.deno_graph_module_info.specs.Pragma.{comments_for_jsx, comments_for_types}
+use Rattle.deno_graph_module_info.specs.Pragma.{jsx_import_source_pragma, jsx_import_source_types_pragma}
+use Rattle.deno_graph_module_info.specs.Pragma.{positions_of, self_types_pragma, source_mapping_url_pragma}
+use Rattle.deno_graph_module_info.specs.Pragma.{NamesFirst, NamesLast, NamesDependencyTypes}
 use Rattle.deno_graph_module_info.specs.References.{AreReferences, CoversReference}
 use Rattle.deno_graph_module_info.specs.Script.{IsScript}
-use Rattle.deno_graph_module_info.specs.Spelled.{
-  CoversAsWritten,
-  CoversBare,
-  CoversInSameQuotes,
-  CoversQuoted,
-}
+use Rattle.deno_graph_module_info.specs.Spelled.{CoversAsWritten, CoversBare, CoversInSameQuotes}
+use Rattle.deno_graph_module_info.specs.Spelled.{CoversQuoted}
 
 -- the descriptor of a static dependency with these types
 abbrev pub static_dependency_of :

@@ -1,25 +1,6 @@
 -- Pragmas in comments, and the specifiers that the pragmas name.
-use Rattle.std.specs.Prelude.{
-  ◌≡◌,
-  ℕ,
-  ◌+◌,
-  ◌-◌,
-  Bool,
-  true,
-  false,
-  List,
-  [],
-  ◌∷◌,
-  ◌++◌,
-  All,
-  IsTrue,
-  Option,
-  Some,
-  None,
-  slice_get,
-  length,
-  if◌then◌else◌,
-}
+use Rattle.std.specs.Prelude.{◌≡◌, ℕ, ◌+◌, ◌-◌, Bool, true, false, List, [], ◌∷◌, ◌++◌, All, IsTrue, Option}
+use Rattle.std.specs.Prelude.{Some, None, slice_get, length, if◌then◌else◌}
 use Rattle.deno_graph_source.specs.MediaType.{is_typed}
 use Rattle.deno_graph_base.specs.Position.{position_at}
 use Rattle.deno_graph_base.specs.declared.text.position.PositionRange.{PositionRange}

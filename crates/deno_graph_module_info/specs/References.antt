@@ -7,10 +7,8 @@ use Rattle.deno_graph_source.specs.declared.tree.comments.DependencyComment.{Dep
 use Rattle.deno_graph_base.specs.ResolutionMode.{mode_named}
 use Rattle.deno_graph_base.specs.declared.values.resolution_mode.TypeScriptTypesResolutionMode.{TypeScriptTypesResolutionMode}
 use Rattle.deno_graph_info.specs.declared.analysis.type_script_reference.TypeScriptReference.{TypeScriptReference}
-use Rattle.deno_graph_info.specs.declared.analysis.type_script_reference.TypeScriptReference.TheVariants.{
-  Path,
-  Types,
-}
+use Rattle.deno_graph_info.specs.declared.analysis.type_script_reference.TypeScriptReference.TheVariants.{Path}
+use Rattle.deno_graph_info.specs.declared.analysis.type_script_reference.TypeScriptReference.TheVariants.{Types}
 use Rattle.deno_graph_pragmas.specs.Finders as finder
 use Rattle.deno_graph_pragmas.specs.Split.{TextPart, HasSplit, IsCaptured}
 use Rattle.deno_graph_module_info.specs.Pragma.{Pragma, HasPragma, Names, quoted}

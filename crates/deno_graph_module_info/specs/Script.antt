@@ -1,15 +1,9 @@
 -- Scripts: programs that nothing makes a module.
 use Rattle.std.specs.Prelude.{◌≡◌, Bool, true, false, List, All, IsTrue}
 use Rattle.deno_graph_source.specs.declared.tree.node.Kind.{Kind}
-use Rattle.deno_graph_source.specs.declared.tree.node.Kind.TheVariants.{
-  ImportDecl,
-  NamedExport,
-  ExportAll,
-  ExportOther,
-  Await,
-  Function,
-  ImportMeta,
-}
+use Rattle.deno_graph_source.specs.declared.tree.node.Kind.TheVariants.{ImportDecl, NamedExport, ExportAll}
+use Rattle.deno_graph_source.specs.declared.tree.node.Kind.TheVariants.{ExportOther, Await, Function}
+use Rattle.deno_graph_source.specs.declared.tree.node.Kind.TheVariants.{ImportMeta}
 use Rattle.deno_graph_source.specs.declared.tree.node.Node.{Node}
 use Rattle.deno_graph_source.specs.Node.{kind_of}
 use Rattle.deno_graph_source.specs.NodePath.{NodePath, LeadsTo, IsStrictPrefix}

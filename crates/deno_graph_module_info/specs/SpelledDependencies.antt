@@ -3,10 +3,8 @@ use Rattle.std.specs.Prelude.{◌≡◌, List}
 use Rattle.std.specs.List.{AllZip}
 use Rattle.deno_graph_source.specs.declared.tree.node.Node.{Node}
 use Rattle.deno_graph_info.specs.declared.analysis.dependency.DependencyDescriptor.{DependencyDescriptor}
-use Rattle.deno_graph_info.specs.declared.analysis.dependency.DependencyDescriptor.TheVariants.{
-  Static,
-  Dynamic,
-}
+use Rattle.deno_graph_info.specs.declared.analysis.dependency.DependencyDescriptor.TheVariants.{Static}
+use Rattle.deno_graph_info.specs.declared.analysis.dependency.DependencyDescriptor.TheVariants.{Dynamic}
 use Rattle.deno_graph_dep.specs.Argument.{Form}
 use Rattle.deno_graph_dep.specs.DependencyNodes.{AreDependencyNodes}
 use Rattle.deno_graph_dep.specs.SpelledArguments.{SpellsArgument}

@@ -1,6 +1,6 @@
 -- The search for the first attribute, character by character.
-use Rattle.std.proofs.Common.{◌≡◌, ℕ, ◌≤◌, true, List, [], ◌∷◌, ◌++◌, Some, None, length, sym, ap}
-use Rattle.std.proofs.Common.{◌∙◌, append_assoc, length-append, inl, inr, arith}
+use Rattle.std.proofs.Common.{◌≡◌, ℕ, ◌≤◌, true, List, [], ◌∷◌, ◌++◌, Some, None, length, sym, ap, ◌∙◌}
+use Rattle.std.proofs.Common.{append_assoc, length-append, inl, inr, arith}
 use Rattle.std.proofs.lemmas.Bool.{cond-true, cond-false, cases_Bool, cases_lt, false≢true}
 use Rattle.std.proofs.lemmas.List.{append-nil, nil_from_length}
 use Rattle.std.proofs.lemmas.Str.{chars_past_char, chars-nil, IsUtf8-past_char}
@@ -10,8 +10,7 @@ use Rattle.std.specs.Str.{chars, IsUtf8}
 use lib.Utf8.{encode, encodes}
 use Rattle.deno_graph_pragmas.specs.Finders.{attribute}
 use Rattle.deno_graph_pragmas.specs.internal.Reading.{after_one, after_pieces, attribute_front}
-use Rattle.deno_graph_pragmas.specs.internal.Reading.{HasNoAttribute}
-use Rattle.deno_graph_pragmas.specs.internal.Reading.{IsAttributeAt}
+use Rattle.deno_graph_pragmas.specs.internal.Reading.{HasNoAttribute, IsAttributeAt}
 use Rattle.deno_graph_pragmas.specs.Split.{ArePieces, Split, IsCaptured, TextPart}
 use Rattle.deno_graph_pragmas.proofs.Barriers.{attribute_apart}
 use Rattle.deno_graph_pragmas.proofs.Found.{bytes_of, rest_read, IsCaptured-read}

@@ -1,7 +1,7 @@
 -- The characters that fold to the same character as an ASCII character.
 use Rattle.std.proofs.Common.{◌≡◌, ◌↔◌, ℕ, ◌<◌, ◌≤◌, Bool, true, false, ◌||◌, ◌==◌, List, [], ◌∷◌}
-use Rattle.std.proofs.Common.{slice_index_or}
-use Rattle.std.proofs.Common.{refl, sym, ◌∙◌, arith, inl, inr, nat_lt, nat_le, eqb-true, eq-eqb}
+use Rattle.std.proofs.Common.{slice_index_or, refl, sym, ◌∙◌, arith, inl, inr, nat_lt, nat_le, eqb-true}
+use Rattle.std.proofs.Common.{eq-eqb}
 use Rattle.std.proofs.lemmas.Bool.{both_ways, cases_Bool, cases_lt, le-ltb, leb-true, ne_eqb, or_from}
 use Rattle.std.proofs.lemmas.Bool.Decides.{nat_tests}
 use Rattle.std.proofs.lemmas.Str.Ascii.{lowercase_ascii}

@@ -8,8 +8,7 @@ use Rattle.unicode.specs.CaseFolding.{simple_fold}
 use Rattle.deno_graph_pragmas.specs.Piece.{Piece, one, any, some, run, exactly, keyword, IsPiece, IsStopped}
 use Rattle.deno_graph_pragmas.specs.Piece.{IsInAnyCase}
 use Rattle.deno_graph_pragmas.specs.internal.Reading.{skip_while, after_one, after_some, after_exactly}
-use Rattle.deno_graph_pragmas.specs.internal.Reading.{after_keyword}
-use Rattle.deno_graph_pragmas.specs.internal.Reading.{after_piece, after_pieces}
+use Rattle.deno_graph_pragmas.specs.internal.Reading.{after_keyword, after_piece, after_pieces}
 use Rattle.deno_graph_pragmas.specs.Split.{ArePieces}
 
 -- One piece

@@ -1,30 +1,6 @@
 -- A text has a split by a pattern or has none, and the first split captures a part.
-use Rattle.std.proofs.Common.{
-  ◌≡◌,
-  ℕ,
-  ◌≤◌,
-  Bool,
-  true,
-  false,
-  ◌⊎◌,
-  inl,
-  inr,
-  ⊎_elim,
-  List,
-  [],
-  ◌∷◌,
-  ◌++◌,
-  length,
-  map,
-  IsTrue,
-  refl,
-  sym,
-  ap,
-  subst,
-  ◌∙◌,
-  arith,
-  zero-le,
-}
+use Rattle.std.proofs.Common.{◌≡◌, ℕ, ◌≤◌, Bool, true, false, ◌⊎◌, inl, inr, ⊎_elim, List, [], ◌∷◌, ◌++◌}
+use Rattle.std.proofs.Common.{length, map, IsTrue, refl, sym, ap, subst, ◌∙◌, arith, zero-le}
 use Rattle.std.specs.Prelude.{encode_utf8_all}
 use Rattle.std.specs.List.{list_all}
 use Rattle.std.specs.Str.{bytes_eq, chars}
@@ -32,14 +8,7 @@ use Rattle.std.proofs.lemmas.Bool.{cases_Bool, false≢true}
 use Rattle.std.proofs.lemmas.Slice.Eq.{bytes_eq-Decides}
 use Rattle.unicode.specs.CaseFolding.{simple_fold}
 use Rattle.deno_graph_pragmas.specs.Piece.{Piece, one, any, some, run, exactly, keyword, IsPiece, IsStopped}
-use Rattle.deno_graph_pragmas.specs.Split.{
-  Pattern,
-  ArePieces,
-  Split,
-  HasSplit,
-  TextPart,
-  IsCaptured,
-}
+use Rattle.deno_graph_pragmas.specs.Split.{Pattern, ArePieces, Split, HasSplit, TextPart, IsCaptured}
 
 abbrev pub Decided : Type 0 → Type 0
 Decided A = A ⊎ (A → ⊥)

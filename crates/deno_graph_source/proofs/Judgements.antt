@@ -6,15 +6,10 @@ use Rattle.std.proofs.lemmas.Result.{err_from_is_err_and}
 use Rattle.deno_graph_source.specs.FaultPlace.{RangeHas, CommentHas}
 use Rattle.deno_graph_source.specs.declared.tree.comments.DependencyComment.{DependencyComment}
 use Rattle.deno_graph_source.specs.declared.tree.fault.SourceFault.{SourceFault}
-use Rattle.deno_graph_source.specs.declared.tree.fault.SourceFault.TheVariants.{
-  RangeReversed,
-  RangeOutside,
-  RangeOffBoundary,
-  CommentText,
-  CommentsOverlap,
-  Shape,
-  OutOfMemory,
-}
+use Rattle.deno_graph_source.specs.declared.tree.fault.SourceFault.TheVariants.{RangeReversed, RangeOutside}
+use Rattle.deno_graph_source.specs.declared.tree.fault.SourceFault.TheVariants.{RangeOffBoundary, CommentText}
+use Rattle.deno_graph_source.specs.declared.tree.fault.SourceFault.TheVariants.{CommentsOverlap, Shape}
+use Rattle.deno_graph_source.specs.declared.tree.fault.SourceFault.TheVariants.{OutOfMemory}
 
 -- some element has a property, for a list that has the elements of another
 pub Any-within : {X : Type 0} (P : X → Type 0) (xs ys : List X) → ((x : X) → Contains xs x → Contains ys x)

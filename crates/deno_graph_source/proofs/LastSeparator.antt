@@ -1,28 +1,6 @@
 -- Where `rsplit_once` splits a text.
-use Rattle.std.proofs.Common.{
-  ◌≡◌,
-  ◌≢◌,
-  ℕ,
-  ◌+◌,
-  ◌-◌,
-  ◌<◌,
-  not,
-  ◌==◌,
-  List,
-  [],
-  length,
-  length-drop,
-  get_or,
-  take,
-  drop,
-  Some,
-  None,
-  sym,
-  ap,
-  ◌∙◌,
-  subst,
-  arith,
-}
+use Rattle.std.proofs.Common.{◌≡◌, ◌≢◌, ℕ, ◌+◌, ◌-◌, ◌<◌, not, ◌==◌, List, [], length, length-drop, get_or}
+use Rattle.std.proofs.Common.{take, drop, Some, None, sym, ap, ◌∙◌, subst, arith}
 use Rattle.std.specs.Prelude.{Option, MatchOption, unwrap_or}
 use Rattle.std.specs.Borrow.{Bor}
 use Rattle.std.specs.List.{before_last, after_last, suffix_len}

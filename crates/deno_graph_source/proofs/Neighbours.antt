@@ -1,37 +1,7 @@
 -- Comments in ascending order of their starts: if comments overlap, so do two neighbours.
-use Rattle.std.proofs.Common.{
-  ◌≡◌,
-  ◌≢◌,
-  true,
-  not,
-  ◌&&◌,
-  eqb,
-  add-zero,
-  ℕ,
-  zero,
-  suc,
-  ◌+◌,
-  ◌-◌,
-  ◌<◌,
-  ◌≤◌,
-  List,
-  [],
-  ◌∷◌,
-  map,
-  length,
-  drop,
-  get_or,
-  refl,
-  sym,
-  ap,
-  ◌∙◌,
-  subst,
-  inl,
-  inr,
-  ⊎_elim,
-  ◌⊎◌,
-  arith,
-}
+use Rattle.std.proofs.Common.{◌≡◌, ◌≢◌, true, not, ◌&&◌, eqb, add-zero, ℕ, zero, suc, ◌+◌, ◌-◌, ◌<◌, ◌≤◌}
+use Rattle.std.proofs.Common.{List, [], ◌∷◌, map, length, drop, get_or, refl, sym, ap, ◌∙◌, subst, inl, inr}
+use Rattle.std.proofs.Common.{⊎_elim, ◌⊎◌, arith}
 use Rattle.std.specs.List.{AllAdjacentBelow, Contains, All}
 use Rattle.std.specs.List.Sorted.{IsNonDecreasingBy}
 use Rattle.std.proofs.lemmas.List.{get_or_default, get_or-map, length-map, length-take}

@@ -3,15 +3,8 @@ pub use Rattle.deno_graph_source.proofs.Lists.{Contains-map}
 use Rattle.std.proofs.Common.{◌≡◌, ◌∷◌, ◌++◌, ap, ◌∙◌, refl, arith}
 use Rattle.std.specs.List.{flat_map, Contains}
 use Rattle.std.proofs.lemmas.List.Elements.{Contains-append_left, Contains-append_right}
-use Rattle.deno_graph_source.specs.Node.{
-  kind_of,
-  range_of,
-  children_of,
-  ranges_in_kind,
-  held_ranges,
-  nodes_in,
-  node_ranges,
-}
+use Rattle.deno_graph_source.specs.Node.{kind_of, range_of, children_of, ranges_in_kind, held_ranges}
+use Rattle.deno_graph_source.specs.Node.{nodes_in, node_ranges}
 use Rattle.deno_graph_base.specs.declared.text.position.SourceRange.{SourceRange}
 use Rattle.deno_graph_source.specs.declared.tree.node.Node.{Node}
 use Rattle.deno_graph_source.proofs.Lists.{Contains-cons, Contains-flat_map, flat_map-flat_map}

@@ -6,12 +6,8 @@ use Rattle.deno_graph_source.specs.Node.{children_of, nodes_in, nodes_step}
 use Rattle.deno_graph_source.specs.declared.tree.node.Node.{Node}
 use Rattle.deno_graph_source.specs.declared.tree.node.Node.TheOpen.{Node-F}
 use Rattle.deno_graph_source.specs.declared.tree.node.Node.TheViews.{out-Node, roll-Node}
-use Rattle.deno_graph_source.specs.declared.tree.node.Node.TheFolds.{
-  fold-Node,
-  fold-roll-Node,
-  fold_out-Node,
-  ind-Node,
-}
+use Rattle.deno_graph_source.specs.declared.tree.node.Node.TheFolds.{fold-Node, fold-roll-Node, fold_out-Node}
+use Rattle.deno_graph_source.specs.declared.tree.node.Node.TheFolds.{ind-Node}
 use Rattle.deno_graph_source.proofs.Lists.{flat_map-map, Contains-flat_map}
 
 -- the result of the fold: a node with all its nodes

@@ -1,22 +1,6 @@
 -- Entries in ascending order of offsets, and the items so far in a loop over them.
-use Rattle.std.proofs.Common.{
-  ◌≡◌,
-  ℕ,
-  Bool,
-  true,
-  List,
-  [],
-  ◌∷◌,
-  ◌++◌,
-  Option,
-  Some,
-  map,
-  nat_cmp,
-  ◌∙◌,
-  ap,
-  sym,
-  subst,
-}
+use Rattle.std.proofs.Common.{◌≡◌, ℕ, Bool, true, List, [], ◌∷◌, ◌++◌, Option, Some, map, nat_cmp, ◌∙◌, ap}
+use Rattle.std.proofs.Common.{sym, subst}
 use Rattle.std.specs.Borrow.{Bor}
 use Rattle.std.specs.Cmp.{nat_cmp_total, eq_by_cmp_equiv}
 use Rattle.std.specs.List.{slice_get}

@@ -4,98 +4,54 @@ use Rattle.std.specs.Borrow.{Bor}
 use Rattle.std.specs.List.{AllAdjacentBelow, Contains, All, slice_get}
 use Rattle.std.specs.List.Sorted.{IsNonDecreasingBy, IsPermutation}
 use Rattle.std.specs.Option.{option_to_list}
-use Rattle.std.proofs.lemmas.List.Elements.{
-  All-append,
-  All-cons,
-  All-contains,
-  All-map,
-  All-weaker,
-  Contains-append_left,
-  Contains-append_right,
-}
-use Rattle.std.proofs.lemmas.List.Sorted.{
-  All-permutation,
-  Contains-permutation,
-  IsPermutation-map,
-  IsPermutation-sym,
-  IsPermutation-trans,
-}
+use Rattle.std.proofs.lemmas.List.Elements.{All-append, All-cons, All-contains, All-map, All-weaker}
+use Rattle.std.proofs.lemmas.List.Elements.{Contains-append_left, Contains-append_right}
+use Rattle.std.proofs.lemmas.List.Sorted.{All-permutation, Contains-permutation, IsPermutation-map}
+use Rattle.std.proofs.lemmas.List.Sorted.{IsPermutation-sym, IsPermutation-trans}
 use Rattle.deno_graph_source.specs.internal.Check.{AreNeighbours, IsSound, Passes}
 use Rattle.deno_graph_source.specs.Comments.{FiledComments, comments_of}
-use Rattle.deno_graph_source.specs.FaultPlace.{
-  comment_at,
-  BreaksRule,
-  CommentHas,
-  HasFaultAt,
-  PartHas,
-  RangeHas,
-}
+use Rattle.deno_graph_source.specs.FaultPlace.{comment_at, BreaksRule, CommentHas, HasFaultAt, PartHas}
+use Rattle.deno_graph_source.specs.FaultPlace.{RangeHas}
 use Rattle.deno_graph_source.specs.internal.Finding.{IsFindingIn, finding_fault}
-use Rattle.deno_graph_source.specs.Node.{
-  args_of,
-  held_ranges,
-  kind_of,
-  literal_of,
-  nodes_of,
-  program_ranges,
-  range_of,
-  IsShaped,
-}
+use Rattle.deno_graph_source.specs.Node.{args_of, held_ranges, kind_of, literal_of, nodes_of, program_ranges}
+use Rattle.deno_graph_source.specs.Node.{range_of, IsShaped}
 use Rattle.deno_graph_source.specs.NodePath.{NodePath, LeadsTo, node_at}
 use Rattle.deno_graph_source.specs.Source.{HasOverlap, IsSpelled, IsValid, HasFault, ranges_of}
 use Rattle.deno_graph_base.specs.SourceRange.{IsTextRange}
 use Rattle.deno_graph_base.specs.declared.text.position.SourceRange.{SourceRange}
 use Rattle.deno_graph_source.specs.declared.tree.check.finding.Finding.{Finding}
-use Rattle.deno_graph_source.specs.declared.tree.check.finding.Finding.TheVariants.{
-  Program as ProgramFinding,
-  Node as TreeFinding,
-  Comment as TextFinding,
-  Overlap as OverlapFinding,
-}
+use Rattle.deno_graph_source.specs.declared.tree.check.finding.Finding.TheVariants.{Program as ProgramFinding}
+use Rattle.deno_graph_source.specs.declared.tree.check.finding.Finding.TheVariants.{Node as TreeFinding}
+use Rattle.deno_graph_source.specs.declared.tree.check.finding.Finding.TheVariants.{Comment as TextFinding}
+use Rattle.deno_graph_source.specs.declared.tree.check.finding.Finding.TheVariants.{Overlap as OverlapFinding}
 use Rattle.deno_graph_source.specs.declared.tree.comments.DependencyComment.{DependencyComment}
 use Rattle.deno_graph_source.specs.declared.tree.fault.SourceFault.{SourceFault}
-use Rattle.deno_graph_source.specs.declared.tree.fault.SourceFault.TheVariants.{
-  RangeReversed,
-  RangeOutside,
-  RangeOffBoundary,
-  CommentText,
-  CommentsOverlap,
-  Shape,
-  OutOfMemory,
-}
+use Rattle.deno_graph_source.specs.declared.tree.fault.SourceFault.TheVariants.{RangeReversed, RangeOutside}
+use Rattle.deno_graph_source.specs.declared.tree.fault.SourceFault.TheVariants.{RangeOffBoundary, CommentText}
+use Rattle.deno_graph_source.specs.declared.tree.fault.SourceFault.TheVariants.{CommentsOverlap, Shape}
+use Rattle.deno_graph_source.specs.declared.tree.fault.SourceFault.TheVariants.{OutOfMemory}
 use Rattle.deno_graph_source.specs.declared.tree.fault_place.FaultPlace.{FaultPlace}
-use Rattle.deno_graph_source.specs.declared.tree.fault_place.FaultPlace.TheVariants.{
-  Program as AtProgram,
-  Node as AtNode,
-  Comment as AtComment,
-  Comments as AtComments,
-}
+use Rattle.deno_graph_source.specs.declared.tree.fault_place.FaultPlace.TheVariants.{Program as AtProgram}
+use Rattle.deno_graph_source.specs.declared.tree.fault_place.FaultPlace.TheVariants.{Node as AtNode}
+use Rattle.deno_graph_source.specs.declared.tree.fault_place.FaultPlace.TheVariants.{Comment as AtComment}
+use Rattle.deno_graph_source.specs.declared.tree.fault_place.FaultPlace.TheVariants.{Comments as AtComments}
 use Rattle.deno_graph_source.specs.declared.tree.fault_place.NodePart.{NodePart}
-use Rattle.deno_graph_source.specs.declared.tree.fault_place.NodePart.TheVariants.{
-  Range,
-  Literal,
-  Argument,
-  Children,
-}
+use Rattle.deno_graph_source.specs.declared.tree.fault_place.NodePart.TheVariants.{Range, Literal, Argument}
+use Rattle.deno_graph_source.specs.declared.tree.fault_place.NodePart.TheVariants.{Children}
 use Rattle.deno_graph_source.specs.declared.tree.fault_place.ShapeRule.{ShapeRule}
-use Rattle.deno_graph_source.specs.declared.tree.fault_place.ShapeRule.TheVariants.{
-  WithClause,
-  Template as TemplateRule,
-  Binary as BinaryRule,
-  KeyValue as KeyValueRule,
-  Call as CallRule,
-}
+use Rattle.deno_graph_source.specs.declared.tree.fault_place.ShapeRule.TheVariants.{WithClause}
+use Rattle.deno_graph_source.specs.declared.tree.fault_place.ShapeRule.TheVariants.{Template as TemplateRule}
+use Rattle.deno_graph_source.specs.declared.tree.fault_place.ShapeRule.TheVariants.{Binary as BinaryRule}
+use Rattle.deno_graph_source.specs.declared.tree.fault_place.ShapeRule.TheVariants.{KeyValue as KeyValueRule}
+use Rattle.deno_graph_source.specs.declared.tree.fault_place.ShapeRule.TheVariants.{Call as CallRule}
 use Rattle.deno_graph_source.specs.declared.tree.node.Node.{Node}
 use Rattle.deno_graph_source.specs.declared.tree.node.Program.{Program}
 use Rattle.deno_graph_source.specs.declared.tree.node.StrLit.{StrLit}
 use Rattle.deno_graph_source.proofs.FiledComments.{Contains-comment_at}
 use Rattle.deno_graph_source.proofs.Judgements.{Any-from}
 use Rattle.deno_graph_source.proofs.Lists.{All-flat_map, Contains-cons, Contains-flat_map, Contains-map}
-use Rattle.deno_graph_source.proofs.Neighbours.{
-  IsNonDecreasingBy-map,
-  apart_from_neighbours,
-  overlap_of_neighbours,
-}
+use Rattle.deno_graph_source.proofs.Neighbours.{IsNonDecreasingBy-map, apart_from_neighbours}
+use Rattle.deno_graph_source.proofs.Neighbours.{overlap_of_neighbours}
 use Rattle.deno_graph_source.proofs.NodePaths.{Contains-from_slice_get, Contains-node_at, some_from}
 
 Contains-only_one : (o : Option StrLit) (literal : StrLit) → o ≡ Some literal

@@ -9,18 +9,8 @@ use Rattle.std.proofs.lemmas.Map.Made.{Contains-values_of}
 use Rattle.std.proofs.lemmas.Option.{slice_get_within, get_or_from_slice_get}
 use Rattle.deno_graph_source.specs.ByOffset.{value_at, all_items}
 use Rattle.deno_graph_source.specs.Comments.{FiledComments, comments_of}
-use Rattle.deno_graph_source.specs.Node.{
-  kind_of,
-  range_of,
-  children_of,
-  literal_of,
-  ranges_in_kind,
-  held_ranges,
-  nodes_in,
-  nodes_of,
-  node_ranges,
-  program_ranges,
-}
+use Rattle.deno_graph_source.specs.Node.{kind_of, range_of, children_of, literal_of, ranges_in_kind}
+use Rattle.deno_graph_source.specs.Node.{held_ranges, nodes_in, nodes_of, node_ranges, program_ranges}
 use Rattle.deno_graph_source.specs.Source.{IsValid, ranges_of}
 use Rattle.deno_graph_base.specs.SourceRange.{IsTextRange}
 use Rattle.deno_graph_base.specs.declared.text.position.SourceRange.{SourceRange}

@@ -1,15 +1,10 @@
 -- The printed names of the faults of a source.
 use Rattle.std.specs.Prelude.{ℕ, List, codes}
 use Rattle.deno_graph_source.specs.declared.tree.fault.SourceFault.{SourceFault}
-use Rattle.deno_graph_source.specs.declared.tree.fault.SourceFault.TheVariants.{
-  RangeReversed,
-  RangeOutside,
-  RangeOffBoundary,
-  CommentText,
-  CommentsOverlap,
-  Shape,
-  OutOfMemory,
-}
+use Rattle.deno_graph_source.specs.declared.tree.fault.SourceFault.TheVariants.{RangeReversed, RangeOutside}
+use Rattle.deno_graph_source.specs.declared.tree.fault.SourceFault.TheVariants.{RangeOffBoundary, CommentText}
+use Rattle.deno_graph_source.specs.declared.tree.fault.SourceFault.TheVariants.{CommentsOverlap, Shape}
+use Rattle.deno_graph_source.specs.declared.tree.fault.SourceFault.TheVariants.{OutOfMemory}
 
 -- the printed name of a fault
 abbrev pub fault_name : SourceFault → List ℕ

@@ -2,54 +2,33 @@
 use Rattle.std.specs.Prelude.{◌≡◌, ◌≢◌, ℕ, List, length, Option, Some, None, IsSomeAnd, slice_get}
 use Rattle.deno_graph_source.specs.ByOffset.{item_at}
 use Rattle.deno_graph_source.specs.Comments.{FiledComments, Filing}
-use Rattle.deno_graph_source.specs.Node.{
-  kind_of,
-  range_of,
-  children_of,
-  literal_of,
-  args_of,
-  has_with,
-  HasClause,
-  HasCountOfKind,
-}
+use Rattle.deno_graph_source.specs.Node.{kind_of, range_of, children_of, literal_of, args_of, has_with}
+use Rattle.deno_graph_source.specs.Node.{HasClause, HasCountOfKind}
 use Rattle.deno_graph_source.specs.NodePath.{LeadsTo}
 use Rattle.deno_graph_source.specs.Source.{IsReversed, IsOutside, IsOffBoundary, IsSpelled, SharesByte}
 use Rattle.deno_graph_base.specs.declared.text.position.SourceRange.{SourceRange}
 use Rattle.deno_graph_source.specs.declared.tree.comments.DependencyComment.{DependencyComment}
 use Rattle.deno_graph_source.specs.declared.tree.fault.SourceFault.{SourceFault}
-use Rattle.deno_graph_source.specs.declared.tree.fault.SourceFault.TheVariants.{
-  RangeReversed,
-  RangeOutside,
-  RangeOffBoundary,
-  CommentText,
-  CommentsOverlap,
-  Shape,
-}
+use Rattle.deno_graph_source.specs.declared.tree.fault.SourceFault.TheVariants.{RangeReversed, RangeOutside}
+use Rattle.deno_graph_source.specs.declared.tree.fault.SourceFault.TheVariants.{RangeOffBoundary, CommentText}
+use Rattle.deno_graph_source.specs.declared.tree.fault.SourceFault.TheVariants.{CommentsOverlap, Shape}
 use Rattle.deno_graph_source.specs.declared.tree.comments.CommentPlace.{CommentPlace}
 use Rattle.deno_graph_source.specs.declared.tree.comments.CommentSide.{CommentSide}
 use Rattle.deno_graph_source.specs.declared.tree.comments.CommentSide.TheVariants.{Leading, Trailing}
 use Rattle.deno_graph_source.specs.declared.tree.fault_place.FaultPlace.{FaultPlace}
-use Rattle.deno_graph_source.specs.declared.tree.fault_place.FaultPlace.TheVariants.{
-  Program as AtProgram,
-  Node as AtNode,
-  Comment as AtComment,
-  Comments as AtComments,
-}
+use Rattle.deno_graph_source.specs.declared.tree.fault_place.FaultPlace.TheVariants.{Program as AtProgram}
+use Rattle.deno_graph_source.specs.declared.tree.fault_place.FaultPlace.TheVariants.{Node as AtNode}
+use Rattle.deno_graph_source.specs.declared.tree.fault_place.FaultPlace.TheVariants.{Comment as AtComment}
+use Rattle.deno_graph_source.specs.declared.tree.fault_place.FaultPlace.TheVariants.{Comments as AtComments}
 use Rattle.deno_graph_source.specs.declared.tree.fault_place.NodePart.{NodePart}
-use Rattle.deno_graph_source.specs.declared.tree.fault_place.NodePart.TheVariants.{
-  Range,
-  Literal,
-  Argument,
-  Children,
-}
+use Rattle.deno_graph_source.specs.declared.tree.fault_place.NodePart.TheVariants.{Range, Literal, Argument}
+use Rattle.deno_graph_source.specs.declared.tree.fault_place.NodePart.TheVariants.{Children}
 use Rattle.deno_graph_source.specs.declared.tree.fault_place.ShapeRule.{ShapeRule}
-use Rattle.deno_graph_source.specs.declared.tree.fault_place.ShapeRule.TheVariants.{
-  WithClause,
-  Template as TemplateRule,
-  Binary as BinaryRule,
-  KeyValue as KeyValueRule,
-  Call as CallRule,
-}
+use Rattle.deno_graph_source.specs.declared.tree.fault_place.ShapeRule.TheVariants.{WithClause}
+use Rattle.deno_graph_source.specs.declared.tree.fault_place.ShapeRule.TheVariants.{Template as TemplateRule}
+use Rattle.deno_graph_source.specs.declared.tree.fault_place.ShapeRule.TheVariants.{Binary as BinaryRule}
+use Rattle.deno_graph_source.specs.declared.tree.fault_place.ShapeRule.TheVariants.{KeyValue as KeyValueRule}
+use Rattle.deno_graph_source.specs.declared.tree.fault_place.ShapeRule.TheVariants.{Call as CallRule}
 use Rattle.deno_graph_source.specs.declared.tree.node.Kind.{Kind}
 use Rattle.deno_graph_source.specs.declared.tree.node.Kind.TheVariants.{Template, Binary, KeyValue, Call}
 use Rattle.deno_graph_source.specs.declared.tree.node.Node.{Node}

@@ -1,21 +1,6 @@
 -- Media types.
-use Rattle.std.specs.Prelude.{
-  ℕ,
-  Bool,
-  true,
-  false,
-  ◌||◌,
-  ◌==◌,
-  nat_eq,
-  nat_lt,
-  List,
-  [],
-  ◌∷◌,
-  length,
-  codes,
-  bytes_eq,
-  if◌then◌else◌,
-}
+use Rattle.std.specs.Prelude.{ℕ, Bool, true, false, ◌||◌, ◌==◌, nat_eq, nat_lt, List, [], ◌∷◌, length, codes}
+use Rattle.std.specs.Prelude.{bytes_eq, if◌then◌else◌}
 use Rattle.std.specs.Char.{is_ascii_whitespace}
 use Rattle.std.specs.List.{after_last, before_first, before_last, ends_with, position_or_len}
 use Rattle.std.specs.Str.{str_eq_ignore_ascii_case}
@@ -23,21 +8,10 @@ use Rattle.url.specs.Ascii.{dot, slash}
 use Rattle.url.specs.Input.{trim_end, trim_start}
 use Rattle.url.specs.Parts.{Parts}
 use Rattle.deno_graph_source.specs.declared.tree.media_type.MediaType.{MediaType}
-use Rattle.deno_graph_source.specs.declared.tree.media_type.MediaType.TheVariants.{
-  JavaScript,
-  Jsx,
-  Mjs,
-  Cjs,
-  TypeScript,
-  Mts,
-  Cts,
-  Dts,
-  Dmts,
-  Dcts,
-  Tsx,
-  Json,
-  Other,
-}
+use Rattle.deno_graph_source.specs.declared.tree.media_type.MediaType.TheVariants.{JavaScript, Jsx, Mjs, Cjs}
+use Rattle.deno_graph_source.specs.declared.tree.media_type.MediaType.TheVariants.{TypeScript, Mts, Cts, Dts}
+use Rattle.deno_graph_source.specs.declared.tree.media_type.MediaType.TheVariants.{Dmts, Dcts, Tsx, Json}
+use Rattle.deno_graph_source.specs.declared.tree.media_type.MediaType.TheVariants.{Other}
 
 -- whether files of this media type hold types
 abbrev pub is_typed : MediaType → Bool

@@ -9,15 +9,10 @@ use Rattle.deno_graph_source.specs.declared.tree.comments.CommentKind.{CommentKi
 use Rattle.deno_graph_source.specs.declared.tree.comments.CommentKind.TheVariants.{Line, Block}
 use Rattle.deno_graph_source.specs.declared.tree.comments.DependencyComment.{DependencyComment}
 use Rattle.deno_graph_source.specs.declared.tree.fault.SourceFault.{SourceFault}
-use Rattle.deno_graph_source.specs.declared.tree.fault.SourceFault.TheVariants.{
-  RangeReversed,
-  RangeOutside,
-  RangeOffBoundary,
-  CommentText,
-  CommentsOverlap,
-  Shape,
-  OutOfMemory,
-}
+use Rattle.deno_graph_source.specs.declared.tree.fault.SourceFault.TheVariants.{RangeReversed, RangeOutside}
+use Rattle.deno_graph_source.specs.declared.tree.fault.SourceFault.TheVariants.{RangeOffBoundary, CommentText}
+use Rattle.deno_graph_source.specs.declared.tree.fault.SourceFault.TheVariants.{CommentsOverlap, Shape}
+use Rattle.deno_graph_source.specs.declared.tree.fault.SourceFault.TheVariants.{OutOfMemory}
 use Rattle.deno_graph_source.specs.declared.tree.node.Program.{Program}
 
 -- all ranges of a source: of the program, of the nodes with their literals and arguments, and of the

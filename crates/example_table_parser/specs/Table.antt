@@ -3,14 +3,8 @@ use Rattle.std.specs.Prelude.{Bool, ◌&&◌, List, Option, Some, None, find, co
 use Rattle.std.specs.Str.{bytes_eq}
 use Rattle.deno_graph_source.specs.ParsedSource.{ParsedModule}
 use Rattle.deno_graph_source.specs.contracts.tree.media_type.MediaTypePartialEq.TheImpl as media_types
-use Rattle.deno_graph_analyzer.specs.Parsing.{
-  ParseFunction,
-  Input,
-  Outcome,
-  rejected,
-  specifier_text,
-  outcome_of,
-}
+use Rattle.deno_graph_analyzer.specs.Parsing.{ParseFunction, Input, Outcome, rejected, specifier_text}
+use Rattle.deno_graph_analyzer.specs.Parsing.{outcome_of}
 use Rattle.deno_graph_source.specs.declared.tree.parse_error.ParseDiagnostic.{ParseDiagnostic}
 
 -- the source has the specifier, the text and the media type of the input

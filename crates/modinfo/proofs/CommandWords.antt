@@ -1,27 +1,6 @@
 -- Words ask for one command line at most.
-use Rattle.std.proofs.Common.{
-  ◌≡◌,
-  ◌||◌,
-  ◌≤◌,
-  ℕ,
-  length,
-  map,
-  arith,
-  List,
-  [],
-  ◌∷◌,
-  codes,
-  Bool,
-  not,
-  if◌then◌else◌,
-  true,
-  false,
-  refl,
-  sym,
-  ap,
-  ◌∙◌,
-  subst,
-}
+use Rattle.std.proofs.Common.{◌≡◌, ◌||◌, ◌≤◌, ℕ, length, map, arith, List, [], ◌∷◌, codes, Bool, not}
+use Rattle.std.proofs.Common.{if◌then◌else◌, true, false, refl, sym, ap, ◌∙◌, subst}
 use Rattle.std.specs.Str.{bytes_eq}
 use Rattle.std.proofs.lemmas.Bool.{and_parts, false_from_ne_true, not-true, or_parts, true≢false}
 use Rattle.std.proofs.lemmas.Slice.Eq.{bytes_eq-Decides}

@@ -1,6 +1,6 @@
 -- The faults of a document, by the step that failed.
-use Rattle.std.proofs.Common.{◌≡◌, ◌≢◌, inl, inr, ℕ, List, Some, None, refl, subst, sym}
-use Rattle.std.proofs.Common.{IsUtf8, Result, Ok, Err, MatchResult, String, Global, string_bytes}
+use Rattle.std.proofs.Common.{◌≡◌, ◌≢◌, inl, inr, ℕ, List, Some, None, refl, subst, sym, IsUtf8, Result, Ok}
+use Rattle.std.proofs.Common.{Err, MatchResult, String, Global, string_bytes}
 use Rattle.serde_json.specs.Data.{Data}
 use Rattle.serde_json.specs.Read.{read as read_text}
 use Rattle.deno_graph_json.specs.declared.error.ReadError.{ReadError}
@@ -13,39 +13,20 @@ use Rattle.deno_graph_info.specs.Conversion.{IsConvertFault}
 use Rattle.deno_graph_info.specs.declared.analysis.fault.InfoFault.{InfoFault}
 use Rattle.deno_graph_info.specs.declared.conversion.fault.ConvertFault.{ConvertFault}
 use Rattle.deno_graph_info.specs.declared.conversion.fault.ConvertFault.TheVariants as convert
-use Rattle.modinfo.specs.Answer.{
-  IsConvertedText,
-  IsDocumentFault,
-  IsNoConversion,
-  IsNoJson,
-  IsNoReach,
-}
+use Rattle.modinfo.specs.Answer.{IsConvertedText, IsDocumentFault, IsNoConversion, IsNoJson, IsNoReach}
 use Rattle.modinfo.specs.internal.Answer.{IsReadFailure}
 use Rattle.modinfo.specs.internal.Convert.{IsConvertedValue, IsNoConvertedValue}
 use Rattle.modinfo.specs.Run.{IsFailure, IsNoResult, IsRunFault}
-use Rattle.modinfo.specs.Fault.{
-  IsWriteFault,
-  fault_of_conversion,
-  fault_of_document,
-  fault_of_error,
-  fault_of_question,
-  fault_of_tape,
-}
+use Rattle.modinfo.specs.Fault.{IsWriteFault, fault_of_conversion, fault_of_document, fault_of_error}
+use Rattle.modinfo.specs.Fault.{fault_of_question, fault_of_tape}
 use Rattle.modinfo.specs.Reach.{IsQuestionFault}
 use Rattle.modinfo.specs.internal.Reach.{IsErrorIn}
 use Rattle.modinfo.specs.declared.reach.QuestionError.{QuestionError}
 use Rattle.modinfo.specs.declared.command.Command.{Command}
 use Rattle.modinfo.specs.declared.command.Command.TheVariants.{Answer, Check}
 use Rattle.modinfo.specs.declared.fault.Fault.{Fault}
-use Rattle.modinfo.specs.declared.fault.Fault.TheVariants.{
-  Input,
-  Source,
-  Convert,
-  Info,
-  Output,
-  Closed,
-  OutOfMemory,
-}
+use Rattle.modinfo.specs.declared.fault.Fault.TheVariants.{Input, Source, Convert, Info, Output, Closed}
+use Rattle.modinfo.specs.declared.fault.Fault.TheVariants.{OutOfMemory}
 use Rattle.modinfo.specs.declared.format.Format.{Format}
 use Rattle.modinfo.specs.declared.format.Format.TheVariants.{Module, Estree, Source}
 

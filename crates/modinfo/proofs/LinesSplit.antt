@@ -1,52 +1,12 @@
 -- The first line of a text, which ends at the first line feed.
-use Rattle.std.proofs.Common.{
-  ◌≡◌,
-  ◌≢◌,
-  ◌++◌,
-  ◌<◌,
-  ◌≤◌,
-  ◌+◌,
-  ◌-◌,
-  ℕ,
-  Bool,
-  List,
-  [],
-  ◌∷◌,
-  Option,
-  Some,
-  None,
-  IfSome,
-  length,
-  take,
-  drop,
-  cond,
-  get_or,
-  refl,
-  sym,
-  ap,
-  subst,
-  ◌∙◌,
-  arith,
-  append_assoc,
-  append-nil,
-  take_all,
-  eqb-true,
-  ne_eqb,
-  true,
-  false,
-  eq-eqb,
-}
+use Rattle.std.proofs.Common.{◌≡◌, ◌≢◌, ◌++◌, ◌<◌, ◌≤◌, ◌+◌, ◌-◌, ℕ, Bool, List, [], ◌∷◌, Option, Some, None}
+use Rattle.std.proofs.Common.{IfSome, length, take, drop, cond, get_or, refl, sym, ap, subst, ◌∙◌, arith}
+use Rattle.std.proofs.Common.{append_assoc, append-nil, take_all, eqb-true, ne_eqb, true, false, eq-eqb}
 use Rattle.std.specs.Io.BufRead.{DropsConsumable}
 use Rattle.std.specs.Io.KnownBytes.{prepend_known}
 use Rattle.std.specs.Prelude.{All}
-use Rattle.std.proofs.lemmas.List.{
-  drop-append-le,
-  get_or-take,
-  length-take-le,
-  take-append-drop,
-  take_more,
-  take_rest,
-}
+use Rattle.std.proofs.lemmas.List.{drop-append-le, get_or-take, length-take-le, take-append-drop, take_more}
+use Rattle.std.proofs.lemmas.List.{take_rest}
 use Rattle.std.proofs.lemmas.List.Elements.{All-from_get_or, All-head, All-tail}
 use Rattle.memchr.specs.Find.{IsFirstByte, Nowhere, Passes, is_byte}
 use Rattle.modinfo.specs.Lines.{before_first, lines_of}

@@ -1,50 +1,8 @@
 -- Lines that are taken from a text, and the printed lines for them.
-use Rattle.std.proofs.Common.{
-  ◌≡◌,
-  ◌++◌,
-  ◌&&◌,
-  ◌<◌,
-  ◌-◌,
-  ◌+◌,
-  ℕ,
-  suc,
-  Bool,
-  true,
-  false,
-  List,
-  [],
-  ◌∷◌,
-  Some,
-  None,
-  IfSome,
-  length,
-  take,
-  cond,
-  eqb,
-  get_or,
-  refl,
-  sym,
-  ap,
-  subst,
-  ◌∙◌,
-  arith,
-  append_assoc,
-  append-nil,
-  take_all,
-  length-append,
-  eqb-true,
-  ltb-true,
-  true≢false,
-  eq-eqb,
-  lt-ltb,
-  Result,
-  Ok,
-  Err,
-  MatchResult,
-  ◌⊎◌,
-  inl,
-  inr,
-}
+use Rattle.std.proofs.Common.{◌≡◌, ◌++◌, ◌&&◌, ◌<◌, ◌-◌, ◌+◌, ℕ, suc, Bool, true, false, List, [], ◌∷◌, Some}
+use Rattle.std.proofs.Common.{None, IfSome, length, take, cond, eqb, get_or, refl, sym, ap, subst, ◌∙◌, arith}
+use Rattle.std.proofs.Common.{append_assoc, append-nil, take_all, length-append, eqb-true, ltb-true}
+use Rattle.std.proofs.Common.{true≢false, eq-eqb, lt-ltb, Result, Ok, Err, MatchResult, ◌⊎◌, inl, inr}
 use Rattle.std.specs.Io.{IsEmptyOrEndsWith, StopsAt}
 use Rattle.std.specs.Io.BufRead.{DropsThrough, drop_through, ends_with_byte, strip_last, take_through}
 use Rattle.std.specs.Io.Iter.{u64_saturate}
@@ -59,15 +17,8 @@ use Rattle.std.proofs.lemmas.List.Elements.{All-more, All-nil}
 use Rattle.std.proofs.lemmas.Result.{err_from_is_err_and}
 use Rattle.modinfo.proofs.Faults.{run_without_memory}
 use Rattle.modinfo.proofs.Written.{front_after, front_of_both, whole_front}
-use Rattle.modinfo.specs.Lines.{
-  PrintsLine,
-  PrintsLines,
-  before_first,
-  lines_of,
-  fault_line,
-  passes_without,
-  LeavesFirstLines,
-}
+use Rattle.modinfo.specs.Lines.{PrintsLine, PrintsLines, before_first, lines_of, fault_line, passes_without}
+use Rattle.modinfo.specs.Lines.{LeavesFirstLines}
 use Rattle.modinfo.specs.internal.Lines.{TakesLines}
 use Rattle.modinfo.specs.Lines.PrintsLine.{with_fault}
 use Rattle.modinfo.specs.Lines.PrintsLines.{more, none}

@@ -3,13 +3,8 @@ use Rattle.std.proofs.Common.{◌≡◌, ◌↔◌, Option, Some, None, Result, 
 use Rattle.std.proofs.Common.{⊎_elim}
 use Rattle.serde_json.specs.Data.{Data, Items, no_items, item}
 use Rattle.serde_json.specs.Written.{has_float}
-use Rattle.deno_graph_info.specs.Conversion.{
-  AnyOverflows,
-  DependencyOverflows,
-  IsConvertFault,
-  Overflows,
-  dependencies_in,
-}
+use Rattle.deno_graph_info.specs.Conversion.{AnyOverflows, DependencyOverflows, IsConvertFault, Overflows}
+use Rattle.deno_graph_info.specs.Conversion.{dependencies_in}
 use Rattle.deno_graph_info.specs.declared.conversion.fault.ConvertFault.TheVariants as convert
 
 -- All items have an overflow exactly where those that are left have one.

@@ -1,7 +1,6 @@
 -- Source texts: the faults of each step.
-use Rattle.std.proofs.Common.{◌≡◌, ◌⊎◌, ◌∙◌, ap, inl, inr, refl, subst, sym}
-use Rattle.std.proofs.Common.{ℕ, List, Option, Some, None, Result, Ok, Err, IfOk, MatchResult}
-use Rattle.std.proofs.Common.{String, Global, string_bytes}
+use Rattle.std.proofs.Common.{◌≡◌, ◌⊎◌, ◌∙◌, ap, inl, inr, refl, subst, sym, ℕ, List, Option, Some, None}
+use Rattle.std.proofs.Common.{Result, Ok, Err, IfOk, MatchResult, String, Global, string_bytes}
 use Rattle.url.specs.Parts.{Parts}
 use Rattle.deno_graph_source.specs.ParsedSource.{ParsedModule}
 use Rattle.deno_graph_source.specs.Source.{IsValid}
@@ -20,17 +19,8 @@ use Rattle.modinfo_document.specs.Error.{of_read, of_tape, of_url}
 use Rattle.modinfo_document.proofs.Urls.{by_url}
 use Rattle.modinfo.specs.Fault.{fault_of_document}
 use Rattle.modinfo.specs.FileUrl.{IsNoUrl}
-use Rattle.modinfo.specs.Source.{
-  IsInfoOfText,
-  IsNoInfoOfText,
-  IsNoText,
-  IsNoTextInfo,
-  IsParsed,
-  IsTextIn,
-  IsTextInfo,
-  media_type_in,
-  reads_text,
-}
+use Rattle.modinfo.specs.Source.{IsInfoOfText, IsNoInfoOfText, IsNoText, IsNoTextInfo, IsParsed, IsTextIn}
+use Rattle.modinfo.specs.Source.{IsTextInfo, media_type_in, reads_text}
 use Rattle.modinfo.specs.declared.fault.Fault.{Fault}
 use Rattle.modinfo.specs.declared.source.SourceText.{SourceText}
 

@@ -21,16 +21,8 @@ use Rattle.modinfo_document.specs.declared.document.Document.{Document}
 use Rattle.modinfo_document.specs.declared.error.DocumentError.{DocumentError}
 use Rattle.modinfo_document.specs.declared.report.FaultReport.{FaultReport}
 use Rattle.modinfo_document.specs.declared.report.Report.{Report}
-use Rattle.modinfo.specs.Check.{
-  IsConvertibleText,
-  IsQuestionFaultReport,
-  IsQuestionText,
-  IsSourceFaultReport,
-  IsStoredFaultReport,
-  OfReport,
-  ReportsEncoding,
-  WarnsOfQuestion,
-}
+use Rattle.modinfo.specs.Check.{IsConvertibleText, IsQuestionFaultReport, IsQuestionText, IsSourceFaultReport}
+use Rattle.modinfo.specs.Check.{IsStoredFaultReport, OfReport, ReportsEncoding, WarnsOfQuestion}
 use Rattle.modinfo.specs.declared.fault.Fault.{Fault}
 use Rattle.modinfo.specs.declared.fault.Fault.TheVariants.{Input, Json, OutOfMemory}
 use Rattle.modinfo.specs.declared.fault.Fault.TheVariants as fault_of

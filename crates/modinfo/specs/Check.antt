@@ -1,17 +1,5 @@
 -- When a report on a document of `convert`, of `reach` or of `analyze --source` is right.
-use Rattle.std.specs.Prelude.{
-  ◌≡◌,
-  ◌≢◌,
-  ◌⊎◌,
-  ℕ,
-  List,
-  codes,
-  IsSomeAnd,
-  MatchOption,
-  None,
-  Some,
-  false,
-}
+use Rattle.std.specs.Prelude.{◌≡◌, ◌≢◌, ◌⊎◌, ◌++◌, ℕ, List, codes, IsSomeAnd, MatchOption, None, Some, false}
 use Rattle.std.specs.Str.{IsValidUpTo}
 use Rattle.std.specs.String.{string_bytes}
 use Rattle.serde_json.specs.Data.{Data}
@@ -141,6 +129,13 @@ abbrev pub WarnsOfQuestion : List ℕ → Report → Type 0
 WarnsOfQuestion text (Valid warnings) = (value : Data) × (read_text text ≡ Some value)
     × WarnsOfModules value (Valid warnings)
 WarnsOfQuestion text (Invalid report) = Unit {0}
+
+-- What is expected, by a message of the parser: what follows `expected ` in the message, else valid syntax,
+-- with the message.
+abbrev pub IsExpectedBy : List ℕ → List ℕ → Type 0
+IsExpectedBy message expected = (message ≡ codes "expected " ++ expected)
+    ⊎ (((rest : List ℕ) → message ≢ codes "expected " ++ rest)
+    × (expected ≡ codes "valid syntax: " ++ message))
 
 -- The report has the pointer of the source of a document, and a place: a position of the text, and the offset
 -- that the position has there. It has no other pointer, and no range.

@@ -1,21 +1,6 @@
 -- The table of commands: the words of each, and its number.
-use Rattle.std.specs.Prelude.{
-  ◌&&◌,
-  ◌==◌,
-  ℕ,
-  List,
-  [],
-  ◌∷◌,
-  codes,
-  Bool,
-  true,
-  false,
-  not,
-  Option,
-  None,
-  Some,
-  if◌then◌else◌,
-}
+use Rattle.std.specs.Prelude.{◌&&◌, ◌==◌, ℕ, List, [], ◌∷◌, codes, Bool, true, false, not, Option, None, Some}
+use Rattle.std.specs.Prelude.{if◌then◌else◌}
 use Rattle.std.specs.Str.{bytes_eq}
 use Rattle.modinfo.specs.Words.{are_among, are_distinct, is_among}
 use Rattle.modinfo.specs.declared.command.Command.{Command}

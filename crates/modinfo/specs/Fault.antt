@@ -15,19 +15,8 @@ use Rattle.deno_graph_json.specs.declared.error.ReadError.{ReadError}
 use Rattle.deno_graph_json.specs.declared.error.ReadError.TheVariants as read
 use Rattle.modinfo.specs.declared.reach.QuestionError.{QuestionError}
 use Rattle.modinfo.specs.declared.fault.Fault.{Fault}
-use Rattle.modinfo.specs.declared.fault.Fault.TheVariants.{
-  Input,
-  Json,
-  Tree,
-  Specifier,
-  Syntax,
-  Source,
-  Convert,
-  Info,
-  Output,
-  Closed,
-  OutOfMemory,
-}
+use Rattle.modinfo.specs.declared.fault.Fault.TheVariants.{Input, Json, Tree, Specifier, Syntax, Source}
+use Rattle.modinfo.specs.declared.fault.Fault.TheVariants.{Convert, Info, Output, Closed, OutOfMemory}
 
 -- The fault for an error of a flat list.
 abbrev pub fault_of_tape : TapeError → Fault

@@ -1,22 +1,7 @@
 -- The lines of an input, and what is printed for each of them.
 use Rattle.std.specs.Io.KnownBytes.{Appends, Keeps}
-use Rattle.std.specs.Prelude.{
-  ◌≡◌,
-  ◌++◌,
-  ◌&&◌,
-  ◌==◌,
-  ℕ,
-  List,
-  [],
-  ◌∷◌,
-  codes,
-  Bool,
-  true,
-  false,
-  Option,
-  IfSome,
-  if◌then◌else◌,
-}
+use Rattle.std.specs.Prelude.{◌≡◌, ◌++◌, ◌&&◌, ◌==◌, ℕ, List, [], ◌∷◌, codes, Bool, true, false, Option}
+use Rattle.std.specs.Prelude.{IfSome, if◌then◌else◌}
 use Rattle.std.specs.String.{string_bytes}
 use Rattle.modinfo.specs.Fault.{name_of_fault}
 use Rattle.modinfo.specs.Run.{AppendsFront, IsFailure, IsNoResult, IsResult, error_line}

@@ -1,21 +1,6 @@
 -- The status, the output and the error output of a run of the program.
-use Rattle.std.specs.Prelude.{
-  ◌≡◌,
-  ◌↔◌,
-  ◌≤◌,
-  ◌⊎◌,
-  ◌++◌,
-  ℕ,
-  List,
-  [],
-  codes,
-  take,
-  Bool,
-  IsTrue,
-  Option,
-  IfSome,
-  if◌then◌else◌,
-}
+use Rattle.std.specs.Prelude.{◌≡◌, ◌↔◌, ◌≤◌, ◌⊎◌, ◌++◌, ℕ, List, [], codes, take, Bool, IsTrue, Option}
+use Rattle.std.specs.Prelude.{IfSome, if◌then◌else◌}
 use Rattle.std.specs.Io.KnownBytes.{Appends, Keeps}
 use Rattle.modinfo_document.specs.Report.{LetsPass}
 use Rattle.modinfo_document.specs.ReportText.{report_text}
@@ -25,19 +10,8 @@ use Rattle.modinfo.specs.Fault.{IsWriteFault, is_closed, name_of_fault}
 use Rattle.modinfo.specs.declared.command.Command.{Command}
 use Rattle.modinfo.specs.declared.command.Command.TheVariants.{Answer, Check}
 use Rattle.modinfo.specs.declared.fault.Fault.{Fault}
-use Rattle.modinfo.specs.declared.fault.Fault.TheVariants.{
-  Input,
-  Json,
-  Tree,
-  Specifier,
-  Syntax,
-  Source,
-  Convert,
-  Info,
-  Output,
-  Closed,
-  OutOfMemory,
-}
+use Rattle.modinfo.specs.declared.fault.Fault.TheVariants.{Input, Json, Tree, Specifier, Syntax, Source}
+use Rattle.modinfo.specs.declared.fault.Fault.TheVariants.{Convert, Info, Output, Closed, OutOfMemory}
 use Rattle.modinfo.specs.declared.format.Format.{Format}
 
 -- A beginning of the text was appended.

@@ -1,20 +1,6 @@
 -- Source texts: documents of `analyze --source`, the parts that C hands in, and the information on a text.
-use Rattle.std.specs.Prelude.{
-  ◌≡◌,
-  ◌==◌,
-  ◌⊎◌,
-  ℕ,
-  List,
-  codes,
-  Option,
-  None,
-  Some,
-  IsUtf8,
-  Err,
-  Ok,
-  unwrap_or,
-  if◌then◌else◌,
-}
+use Rattle.std.specs.Prelude.{◌≡◌, ◌==◌, ◌⊎◌, ℕ, List, codes, Option, None, Some, IsUtf8, Err, Ok, unwrap_or}
+use Rattle.std.specs.Prelude.{Bool, is_some, if◌then◌else◌}
 use Rattle.serde_json.specs.Data.{Data}
 use Rattle.serde_json.specs.Find.{as_object, as_str}
 use Rattle.serde_json.specs.Read.{read as read_text}
@@ -31,7 +17,8 @@ use Rattle.deno_graph_source.specs.declared.tree.media_type.MediaType.TheVariant
 use Rattle.deno_graph_info.specs.Json.ModuleInfo.{json_of_info}
 use Rattle.deno_graph_info.specs.declared.analysis.module_info.ModuleInfo.{ModuleInfo}
 use Rattle.deno_graph_module_info.specs.InfoOfModule.{IsInfoOfModule}
-use Rattle.modinfo_document.specs.Kind.{media_types, reads_named}
+use Rattle.modinfo_document.specs.Kind.{media_types}
+use Rattle.modinfo_document.specs.Named.{reads_named}
 use Rattle.modinfo_source.specs.Spelled.{IsSpelled}
 use Rattle.modinfo.specs.declared.fault.Fault.{Fault}
 use Rattle.modinfo.specs.declared.fault.Fault.TheVariants.{Input, Json, Tree, Specifier, Syntax, OutOfMemory}
@@ -121,6 +108,10 @@ media_type_at number =
     else if number == 12 then Some (Some media.Json)
     else if number == 13 then Some (Some media.Other)
     else None
+
+-- Whether the number is that of a media type, or 0 for the media type of the specifier.
+abbrev pub is_media_type : ℕ → Bool
+is_media_type number = is_some (media_type_at number)
 
 -- The text has these parts: its bytes, those of its specifier, and the number of its media type.
 pub record HasParts (bytes name : List ℕ) (number : ℕ) (text : SourceText) : Type 0 where

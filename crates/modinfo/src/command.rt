@@ -54,7 +54,7 @@ impl Command {
         }
     }
 
-    /// Whether a name and the words after it ask for this command.
+    /// Returns whether a name and the words after it ask for this command.
     pub fn has_words(self, name: &str, words: &[&str]) -> bool
         ensures { result ≡ has_words self name.now (map (λ word. word.now) words.now) }
     {
@@ -113,7 +113,7 @@ impl Command {
         }
     }
 
-    /// Whether a check is strict exactly if `--strict` is among the words.
+    /// Returns whether a check is strict exactly if `--strict` is among the words.
     fn has_strictness(self, words: &[&str]) -> bool
         ensures { result ≡ has_strictness self (map (λ word. word.now) words.now) }
     {

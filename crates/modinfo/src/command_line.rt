@@ -59,7 +59,7 @@ impl CommandLine {
         }
     }
 
-    /// Whether these arguments ask for this command line.
+    /// Returns whether these arguments ask for this command line.
     fn is_asked_by(self, words: &[&str]) -> bool
         ensures { result ≡ asks_for self (map (λ word. word.now) words.now) }
     {
@@ -81,7 +81,7 @@ impl CommandLine {
 }
 
 impl Names {
-    /// Whether the words after `files` have the names, or ask for names in the input.
+    /// Returns whether the words after `files` have the names, or ask for names in the input.
     fn has_words(self, words: &[&str]) -> bool
         ensures { result ≡ names_have_words self (map (λ word. word.now) words.now) }
     {
@@ -94,7 +94,7 @@ impl Names {
     }
 }
 
-/// Whether no word begins with `-`.
+/// Returns whether no word begins with `-`.
 fn are_names(words: &[&str]) -> bool
     ensures { result ≡ are_names (map (λ word. word.now) words.now) }
 {
@@ -108,7 +108,7 @@ fn are_names(words: &[&str]) -> bool
     true
 }
 
-/// Whether the words are `--help`, `-h`, or the name of a command and `--help`.
+/// Returns whether the words are `--help`, `-h`, or the name of a command and `--help`.
 fn asks_for_help(words: &[&str]) -> bool
     ensures { result ≡ asks_for_help (map (λ word. word.now) words.now) }
 {
@@ -119,14 +119,14 @@ fn asks_for_help(words: &[&str]) -> bool
     }
 }
 
-/// Whether a word is the first word of a command.
+/// Returns whether a word is the first word of a command.
 fn is_command(word: &str) -> bool
     ensures { result ≡ is_among word.now command_names }
 {
     is_among(word, NAMES)
 }
 
-/// Whether the words are `--version` or `-V`.
+/// Returns whether the words are `--version` or `-V`.
 fn asks_for_version(words: &[&str]) -> bool
     ensures { result ≡ asks_for_version (map (λ word. word.now) words.now) }
 {

@@ -35,8 +35,8 @@ pub enum Fault {
     Info(InfoFault),
     /// A write failed.
     Output,
-    /// A write failed, since the reader of the output ended. Its name is that of `Output`; the program ends
-    /// without a message.
+    /// A write failed because the reader of the output ended. The fault's name is `Output`, and the program
+    /// ends without a message.
     Closed,
     /// An allocation failed.
     OutOfMemory,
@@ -73,7 +73,7 @@ impl Fault {
         }
     }
 
-    /// Whether the reader of the output ended.
+    /// Returns whether the reader of the output ended.
     pub fn is_closed(&self) -> bool
         ensures { result ≡ is_closed self.now }
     {

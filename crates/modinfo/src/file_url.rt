@@ -68,7 +68,7 @@ fn push_encoded(text: &mut String, path: &str) -> Result<(), AllocError>
     utf8_percent_encode(path, ENCODED).append_to(text)
 }
 
-/// Whether a path begins with a slash.
+/// Returns whether a path begins with a slash.
 fn is_absolute(path: &str) -> bool
     ensures { result ≡ is_absolute path.now }
 {

@@ -1,5 +1,7 @@
 //! The command `files`: the information on each of many files, one per line.
 
+mod reader;
+
 ghost use Rattle.std.specs.Prelude.{IsTrue, map};
 ghost use Rattle.modinfo.specs.CommandLine.{asks_for};
 ghost use Rattle.modinfo.specs.Run.{IsFilesRun, IsWrongRun};
@@ -7,8 +9,8 @@ ghost use Rattle.modinfo.specs.Run.{IsFilesRun, IsWrongRun};
 use crate::command_line::{CommandLine, Names};
 use crate::fault::Fault;
 use crate::file_url::file_url;
+use crate::files::reader::FileReader;
 use crate::help::USAGE;
-use crate::input::read_to_end;
 use crate::lines::buffered;
 use crate::output::{print, print_fault};
 use crate::program::print_usage;
@@ -24,17 +26,13 @@ use percent_encoding::{DecodeError, percent_decode_str};
 use simdutf8::basic;
 use std::alloc::{AllocError, AllocFailed, Global};
 use std::borrow::CowStr;
-use std::fs::OpenFile;
 use std::io::{BufRead, ErrorKind, Read, Write};
 use std::rc::RcStr;
 use std::rt::{Env, Files};
-use std::{env, fs, io};
+use std::{env, io};
 use url::Url;
 
 const CHUNK: usize = 65536;
-
-/// The most bytes of a file.
-const LIMIT: u64 = 64 << 20;
 
 /// Runs `files`, and returns the exit status. `words` are the arguments after the program's name. Prints
 /// a line for each file, in the order of the names: its information, or a fault.
@@ -72,6 +70,24 @@ where
     }
 }
 
+/// Returns the names in the arguments of a process: the bytes after the program's name and `files`, each name
+/// ended by a zero byte. `None` for other arguments. Names that aren't UTF-8 are no words of `serve_files`, but
+/// the input of `files --null` may have them.
+pub fn names_in(alloc: Global, arguments: &[u8]) -> Result<Option<&[u8]>, AllocError> {
+    let Some(names) = after_zero(arguments).and_then(|words| words.strip_prefix(b"files\0")) else {
+        return Ok(None);
+    };
+    let text = String::from_utf8_lossy(alloc, names)?;
+    let has_flag = text.as_str().starts_with('-') || text.as_str().contains("\0-");
+    Ok(if has_flag { None } else { Some(names) })
+}
+
+/// Returns what is after the first zero byte. `None` if there is none.
+fn after_zero(bytes: &[u8]) -> Option<&[u8]> {
+    let at = memchr(0, bytes)?;
+    bytes.get(at + 1..)
+}
+
 /// Prints a line for each file. Returns whether each has information.
 fn run_files<R: Files + Env + AllocGlobal, I: Read, W: Write>(
     rt: &R,
@@ -85,11 +101,12 @@ where
 {
     let folder = current_folder(rt)?;
     let folder = folder.as_ref().map(|folder| folder.as_str());
+    let mut reader = FileReader::new(rt);
     let mut waiting = Vec::new(rt.alloc());
     let result = match names {
-        Names::Arguments => print_named(rt, folder, words, output, &mut waiting),
-        Names::Lines => print_listed(rt, folder, b'\n', input, output, &mut waiting),
-        Names::Zeros => print_listed(rt, folder, 0, input, output, &mut waiting),
+        Names::Arguments => print_named(rt, &mut reader, folder, words, output, &mut waiting),
+        Names::Lines => print_listed(rt, &mut reader, folder, b'\n', input, output, &mut waiting),
+        Names::Zeros => print_listed(rt, &mut reader, folder, 0, input, output, &mut waiting),
     };
     // After a fault of the run, too, the lines before it are printed.
     write_waiting(output, &mut waiting, 0)?;
@@ -110,6 +127,7 @@ fn current_folder<R: Env + AllocGlobal>(rt: &R) -> Result<Option<String>, Fault>
 /// Prints a line for each of the named files, but for those that wait. Returns whether each has information.
 fn print_named<R: Files + AllocGlobal, W: Write>(
     rt: &R,
+    reader: &mut FileReader,
     folder: Option<&str>,
     names: &[&str],
     output: &mut W,
@@ -117,7 +135,7 @@ fn print_named<R: Files + AllocGlobal, W: Write>(
 ) -> Result<bool, Fault> {
     let mut is_whole = true;
     for name in names {
-        is_whole &= put_file(rt, folder, name.as_bytes(), waiting)?;
+        is_whole &= put_file(rt, reader, folder, name.as_bytes(), waiting)?;
         write_waiting(output, waiting, CHUNK)?;
     }
     Ok(is_whole)
@@ -127,6 +145,7 @@ fn print_named<R: Files + AllocGlobal, W: Write>(
 /// wait. Returns whether each has information. Writes before each read that may wait for input.
 fn print_listed<R: Files + AllocGlobal, I: Read, W: Write>(
     rt: &R,
+    reader: &mut FileReader,
     folder: Option<&str>,
     end: u8,
     input: &mut I,
@@ -151,7 +170,7 @@ where
         if name.last() == Some(&end) {
             name.pop();
         }
-        is_whole &= put_file(rt, folder, name.as_slice(), waiting)?;
+        is_whole &= put_file(rt, reader, folder, name.as_slice(), waiting)?;
     }
     Ok(is_whole)
 }
@@ -170,34 +189,54 @@ fn write_waiting<W: Write>(
     result
 }
 
-/// Appends the line of a file, or that with the fault `OutOfMemory` where it finds no memory. Returns whether the
-/// file has information.
+/// Appends the line of a file. Returns whether the file has information. A name without a URL is printed in
+/// its place, with U+FFFD for bytes that aren't UTF-8.
 fn put_file<R: Files + AllocGlobal>(
     rt: &R,
+    reader: &mut FileReader,
     folder: Option<&str>,
     name: &[u8],
     waiting: &mut Vec<u8>,
 ) -> Result<bool, Fault> {
     let alloc = rt.alloc();
     let lossy = String::from_utf8_lossy(alloc, name)?;
+    if let Some(message) = fault_of_name(folder, name) {
+        return put_found(
+            alloc,
+            lossy.as_str(),
+            Err(FileFault::input(message)),
+            waiting,
+        );
+    }
     let specifier = file_url(alloc, folder.unwrap_or(""), lossy.as_str())?;
-    let found = if basic::from_utf8(name).is_err() {
-        Err(FileFault::input("the name isn't UTF-8"))
-    } else if folder.is_none() && !lossy.as_str().starts_with('/') {
-        Err(FileFault::input("the path of the current folder isn't known, or isn't UTF-8"))
+    let found = info_of_file(rt, reader, lossy.as_str(), &specifier);
+    put_found(alloc, specifier.as_str(), found, waiting)
+}
+
+/// Returns why a name has no URL. `None` if it has one.
+fn fault_of_name(folder: Option<&str>, name: &[u8]) -> Option<&'static str> {
+    if basic::from_utf8(name).is_err() {
+        Some("the name isn't UTF-8")
+    } else if folder.is_none() && name.first() != Some(&b'/') {
+        Some("the path of the current folder isn't known, or isn't UTF-8")
     } else {
-        info_of_file(rt, lossy.as_str(), &specifier)
-    };
+        None
+    }
+}
+
+/// Appends the line of a file, or that with the fault `OutOfMemory` where it finds no memory. Returns whether
+/// the file has information.
+fn put_found(
+    alloc: Global,
+    specifier: &str,
+    found: Result<ModuleInfo, FileFault>,
+    waiting: &mut Vec<u8>,
+) -> Result<bool, Fault> {
     let is_whole = found.is_ok();
-    match put_line(alloc, specifier.as_str(), found, waiting) {
+    match put_line(alloc, specifier, found, waiting) {
         Ok(()) => Ok(is_whole),
         Err(_) => {
-            put_line(
-                alloc,
-                specifier.as_str(),
-                Err(FileFault::out_of_memory()),
-                waiting,
-            )?;
+            put_line(alloc, specifier, Err(FileFault::out_of_memory()), waiting)?;
             Ok(false)
         }
     }
@@ -309,12 +348,13 @@ impl From<ParseError> for FileFault {
 /// The information on a file.
 fn info_of_file<R: Files + AllocGlobal>(
     rt: &R,
+    reader: &mut FileReader,
     name: &str,
     specifier: &Url,
 ) -> Result<ModuleInfo, FileFault> {
     let alloc = rt.alloc();
     let path = path_of(alloc, name, specifier)?;
-    let bytes = read_file(rt, path.as_str())?;
+    let bytes = reader.read(rt, path.as_str())?;
     let Ok(text) = basic::from_utf8(bytes.as_slice()) else {
         return Err(FileFault::input("the file isn't UTF-8"));
     };
@@ -325,8 +365,8 @@ fn info_of_file<R: Files + AllocGlobal>(
     Ok(module_info(alloc, &parsed)?)
 }
 
-/// The path of a file with a name. Where the name has `..`, it is that of the URL, in which a `..` takes away the
-/// step before it, be that a link or not.
+/// The path of a file with a name. Where the name has `..`, it is that of the URL, in which a `..` takes away
+/// the step before it, be that a link or not.
 fn path_of<'a>(
     alloc: Global,
     name: &'a str,
@@ -340,42 +380,6 @@ fn path_of<'a>(
         Err(DecodeError::OutOfMemory) => Err(FileFault::out_of_memory()),
         Err(DecodeError::Utf8(_)) => Err(FileFault::input("the name isn't UTF-8")),
     }
-}
-
-/// Reads a regular file of at most `LIMIT` bytes. Asks what the path leads to, opens it, and asks again what was
-/// opened, since another file may get the path in between.
-fn read_file<R: Files + AllocGlobal>(rt: &R, name: &str) -> Result<Vec<u8>, FileFault> {
-    check_kind(&fs::metadata(rt, name)?)?;
-    if is_of_system(fs::canonicalize(rt, name)?.as_str()) {
-        return Err(FileFault::input("in /proc or /sys"));
-    }
-    let file = fs::open(rt, name)?;
-    check_kind(&file.metadata()?)?;
-    let bytes = read_to_end(rt.alloc(), &mut file.take(LIMIT + 1))?;
-    if bytes.len() as u64 > LIMIT {
-        return Err(FileFault::input("larger than 64 MiB"));
-    }
-    Ok(bytes)
-}
-
-/// Whether the system makes up a file as it is read, by the path without links. Such a file counts as
-/// regular, but a read of it may never return.
-fn is_of_system(path: &str) -> bool {
-    path.starts_with("/proc/") || path.starts_with("/sys/")
-}
-
-/// Checks that a file is regular, and not too large.
-fn check_kind(found: &fs::Metadata) -> Result<(), FileFault> {
-    if found.is_dir() {
-        return Err(FileFault::input("a folder: name the files in it"));
-    }
-    if !found.is_file() {
-        return Err(FileFault::input("no regular file"));
-    }
-    if found.len() > LIMIT {
-        return Err(FileFault::input("larger than 64 MiB"));
-    }
-    Ok(())
 }
 
 /// The line of a file: JSON and a line feed.

@@ -1,4 +1,4 @@
-//! The formats of documents, and what is done with a document of each.
+//! The formats of documents: how a document of each format is answered and checked.
 
 ghost use Rattle.std.specs.Prelude.{IfOk, MatchResult};
 ghost use Rattle.std.specs.String.{string_bytes};
@@ -13,7 +13,7 @@ use crate::request::Request;
 use simdutf8::compat;
 use std::alloc::{AllocError, Global};
 
-/// What a command reads.
+/// The format of the documents that a command reads.
 #[derive(Debug, Clone, Copy, PartialEq, Eq)]
 pub enum Format {
     /// A module document. The answer is the `ModuleInfo`.
@@ -22,7 +22,7 @@ pub enum Format {
     Estree,
     /// A source text with its specifier. The answer is the `ModuleInfo`.
     Source,
-    /// The stored information of one module, of version 1. The answer is that of version 2.
+    /// The stored information of one module, of version 1. The answer is the information of version 2.
     Stored,
     /// A root and the information on modules. The answer has the keys that the root reaches.
     Modules,

@@ -20,7 +20,7 @@ use std::io::{BufRead, BufReader, ErrorKind, Read, Write};
 
 const CHUNK: usize = 65536;
 
-/// At least the length of the line with a fault, in bytes.
+/// No line with a fault has more bytes.
 const FAULT_ROOM: usize = 64;
 
 /// Prints a line for each line of the input, in the same order: `{"answer":..}`, a report or
@@ -269,7 +269,7 @@ fn put_out_of_memory(command: Command, waiting: &mut Vec<u8>) -> Result<bool, Fa
     Ok(passes_without(command))
 }
 
-/// Whether a line without an answer or a report passes: only a check can fail.
+/// Returns whether a line without an answer or a report passes: only a check can fail.
 fn passes_without(command: Command) -> bool
     ensures { result ≡ passes_without command }
 {

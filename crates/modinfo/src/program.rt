@@ -3,6 +3,7 @@ ghost use Rattle.std.specs.Prelude.{IsSomeAnd, MatchResult, None};
 ghost use Rattle.std.specs.Io.KnownBytes.{Appends, Keeps};
 ghost use Rattle.modinfo.specs.CommandLine.{asks_for};
 ghost use Rattle.modinfo.specs.Fault.{IsWriteFault};
+ghost use Rattle.modinfo.specs.Help.{help_on};
 ghost use Rattle.modinfo.specs.Lines.{IsLinesRun, LeavesFirstLines, LeavesLines};
 ghost use Rattle.modinfo.specs.Run.{AppendsFront, IsDocumentRun, IsRunFault, IsTextRun, IsWrongRun, PrintsResult, error_line};
 ghost use Rattle.modinfo.specs.internal.Run.{Leaves, LeavesFault};
@@ -10,7 +11,9 @@ ghost use Rattle.modinfo.specs.internal.Run.{Leaves, LeavesFault};
 use crate::command::{Command, Printed};
 use crate::command_line::{CommandLine, Names};
 use crate::fault::Fault;
-use crate::help::{HELP, USAGE, VERSION};
+use crate::help::{
+    ANALYZE_HELP, CHECK_HELP, CONVERT_HELP, FILES_HELP, HELP, REACH_HELP, USAGE, VERSION, help_on,
+};
 use crate::input::read_to_end;
 use crate::lines::run_lines;
 use crate::output::{print, print_fault, print_line};
@@ -38,7 +41,9 @@ pub fn serve<R: Read, W: Write, E: Write>(
     errors: &mut E,
 ) -> u8
     ensures help { IsTrue (asks_for CommandLine.Help (map (λ word. word.now) words.now))
-        → IsTextRun HELP.now (W.contents output.old) (W.contents output.new)
+        → IsTextRun (help_on HELP.now FILES_HELP.now ANALYZE_HELP.now CHECK_HELP.now
+        CONVERT_HELP.now REACH_HELP.now (map (λ word. word.now) words.now))
+        (W.contents output.old) (W.contents output.new)
         (E.contents errors.old) (E.contents errors.new) result }
     ensures version { IsTrue (asks_for CommandLine.Version (map (λ word. word.now) words.now))
         → IsTextRun VERSION.now (W.contents output.old) (W.contents output.new)
@@ -62,7 +67,7 @@ pub fn serve<R: Read, W: Write, E: Write>(
     let Some(command_line) = CommandLine::from_words(words) else {
         return print_usage(errors);
     };
-    let Some(ran) = run_command_line(alloc, command_line, input, output) else {
+    let Some(ran) = run_command_line(alloc, command_line, help_on(words), input, output) else {
         return print_usage(errors);
     };
     match ran {
@@ -89,17 +94,19 @@ fn status_of(passes: bool) -> u8
     if passes { 0 } else { 1 }
 }
 
-/// Runs a command line, and returns whether its checks passed; true without a check. `None` for `files`,
-/// which isn't run.
+/// Runs a command line, where `help` is the text for `Help`, and returns whether its checks passed; true
+/// without a check. `None` for `files`, which isn't run.
 fn run_command_line<R: Read, W: Write>(
     alloc: Global,
     command_line: CommandLine,
+    help: &str,
     input: &mut R,
     output: &mut W,
 ) -> Option<Result<bool, Fault>>
     ensures help { command_line ≡ CommandLine.Help → IsSomeAnd result (λ ran. MatchResult ran
-        (Leaves (λ passes line. IsTrue passes × (line ≡ HELP.now)) (W.contents output.old) (W.contents output.new))
-        (LeavesFault (λ passes line. IsTrue passes × (line ≡ HELP.now)) IsWriteFault
+        (Leaves (λ passes line. IsTrue passes × (line ≡ help.now))
+        (W.contents output.old) (W.contents output.new))
+        (LeavesFault (λ passes line. IsTrue passes × (line ≡ help.now)) IsWriteFault
         (W.contents output.old) (W.contents output.new))) }
     ensures version { command_line ≡ CommandLine.Version → IsSomeAnd result (λ ran. MatchResult ran
         (Leaves (λ passes line. IsTrue passes × (line ≡ VERSION.now)) (W.contents output.old) (W.contents output.new))
@@ -120,7 +127,7 @@ fn run_command_line<R: Read, W: Write>(
     ensures unchanged { result ≡ None → Keeps (W.contents output.old) (W.contents output.new) }
 {
     match command_line {
-        CommandLine::Help => Some(print_text(output, HELP)),
+        CommandLine::Help => Some(print_text(output, help)),
         CommandLine::Version => Some(print_text(output, VERSION)),
         CommandLine::Document(command) => Some(run_document(alloc, command, input, output)),
         CommandLine::Lines(command) => Some(run_lines(alloc, command, input, output)),

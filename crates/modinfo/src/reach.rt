@@ -64,7 +64,7 @@ pub struct QuestionError {
 }
 
 impl QuestionError {
-    /// The error of a value in the member of this name, as the error of the object.
+    /// Adds the name of a member to the path of the error.
     fn in_member(self, alloc: Global, name: &str) -> QuestionError
         ensures fault { result.fault ≡ self.fault }
         ensures place { (object member : Data) → get name.now object ≡ Some member

@@ -28,11 +28,11 @@ use std::alloc::Global;
 pub enum Request {
     /// A module document, whose tree isn't checked yet.
     Module(Document),
-    /// The module document that the tree of a parser is.
+    /// A module document that was read from the tree of a parser.
     Estree(Document),
     /// A source text, which isn't parsed yet.
     Source(SourceText),
-    /// The information of version 2 to which a document was converted, as compact JSON.
+    /// The converted information, of version 2, as compact JSON.
     Stored(String),
     /// A root, and the information on modules.
     Modules(Question),

@@ -10,7 +10,7 @@ ghost use Rattle.deno_graph_source.specs.declared.tree.parse_error.ParseDiagnost
 ghost use Rattle.deno_graph_source.specs.declared.tree.parse_error.ParseError.TheVariants.{Diagnostic};
 ghost use Rattle.modinfo.specs.Fault.{fault_of_document};
 ghost use Rattle.modinfo.specs.Source.{AreNoParts, HasParts, IsInfoOfText, IsNoInfoOfText, IsNoText, IsParsed, IsTextIn};
-ghost use Rattle.modinfo.specs.Source.{media_type_at, reads_text};
+ghost use Rattle.modinfo.specs.Source.{is_media_type, media_type_at, reads_text};
 
 use crate::fault::Fault;
 use crate::input::as_text;
@@ -130,6 +130,13 @@ fn source_of_text(alloc: Global, text: SourceText) -> Result<ParsedSource, Fault
 {
     let specifier = text.url(alloc)?;
     Ok(text.into_source(alloc, specifier)?)
+}
+
+/// Returns whether a number is that of a media type, or 0, which stands for the media type of the specifier.
+pub fn is_media_type(number: u8) -> bool
+    ensures { result ≡ is_media_type number }
+{
+    media_type_at(number).is_some()
 }
 
 /// The media type with this number. `None` inside for that of the specifier.

@@ -3,14 +3,14 @@
 ghost use Rattle.std.specs.Prelude.{◌≡◌, map};
 ghost use Rattle.modinfo.specs.Words.{are_among, are_distinct, is_among};
 
-/// Whether a word is among words.
+/// Returns whether a word is among words.
 pub fn is_among(word: &str, words: &[&str]) -> bool
     ensures { result ≡ is_among word.now (map (λ word. word.now) words.now) }
 {
     words.contains(&word)
 }
 
-/// Whether each of the first words is among the others.
+/// Returns whether each of the first words is among the others.
 pub fn are_among(words: &[&str], others: &[&str]) -> bool
     ensures { result ≡ are_among (map (λ word. word.now) words.now) (map (λ word. word.now) others.now) }
 {
@@ -24,7 +24,7 @@ pub fn are_among(words: &[&str], others: &[&str]) -> bool
     true
 }
 
-/// Whether no word occurs twice.
+/// Returns whether no word occurs twice.
 pub fn are_distinct(words: &[&str]) -> bool
     ensures { result ≡ are_distinct (map (λ word. word.now) words.now) }
 {

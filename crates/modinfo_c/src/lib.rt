@@ -2,17 +2,17 @@
 //! `include/modinfo.h` declares the functions.
 #![tactic(auto)]
 
-ghost use Rattle.std.specs.Prelude.{◌≡◌, false, MatchResult, None, Some};
+ghost use Rattle.std.specs.Prelude.{◌≡◌, false, IsTrue, MatchResult, None, Some};
 ghost use Rattle.std.specs.String.{string_bytes};
 ghost use Rattle.modinfo.specs.Commands.{command_at};
 ghost use Rattle.modinfo.specs.Fault.{name_of_fault};
 ghost use Rattle.modinfo.specs.Run.{IsNoResult};
-ghost use Rattle.modinfo.specs.Source.{AreNoParts};
+ghost use Rattle.modinfo.specs.Source.{AreNoParts, is_media_type};
 ghost use Rattle.modinfo_c.specs.Call.{IsInfoLine, IsNoInfoLine, IsReportLine};
 ghost use Rattle.modinfo_c.specs.Call.{IsAnswered, IsLeft, IsLinesText, IsOutOfMemory, IsResultLine};
 
 use modinfo::check::check_text;
-use modinfo::source::SourceText;
+use modinfo::source::{SourceText, is_media_type};
 use modinfo::{Command, Fault, Format};
 use std::alloc::Global;
 
@@ -25,7 +25,7 @@ const FAULT: u8 = 1;
 /// Status: the buffer is too small for the answer or the name of the fault.
 const TOO_SMALL: u8 = 2;
 
-/// Status: no command has this number.
+/// Status: no command, or no media type, has this number.
 const NO_COMMAND: u8 = 3;
 
 /// The version of `modinfo --version` as a number, `MAJOR * 10000 + MINOR * 100 + PATCH`.
@@ -199,7 +199,7 @@ pub extern "C" fn modinfo_check_reach(
 
 /// Runs `modinfo analyze --source` on a text, its specifier and the number of its media type, which is
 /// that of `MediaType`'s variants from 1 on, or 0 for the media type of the specifier. `Input` if the text
-/// or the specifier isn't UTF-8, `Tree` if no media type has the number. Otherwise like `modinfo_run`.
+/// or the specifier isn't UTF-8. Status 3 if no media type has the number. Otherwise like `modinfo_run`.
 #[unsafe(no_mangle)]
 pub extern "C" fn modinfo_analyze_source(
     alloc: Global,
@@ -209,9 +209,15 @@ pub extern "C" fn modinfo_analyze_source(
     answer: &mut [u8],
     length: &mut usize,
 ) -> u8
-    ensures { IsAnswered (IsInfoLine text.now specifier.now media_type)
+    ensures media_type { IsTrue (is_media_type media_type)
+        → IsAnswered (IsInfoLine text.now specifier.now media_type)
         (IsNoInfoLine text.now specifier.now media_type) answer.old answer.new length.new result }
+    ensures no_media_type { is_media_type media_type ≡ false
+        → (result ≡ 3) × (length.new ≡ 0) × (answer.new ≡ answer.old) }
 {
+    if !is_media_type(media_type) {
+        return no_command(length);
+    }
     write_line(
         source_line(alloc, text, specifier, media_type),
         answer,
@@ -246,9 +252,15 @@ pub extern "C" fn modinfo_check_source(
     answer: &mut [u8],
     length: &mut usize,
 ) -> u8
-    ensures { IsAnswered (IsReportLine text.now specifier.now media_type)
+    ensures media_type { IsTrue (is_media_type media_type)
+        → IsAnswered (IsReportLine text.now specifier.now media_type)
         (AreNoParts text.now specifier.now media_type) answer.old answer.new length.new result }
+    ensures no_media_type { is_media_type media_type ≡ false
+        → (result ≡ 3) × (length.new ≡ 0) × (answer.new ≡ answer.old) }
 {
+    if !is_media_type(media_type) {
+        return no_command(length);
+    }
     write_line(
         source_report_line(alloc, text, specifier, media_type),
         answer,

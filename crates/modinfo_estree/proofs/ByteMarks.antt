@@ -1,54 +1,12 @@
 -- The marks of bytes, character by character and range by range.
-use Rattle.std.proofs.Common.{
-  ◌≡◌,
-  ℕ,
-  zero,
-  suc,
-  ◌+◌,
-  ◌<◌,
-  ◌≤◌,
-  Bool,
-  true,
-  false,
-  ◌||◌,
-  ◌==◌,
-  max,
-  min,
-  inl,
-  inr,
-  List,
-  [],
-  ◌∷◌,
-  ◌++◌,
-  length,
-  map,
-  take,
-  get_or,
-  set,
-  replicate,
-  refl,
-  sym,
-  ap,
-  ◌∙◌,
-  arith,
-}
+use Rattle.std.proofs.Common.{◌≡◌, ℕ, zero, suc, ◌+◌, ◌<◌, ◌≤◌, Bool, true, false, ◌||◌, ◌==◌, max, min, inl}
+use Rattle.std.proofs.Common.{inr, List, [], ◌∷◌, ◌++◌, length, map, take, get_or, set, replicate, refl, sym}
+use Rattle.std.proofs.Common.{ap, ◌∙◌, arith}
 use Rattle.std.proofs.lemmas.Bool.{cases_eq, eq-eqb, ne_eqb}
 use Rattle.std.proofs.lemmas.Bool.Decides.{nat_tests}
-use Rattle.std.proofs.lemmas.List.{
-  append-nil,
-  append_assoc,
-  ext_get_or,
-  get_or-map,
-  get_or-set_other,
-  get_or-set_same,
-  length-append,
-  length-map,
-  length-replicate,
-  length-set,
-  map-append,
-  map-set,
-  set-get_or,
-}
+use Rattle.std.proofs.lemmas.List.{append-nil, append_assoc, ext_get_or, get_or-map, get_or-set_other}
+use Rattle.std.proofs.lemmas.List.{get_or-set_same, length-append, length-map, length-replicate, length-set}
+use Rattle.std.proofs.lemmas.List.{map-append, map-set, set-get_or}
 use Rattle.std.proofs.lemmas.List.Folds.{list_any_kept, list_any_more}
 use Rattle.std.proofs.lemmas.List.FromFn.{get_or-enumerate_from, length-enumerate_from}
 use Rattle.std.proofs.lemmas.List.Sorted.{list_any-IsPermutation}

@@ -1,31 +1,6 @@
 -- Comments that a text has are read from it.
-use Rattle.std.proofs.Common.{
-  ◌≡◌,
-  ℕ,
-  ◌-◌,
-  ◌≤◌,
-  ◌&&◌,
-  true,
-  false,
-  not,
-  inl,
-  inr,
-  eqb,
-  codes,
-  if◌then◌else◌,
-  List,
-  [],
-  ◌++◌,
-  length,
-  take,
-  drop,
-  get_or,
-  refl,
-  ap,
-  ◌∙◌,
-  arith,
-  length-append,
-}
+use Rattle.std.proofs.Common.{◌≡◌, ℕ, ◌-◌, ◌≤◌, ◌&&◌, true, false, not, inl, inr, eqb, codes, if◌then◌else◌}
+use Rattle.std.proofs.Common.{List, [], ◌++◌, length, take, drop, get_or, refl, ap, ◌∙◌, arith, length-append}
 use Rattle.std.proofs.lemmas.Bool.{cases_lt, le-leb}
 use Rattle.std.proofs.lemmas.Bool.Decides.{nat_tests}
 use Rattle.std.proofs.lemmas.List.{drop_at, get_or_past, take_at}
@@ -38,16 +13,8 @@ use Rattle.deno_graph_source.specs.Source.{IsSpelled, spelling}
 use Rattle.deno_graph_source.specs.declared.tree.comments.CommentKind.{CommentKind}
 use Rattle.deno_graph_source.specs.declared.tree.comments.CommentKind.TheVariants.{Line, Block}
 use Rattle.deno_graph_source.specs.declared.tree.comments.DependencyComment.{DependencyComment}
-use Rattle.modinfo_estree.specs.Comments.{
-  IsWhole,
-  block_text,
-  comment_at_range,
-  comment_of,
-  comment_with,
-  has_close,
-  is_line,
-  is_whole_line,
-}
+use Rattle.modinfo_estree.specs.Comments.{IsWhole, block_text, comment_at_range, comment_of, comment_with}
+use Rattle.modinfo_estree.specs.Comments.{has_close, is_line, is_whole_line}
 use Rattle.modinfo_estree.specs.Range.{is_boundary, is_text_range}
 
 start_of_char : (b : ℕ) → (128 ≤ b → 192 ≤ b) → is_char_start b ≡ true

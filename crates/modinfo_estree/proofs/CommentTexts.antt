@@ -1,33 +1,7 @@
 -- What `strip_prefix`, `strip_suffix` and `contains` return.
-use Rattle.std.proofs.Common.{
-  ◌≡◌,
-  ℕ,
-  ◌+◌,
-  ◌-◌,
-  ◌||◌,
-  Bool,
-  true,
-  false,
-  eqb,
-  List,
-  [],
-  ◌∷◌,
-  ◌++◌,
-  codes,
-  length,
-  take,
-  drop,
-  Option,
-  Some,
-  None,
-  ap,
-  refl,
-  subst,
-  sym,
-  true≢false,
-  ◌∙◌,
-  arith,
-}
+use Rattle.std.proofs.Common.{◌≡◌, ℕ, ◌+◌, ◌-◌, ◌||◌, Bool, true, false, eqb, List, [], ◌∷◌, ◌++◌, codes}
+use Rattle.std.proofs.Common.{length, take, drop, Option, Some, None, ap, refl, subst, sym, true≢false, ◌∙◌}
+use Rattle.std.proofs.Common.{arith}
 use Rattle.std.proofs.lemmas.Slice.Eq.{starts_is}
 use Rattle.std.proofs.lemmas.Str.Pattern.{ends_text, starts_text}
 use Rattle.std.specs.Bool.{Decides}

@@ -8,7 +8,8 @@ use Rattle.deno_graph_source.specs.declared.tree.media_type.MediaType.{MediaType
 use Rattle.deno_graph_source.specs.declared.tree.node.Program.{Program}
 use Rattle.modinfo_document.specs.Comments.{Sides}
 use Rattle.modinfo_document.specs.Document.{Contents}
-use Rattle.modinfo_document.specs.Kind.{media_types, reads_named}
+use Rattle.modinfo_document.specs.Kind.{media_types}
+use Rattle.modinfo_document.specs.Named.{reads_named}
 use Rattle.modinfo_estree.specs.Document.{reads_estree, reads_tree, units}
 use Rattle.modinfo_estree.specs.declared.offsets.OffsetUnit.{OffsetUnit}
 use Rattle.modinfo_estree.specs.declared.offsets.OffsetUnit.TheVariants.{Utf16}

@@ -1,29 +1,6 @@
 -- Filing comments one after another.
-use Rattle.std.proofs.Common.{
-  ◌≡◌,
-  ℕ,
-  ◌+◌,
-  ◌<◌,
-  Bool,
-  List,
-  [],
-  ◌∷◌,
-  ◌++◌,
-  if◌then◌else◌,
-  length,
-  map,
-  take,
-  get_or,
-  Result,
-  Ok,
-  Err,
-  OnOk,
-  refl,
-  ap,
-  subst,
-  sym,
-  ◌∙◌,
-}
+use Rattle.std.proofs.Common.{◌≡◌, ℕ, ◌+◌, ◌<◌, Bool, List, [], ◌∷◌, ◌++◌, if◌then◌else◌, length, map, take}
+use Rattle.std.proofs.Common.{get_or, Result, Ok, Err, OnOk, refl, ap, subst, sym, ◌∙◌}
 use Rattle.std.proofs.lemmas.Grind.{flat_map-append}
 use Rattle.std.proofs.lemmas.List.{append-nil, map-append, take_more}
 use Rattle.std.specs.List.{flat_map}
@@ -37,8 +14,8 @@ use Rattle.modinfo_document.specs.Comments.{AreThoseOf, entry_with}
 use Rattle.modinfo_document.specs.declared.comments.FiledEntry.{FiledEntry}
 use Rattle.modinfo_document.specs.internal.Comments.{AreAppended}
 use Rattle.modinfo_document.proofs.Filed.{both_on, both_sides, empty_on, more_on, none_on}
-use Rattle.modinfo_estree.specs.Comments.{comment_at_range, entries_on, entry_on, place_of}
-use Rattle.modinfo_estree.specs.Comments.{same_side, sides_of}
+use Rattle.modinfo_estree.specs.Comments.{comment_at_range, entries_on, entry_on, place_of, same_side}
+use Rattle.modinfo_estree.specs.Comments.{sides_of}
 use Rattle.modinfo_estree.specs.Tokens.{Layout}
 use Rattle.modinfo_estree.specs.declared.comments.Place.{Place}
 use Rattle.modinfo_estree.specs.internal.Comments.{AreAllFiled, IsFiled}

@@ -1,9 +1,8 @@
 -- Candidates among members that are put, one after another.
-use Rattle.std.proofs.Common.{◌≡◌, ℕ, zero, suc, ◌+◌, ◌<◌, Bool, true, false, ◌||◌, true≢false}
-use Rattle.std.proofs.Common.{cond, List, [], ◌∷◌, ◌++◌, map}
-use Rattle.std.proofs.Common.{add-one, drop-cons, filter, length, take, drop, get_or, set}
-use Rattle.std.proofs.Common.{Option, Some, None, arith, inl, inr, refl, sym, ap, subst, ◌∙◌}
-use Rattle.std.proofs.Common.{Ordering, Less, Equal, Greater}
+use Rattle.std.proofs.Common.{◌≡◌, ℕ, zero, suc, ◌+◌, ◌<◌, Bool, true, false, ◌||◌, true≢false, cond, List}
+use Rattle.std.proofs.Common.{[], ◌∷◌, ◌++◌, map, add-one, drop-cons, filter, length, take, drop, get_or, set}
+use Rattle.std.proofs.Common.{Option, Some, None, arith, inl, inr, refl, sym, ap, subst, ◌∙◌, Ordering, Less}
+use Rattle.std.proofs.Common.{Equal, Greater}
 use Rattle.std.proofs.lemmas.Bool.{cases_Bool, cond-true, cond-false}
 use Rattle.std.proofs.lemmas.Cmp.{nat_list_cmp_total}
 use Rattle.std.proofs.lemmas.Map.Text.{is_eq-slice_cmp}

@@ -1,7 +1,6 @@
 -- Reading nodes and the nodes below them, one child after another.
 use Rattle.std.proofs.Common.{◌≡◌, ℕ, List, [], ◌∷◌, ◌++◌, Option, Some, None, refl, sym, ap, ◌∙◌}
-use Rattle.std.proofs.Common.{append_assoc, append-nil, codes, Bool, bytes_eq}
-use Rattle.std.proofs.Common.{Result, IsErrAnd, IsSomeAnd}
+use Rattle.std.proofs.Common.{append_assoc, append-nil, codes, Bool, bytes_eq, Result, IsErrAnd, IsSomeAnd}
 use Rattle.serde_json.specs.Data.{Data, array, object, Items, no_items, item, Members, member}
 use Rattle.serde_json.specs.Find.{as_object, as_str}
 use Rattle.deno_graph_base.specs.declared.text.position.SourceRange.{SourceRange}
@@ -20,14 +19,8 @@ use Rattle.modinfo_document.proofs.Results.{exits_by, some_and, some_with}
 use Rattle.modinfo_estree.specs.Child.{role_of, sorted_children}
 use Rattle.modinfo_estree.specs.Kind.{reads_type}
 use Rattle.modinfo_estree.specs.Member.{reads_range, type_of}
-use Rattle.modinfo_estree.specs.Node.{
-  and_then,
-  children_among,
-  children_in,
-  is_jsx_attribute,
-  node_with,
-  reads_node,
-}
+use Rattle.modinfo_estree.specs.Node.{and_then, children_among, children_in, is_jsx_attribute, node_with}
+use Rattle.modinfo_estree.specs.Node.{reads_node}
 use Rattle.modinfo_estree.specs.Source.{EstreeSource, byte_of}
 use Rattle.modinfo_estree.specs.declared.child.Child.{Child}
 use Rattle.modinfo_estree.specs.declared.role.Role.{Role}

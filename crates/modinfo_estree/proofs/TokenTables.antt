@@ -1,46 +1,10 @@
 -- Where tokens start and end, one offset on.
-use Rattle.std.proofs.Common.{
-  ◌≡◌,
-  ℕ,
-  ◌+◌,
-  ◌-◌,
-  ◌<◌,
-  ◌≤◌,
-  Bool,
-  true,
-  false,
-  not,
-  ◌&&◌,
-  List,
-  [],
-  ◌∷◌,
-  length,
-  take,
-  drop,
-  get_or,
-  min,
-  refl,
-  sym,
-  ap,
-  ◌∙◌,
-  arith,
-}
-use Rattle.std.proofs.lemmas.List.{
-  drop-append-le,
-  drop_all,
-  length-map,
-  length-take-le,
-  take_min,
-  take_more,
-}
+use Rattle.std.proofs.Common.{◌≡◌, ℕ, ◌+◌, ◌-◌, ◌<◌, ◌≤◌, Bool, true, false, not, ◌&&◌, List, [], ◌∷◌, length}
+use Rattle.std.proofs.Common.{take, drop, get_or, min, refl, sym, ap, ◌∙◌, arith}
+use Rattle.std.proofs.lemmas.List.{drop-append-le, drop_all, length-map, length-take-le, take_min, take_more}
 use Rattle.std.proofs.lemmas.List.Folds.{list_all-append}
-use Rattle.std.proofs.lemmas.List.Sums.{
-  prefix_len-drop_all,
-  prefix_len-drop_no,
-  prefix_len-drop_yes,
-  suffix_len-take_no,
-  suffix_len-take_yes,
-}
+use Rattle.std.proofs.lemmas.List.Sums.{prefix_len-drop_all, prefix_len-drop_no, prefix_len-drop_yes}
+use Rattle.std.proofs.lemmas.List.Sums.{suffix_len-take_no, suffix_len-take_yes}
 use Rattle.std.specs.List.{list_all, suffix_len}
 use Rattle.modinfo_estree.specs.Tokens.{is_on_line, token_end, token_start}
 use Rattle.modinfo_estree.specs.declared.marks.Mark.{Mark}

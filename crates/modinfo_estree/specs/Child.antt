@@ -1,46 +1,20 @@
 -- The nodes below a node, as the tree of a parser has them.
-use Rattle.std.specs.Prelude.{
-  ℕ,
-  List,
-  [],
-  ◌∷◌,
-  map,
-  codes,
-  Bool,
-  true,
-  false,
-  not,
-  filter,
-  unwrap_or,
-  if◌then◌else◌,
-}
+use Rattle.std.specs.Prelude.{ℕ, List, [], ◌∷◌, map, codes, Bool, true, false, not, filter, unwrap_or}
+use Rattle.std.specs.Prelude.{if◌then◌else◌}
 use Rattle.deno_graph_base.specs.declared.text.position.SourceRange.{SourceRange}
 use Rattle.deno_graph_source.specs.declared.tree.node.Kind.TheVariants.{Other as OtherKind}
 use Rattle.deno_graph_source.specs.declared.tree.node.Node.{Node, roll-Node}
 use Rattle.deno_graph_source.specs.Node.{range_of}
-use Rattle.modinfo_document.specs.Kind.{named}
+use Rattle.modinfo_document.specs.Named.{named}
 use Rattle.modinfo_estree.specs.Order.{sorted_by_start}
 use Rattle.modinfo_estree.specs.Range.{is_range}
 use Rattle.modinfo_estree.specs.declared.child.Child.{Child}
 use Rattle.modinfo_estree.specs.declared.role.Group.{Group}
 use Rattle.modinfo_estree.specs.declared.role.Group.TheVariants as group
 use Rattle.modinfo_estree.specs.declared.role.Role.{Role}
-use Rattle.modinfo_estree.specs.declared.role.Role.TheVariants.{
-  Arguments,
-  Attributes,
-  Callee,
-  Decorators,
-  Expressions,
-  Id,
-  Key,
-  Left,
-  Options,
-  Properties,
-  Right,
-  Source,
-  Value,
-  Other,
-}
+use Rattle.modinfo_estree.specs.declared.role.Role.TheVariants.{Arguments, Attributes, Callee, Decorators}
+use Rattle.modinfo_estree.specs.declared.role.Role.TheVariants.{Expressions, Id, Key, Left, Options}
+use Rattle.modinfo_estree.specs.declared.role.Role.TheVariants.{Properties, Right, Source, Value, Other}
 
 -- The roles of the members that have nodes, by the names of the members.
 abbrev pub roles : List (List ℕ × Role)

@@ -1,30 +1,7 @@
 -- The comments of a text by their ranges, and where each is filed.
-use Rattle.std.specs.Prelude.{
-  ◌≡◌,
-  ℕ,
-  ◌-◌,
-  ◌==◌,
-  Bool,
-  true,
-  false,
-  ◌&&◌,
-  ◌||◌,
-  List,
-  [],
-  ◌∷◌,
-  codes,
-  drop,
-  filter,
-  map,
-  nat_le,
-  length,
-  nat_eq,
-  nat_lt,
-  not,
-  slice_index_or,
-  take,
-  if◌then◌else◌,
-}
+use Rattle.std.specs.Prelude.{◌≡◌, ℕ, ◌-◌, ◌==◌, Bool, true, false, ◌&&◌, ◌||◌, List, [], ◌∷◌, codes, drop}
+use Rattle.std.specs.Prelude.{filter, map, nat_le, length, nat_eq, nat_lt, not, slice_index_or, take}
+use Rattle.std.specs.Prelude.{if◌then◌else◌}
 use Rattle.std.specs.Str.{chars}
 use Rattle.std.specs.List.{ends_with, flat_map, starts_with}
 use Rattle.deno_graph_base.specs.SourceRange.{slice_of}
@@ -39,15 +16,8 @@ use Rattle.modinfo_document.specs.declared.comments.FiledEntry.{FiledEntry}
 use Rattle.modinfo_estree.specs.LastToken.{is_closing, is_name, is_operator, last_byte}
 use Rattle.modinfo_estree.specs.Order.{sorted_by_start}
 use Rattle.modinfo_estree.specs.Range.{is_range, is_text_range, rest_range}
-use Rattle.modinfo_estree.specs.Tokens.{
-  Layout,
-  has_line_break,
-  is_line_break,
-  is_on_line,
-  is_space,
-  token_end,
-  token_start,
-}
+use Rattle.modinfo_estree.specs.Tokens.{Layout, has_line_break, is_line_break, is_on_line, is_space}
+use Rattle.modinfo_estree.specs.Tokens.{token_end, token_start}
 use Rattle.modinfo_estree.specs.declared.comments.Place.{Place}
 
 -- The comment of this kind with this range and text.

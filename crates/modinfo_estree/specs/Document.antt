@@ -1,23 +1,6 @@
 -- Documents with the tree of a parser, as ESTree describes it, and the module documents that they are.
-use Rattle.std.specs.Prelude.{
-  ◌&&◌,
-  ◌||◌,
-  ℕ,
-  List,
-  [],
-  ◌∷◌,
-  ◌++◌,
-  codes,
-  Bool,
-  true,
-  false,
-  not,
-  length,
-  nat_eq,
-  Option,
-  Some,
-  if◌then◌else◌,
-}
+use Rattle.std.specs.Prelude.{◌&&◌, ◌||◌, ℕ, List, [], ◌∷◌, ◌++◌, codes, Bool, true, false, not, length}
+use Rattle.std.specs.Prelude.{nat_eq, Option, Some, if◌then◌else◌}
 use Rattle.std.specs.List.{starts_with}
 use Rattle.serde_json.specs.Data.{Data, Members}
 use Rattle.serde_json.specs.Find.{as_object, as_str}
@@ -27,7 +10,8 @@ use Rattle.deno_graph_source.specs.declared.tree.node.Node.{Node}
 use Rattle.deno_graph_source.specs.declared.tree.node.Program.{Program as ParsedProgram}
 use Rattle.modinfo_document.specs.Comments.{Sides}
 use Rattle.modinfo_document.specs.Document.{Contents}
-use Rattle.modinfo_document.specs.Kind.{media_types, reads_named}
+use Rattle.modinfo_document.specs.Kind.{media_types}
+use Rattle.modinfo_document.specs.Named.{reads_named}
 use Rattle.modinfo_estree.specs.Comments.{comment_ranges, sides_of}
 use Rattle.modinfo_estree.specs.Member.{is_present, reads_range}
 use Rattle.modinfo_estree.specs.Node.{reads_node}

@@ -1,35 +1,9 @@
 -- Which node of a module document a node of a parser's tree is, by its type: those of the ESTree
 -- specification, of typescript-estree (with `TS`), and of Babel where they have other names. A node of a type
 -- that isn't here, or that lacks what is asked for here, is an `Other` with all nodes below it.
-use Rattle.std.specs.Prelude.{
-  ℕ,
-  ◌+◌,
-  ◌&&◌,
-  ◌||◌,
-  List,
-  [],
-  ◌∷◌,
-  ◌++◌,
-  map,
-  filter,
-  codes,
-  bytes_eq,
-  Bool,
-  true,
-  false,
-  not,
-  Option,
-  option_map,
-  length,
-  min,
-  slice_get,
-  Some,
-  None,
-  is_some,
-  nat_lt,
-  unwrap_or,
-  if◌then◌else◌,
-}
+use Rattle.std.specs.Prelude.{ℕ, ◌+◌, ◌&&◌, ◌||◌, List, [], ◌∷◌, ◌++◌, map, filter, codes, bytes_eq, Bool}
+use Rattle.std.specs.Prelude.{true, false, not, Option, option_map, length, min, slice_get, Some, None}
+use Rattle.std.specs.Prelude.{is_some, nat_lt, unwrap_or, if◌then◌else◌}
 use Rattle.serde_json.specs.Data.{Data, Members}
 use Rattle.serde_json.specs.Find.{as_array, as_object, get_item, get_member}
 use Rattle.deno_graph_base.specs.declared.text.position.SourceRange.{SourceRange}
@@ -50,28 +24,13 @@ use Rattle.deno_graph_source.specs.declared.tree.node.PropKey.TheVariants as key
 use Rattle.deno_graph_source.specs.Node.{children_of, kind_of, range_of}
 use Rattle.deno_graph_source.specs.declared.tree.node.StrLit.{StrLit}
 use Rattle.deno_graph_source.specs.Node.{is_object}
-use Rattle.modinfo_document.specs.Kind.{named, phases, reads_named}
+use Rattle.modinfo_document.specs.Named.{named, reads_named}
+use Rattle.modinfo_document.specs.Kind.{phases}
 use Rattle.modinfo_document.specs.Literal.{reads_string}
-use Rattle.modinfo_estree.specs.Child.{
-  around,
-  has_group,
-  in_extent,
-  is_read,
-  lacks_group,
-  node_of,
-  nodes_in,
-  nodes_outside,
-}
-use Rattle.modinfo_estree.specs.Member.{
-  has_items,
-  has_name,
-  has_text,
-  has_type,
-  is_present,
-  is_true,
-  reads_range,
-  text_at,
-}
+use Rattle.modinfo_estree.specs.Child.{around, has_group, in_extent, is_read, lacks_group, node_of, nodes_in}
+use Rattle.modinfo_estree.specs.Child.{nodes_outside}
+use Rattle.modinfo_estree.specs.Member.{has_items, has_name, has_text, has_type, is_present, is_true}
+use Rattle.modinfo_estree.specs.Member.{reads_range, text_at}
 use Rattle.modinfo_estree.specs.Literal.{if_spelled, reads_literal}
 use Rattle.modinfo_estree.specs.Offsets.{Counted}
 use Rattle.modinfo_estree.specs.Parentheses.{extent_in_call, is_byte}

@@ -1,26 +1,7 @@
 -- The last token of a text, for the comments after it: which of them on its line trail it, by the rule of the
 -- parser. The text is as far as the token's end, and the bytes there say what the token is.
-use Rattle.std.specs.Prelude.{
-  ℕ,
-  ◌+◌,
-  ◌-◌,
-  ◌==◌,
-  Bool,
-  false,
-  not,
-  ◌&&◌,
-  ◌||◌,
-  List,
-  [],
-  ◌∷◌,
-  codes,
-  length,
-  nat_eq,
-  nat_le,
-  nat_lt,
-  slice_index,
-  slice_index_or,
-}
+use Rattle.std.specs.Prelude.{ℕ, ◌+◌, ◌-◌, ◌==◌, Bool, false, not, ◌&&◌, ◌||◌, List, [], ◌∷◌, codes, length}
+use Rattle.std.specs.Prelude.{nat_eq, nat_le, nat_lt, slice_index, slice_index_or}
 use Rattle.std.specs.List.{ends_with, list_any}
 
 -- A text ends with a word.

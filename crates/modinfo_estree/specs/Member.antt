@@ -1,20 +1,6 @@
 -- The members of a node that aren't nodes.
-use Rattle.std.specs.Prelude.{
-  ℕ,
-  List,
-  codes,
-  bytes_eq,
-  Bool,
-  true,
-  false,
-  Option,
-  Some,
-  None,
-  is_some,
-  nat_lt,
-  unwrap_or,
-  if◌then◌else◌,
-}
+use Rattle.std.specs.Prelude.{ℕ, List, codes, bytes_eq, Bool, true, false, Option, Some, None, is_some}
+use Rattle.std.specs.Prelude.{nat_lt, unwrap_or, if◌then◌else◌}
 use Rattle.serde_json.specs.Data.{Data, null, Members}
 use Rattle.serde_json.specs.Events.{items_len}
 use Rattle.serde_json.specs.Find.{as_array, as_bool, as_object, as_str, get_member}

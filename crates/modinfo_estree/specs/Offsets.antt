@@ -1,17 +1,5 @@
 -- Offsets as parsers count them, and offsets in bytes.
-use Rattle.std.specs.Prelude.{
-  ℕ,
-  ◌+◌,
-  List,
-  [],
-  ◌∷◌,
-  length,
-  nat_le,
-  nat_lt,
-  sum,
-  take,
-  if◌then◌else◌,
-}
+use Rattle.std.specs.Prelude.{ℕ, ◌+◌, List, [], ◌∷◌, length, nat_le, nat_lt, sum, take, if◌then◌else◌}
 use Rattle.std.specs.List.{flat_map}
 use Rattle.modinfo_estree.specs.declared.offsets.OffsetUnit.{OffsetUnit}
 use Rattle.modinfo_estree.specs.declared.offsets.OffsetUnit.TheVariants.{Utf16, Utf8}

@@ -1,23 +1,7 @@
 -- Parentheses around the callees and the arguments of calls. The tree of a parser has none, so the text has
 -- to tell.
-use Rattle.std.specs.Prelude.{
-  ℕ,
-  zero,
-  suc,
-  ◌==◌,
-  ◌&&◌,
-  ◌+◌,
-  ◌-◌,
-  Bool,
-  false,
-  Some,
-  None,
-  Option,
-  nat_le,
-  nat_lt,
-  slice_get,
-  if◌then◌else◌,
-}
+use Rattle.std.specs.Prelude.{ℕ, zero, suc, ◌==◌, ◌&&◌, ◌+◌, ◌-◌, Bool, false, Some, None, Option, nat_le}
+use Rattle.std.specs.Prelude.{nat_lt, slice_get, if◌then◌else◌}
 use Rattle.deno_graph_base.specs.declared.text.position.SourceRange.{SourceRange}
 use Rattle.modinfo_estree.specs.Source.{EstreeSource, gaps}
 use Rattle.modinfo_estree.specs.Tokens.{token_end, token_start}

@@ -1,22 +1,6 @@
 -- Where the tokens of a text begin and end. Between two tokens are only white space and comments.
-use Rattle.std.specs.Prelude.{
-  ℕ,
-  ◌+◌,
-  ◌-◌,
-  ◌==◌,
-  Bool,
-  not,
-  ◌&&◌,
-  ◌||◌,
-  List,
-  drop,
-  length,
-  map,
-  nat_le,
-  nat_lt,
-  replicate,
-  take,
-}
+use Rattle.std.specs.Prelude.{ℕ, ◌+◌, ◌-◌, ◌==◌, Bool, not, ◌&&◌, ◌||◌, List, drop, length, map, nat_le}
+use Rattle.std.specs.Prelude.{nat_lt, replicate, take}
 use Rattle.std.specs.Char.{is_whitespace, len_utf8}
 use Rattle.std.specs.List.{enumerate_from, flat_map, list_all, list_any, prefix_len, suffix_len}
 use Rattle.std.specs.Str.{chars}

@@ -1,20 +1,7 @@
 -- Where values end that by their last bytes alone could be operators or dots: regular expressions without
 -- flags, numbers with a dot at the end, and elements of JSX. A node of the tree ends there, and none ends
 -- with an operator.
-use Rattle.std.specs.Prelude.{
-  ℕ,
-  ◌+◌,
-  ◌==◌,
-  Bool,
-  not,
-  ◌&&◌,
-  ◌||◌,
-  List,
-  codes,
-  length,
-  map,
-  nat_eq,
-}
+use Rattle.std.specs.Prelude.{ℕ, ◌+◌, ◌==◌, Bool, not, ◌&&◌, ◌||◌, List, codes, length, map, nat_eq}
 use Rattle.std.specs.List.{flat_map, list_any, range_with_len, starts_with}
 use Rattle.deno_graph_base.specs.SourceRange.{slice_of}
 use Rattle.deno_graph_base.specs.declared.text.position.SourceRange.{SourceRange}

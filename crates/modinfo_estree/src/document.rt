@@ -6,7 +6,7 @@ ghost use Rattle.deno_graph_json.specs.Data.{data_of};
 ghost use Rattle.deno_graph_json.specs.ObjectReader.{readable, value_of};
 ghost use Rattle.deno_graph_json.specs.Read.Result.{IsReadResult};
 ghost use Rattle.modinfo_document.specs.Document.{Has, IsDocumentIn, IsNoDocumentIn};
-ghost use Rattle.modinfo_document.specs.Kind.{ExpectsNameIn, named, reads_named};
+ghost use Rattle.modinfo_document.specs.Named.{ExpectsNameIn, named, reads_named};
 ghost use Rattle.modinfo_document.specs.Result.{IsReadResultBy};
 ghost use Rattle.modinfo_estree.specs.Document as spec;
 ghost use Rattle.modinfo_estree.specs.Document.{reads_estree, units};
@@ -155,7 +155,7 @@ fn has_shebang(text: &str) -> bool
 impl FromJson<Document> for OffsetUnit {
     ghost reads = { reads_named units };
 
-    #[tactic(auto, using(deno_graph_json::proofs::Reading::reading), unfolding(modinfo_document::specs::Kind::reads_named))]
+    #[tactic(auto, using(deno_graph_json::proofs::Reading::reading), unfolding(modinfo_document::specs::Named::reads_named))]
     fn from_json(alloc: Global, value: Element<'_>) -> Result<OffsetUnit, ReadError> {
         let name = read_str(alloc, value)?;
         unit_named(alloc, name)
@@ -165,7 +165,7 @@ impl FromJson<Document> for OffsetUnit {
 const UNITS: &[&str] = &["utf16", "utf8"];
 
 /// Returns the unit of this name.
-#[tactic(auto, unfolding(modinfo_document::specs::Kind::named))]
+#[tactic(auto, unfolding(modinfo_document::specs::Named::named))]
 fn unit_named(alloc: Global, name: &str) -> Result<OffsetUnit, ReadError>
     ensures read { IsReadResult (string name.now) (named units name.now) result }
     ensures expected { IfErr result (ExpectsNameIn units) }

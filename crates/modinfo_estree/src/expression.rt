@@ -125,7 +125,7 @@ impl<'a, 't, 'v> Reading<'a, 't, 'v> {
     }
 }
 
-/// Returns what was read, None if the value has another form.
+/// Returns the value that was read, or `None` if the JSON has another form.
 pub fn found<T: Drop>(read: Result<T, ReadError>) -> Result<Option<T>, AllocError>
     ensures { (value : Data) → (wanted : Option T) → IsReadResult value wanted read
         → IfOk result (λ found. found ≡ wanted) }
@@ -146,10 +146,10 @@ impl FromJson<Estree> for JsString {
     }
 }
 
-/// The parts of a template, as the whole that their texts are read in.
+/// Marks readers of the parts of a template.
 struct Quasis;
 
-/// Reads the text of a part of a template, which is null where an escape is no text.
+/// Reads the string of a part of a template. It is null where an escape is invalid.
 impl FromJson<Quasis> for JsString {
     ghost reads = { spec.reads_cooked };
 
@@ -160,7 +160,7 @@ impl FromJson<Quasis> for JsString {
     }
 }
 
-/// The texts of a part of a template, as the whole that one of them is read in.
+/// Marks readers of the two strings of a part of a template, `raw` and `cooked`.
 struct Texts;
 
 /// Reads the text with its escapes replaced.

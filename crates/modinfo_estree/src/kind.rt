@@ -15,7 +15,7 @@ use std::alloc::AllocError;
 
 impl<'a, 't, 'v> Reading<'a, 't, 'v> {
     /// Reads the node of a type.
-    #[tactic(auto, unfolding(crate::specs::Kind::reads_type, modinfo_document::specs::Kind::named))]
+    #[tactic(auto, unfolding(crate::specs::Kind::reads_type, modinfo_document::specs::Named::named))]
     pub fn node_of_type(&self, name: &str, children: Vec<Child>) -> Result<Node, ReadError>
         ensures { IsReadResult (value_of self.now.members)
             (spec.reads_type (parts_of self.now) children.items name.now) result }
@@ -35,7 +35,7 @@ impl<'a, 't, 'v> Reading<'a, 't, 'v> {
     }
 
     /// Reads the node of a type whose nodes lack nothing.
-    #[tactic(auto, unfolding(crate::specs::Kind::total_type, modinfo_document::specs::Kind::named))]
+    #[tactic(auto, unfolding(crate::specs::Kind::total_type, modinfo_document::specs::Named::named))]
     fn other_type(&self, name: &str, children: Vec<Child>) -> Result<Node, AllocError>
         ensures { IfOk result (λ node. node
             ≡ spec.total_type (parts_of self.now) children.items name.now) }
@@ -56,7 +56,7 @@ impl<'a, 't, 'v> Reading<'a, 't, 'v> {
     }
 
     /// Returns the kind of a node of a type that has all nodes below it.
-    #[tactic(auto, unfolding(crate::specs::Kind::kind_of_type, modinfo_document::specs::Kind::named))]
+    #[tactic(auto, unfolding(crate::specs::Kind::kind_of_type, modinfo_document::specs::Named::named))]
     fn kind_of_type(&self, name: &str) -> Kind
         ensures { result ≡ spec.kind_of_type (readable self.now.members) name.now }
     {

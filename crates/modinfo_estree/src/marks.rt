@@ -1,4 +1,4 @@
-//! What each byte of a text is to the tokens of the text.
+//! Marks each byte of a text: in a token, between tokens, or in a line terminator.
 
 ghost use Rattle.std.specs.Prelude.{◌≡◌, ◌++◌, ◌||◌, ℕ, IfOk, OnOk, false, replicate, slice_index_or, true};
 ghost use Rattle.std.specs.Char.{len_utf8};
@@ -10,7 +10,7 @@ ghost use Rattle.modinfo_estree.specs.internal.Marks.{AreMarked, breaks_of, gaps
 use deno_graph_base::text::SourceRange;
 use std::alloc::{AllocError, Global};
 
-/// What a byte is to the tokens of a text.
+/// The mark of a byte of a text.
 #[derive(Clone, Copy)]
 pub enum Mark {
     /// A byte of a token.

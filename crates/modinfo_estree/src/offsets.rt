@@ -9,7 +9,7 @@ use crate::stride::STRIDE;
 use std::alloc::{AllocError, Global};
 use std::marker::Model;
 
-/// What an offset in a text counts.
+/// The unit of an offset in a text.
 #[derive(Clone, Copy, Debug, PartialEq, Eq)]
 pub enum OffsetUnit {
     /// UTF-16 units, as JavaScript counts them.
@@ -76,7 +76,8 @@ impl<'a> Offsets<'a> {
     }
 }
 
-/// Returns the offset in bytes of an offset in UTF-16 units, by that of the last multiple of 32 units.
+/// Converts an offset from UTF-16 units to bytes. `start` is the offset, in bytes, of the last multiple of 32
+/// units.
 fn byte_offset_from(text: &str, start: usize, offset: usize) -> usize
     requires { HaveBytes (unit_sizes text.now) (32 * (offset / 32)) start }
     ensures { result ≡ byte_offset text.now offset }

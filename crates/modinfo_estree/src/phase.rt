@@ -2,7 +2,8 @@
 
 ghost use Rattle.deno_graph_json.specs.ObjectReader.{readable, value_of};
 ghost use Rattle.deno_graph_json.specs.Read.Result.{IsReadResult};
-ghost use Rattle.modinfo_document.specs.Kind.{phases, reads_named};
+ghost use Rattle.modinfo_document.specs.Kind.{phases};
+ghost use Rattle.modinfo_document.specs.Named.{reads_named};
 ghost use Rattle.modinfo_estree.specs.Kind.{reads_phase};
 
 use crate::member::is_present;

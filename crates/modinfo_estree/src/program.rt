@@ -7,7 +7,7 @@ ghost use Rattle.deno_graph_json.specs.ObjectReader.{readable, value_of};
 ghost use Rattle.deno_graph_json.specs.Read.Partial.{member_at, member_or, reads_array};
 ghost use Rattle.deno_graph_json.specs.Read.Result.{IsReadResult};
 ghost use Rattle.serde_json.specs.Data.{string};
-ghost use Rattle.modinfo_document.specs.Kind.{ExpectsNameIn, named, reads_named};
+ghost use Rattle.modinfo_document.specs.Named.{ExpectsNameIn, named, reads_named};
 ghost use Rattle.modinfo_estree.specs.Document.{outermost_types, program_types};
 ghost use Rattle.modinfo_estree.specs.Document.{reads_body, reads_file, reads_program};
 ghost use Rattle.modinfo_estree.specs.Node.{reads_node};
@@ -22,29 +22,29 @@ use deno_graph_source::tree::Node;
 use deno_graph_source::values::Items;
 use std::alloc::Global;
 
-/// What the outermost node is.
+/// The type of the outermost node.
 #[derive(Clone, Copy, Debug, PartialEq, Eq)]
 pub enum Outermost {
     Program,
-    /// The node around a program, as Babel has it.
+    /// Babel's node around a program.
     File,
 }
 
 const OUTERMOST: &[&str] = &["Program", "File"];
 
-/// Reads what the outermost node is by its type.
+/// Reads the type of the outermost node.
 impl FromJson<Estree> for Outermost {
     ghost reads = { reads_named outermost_types };
 
-    #[tactic(auto, using(deno_graph_json::proofs::Reading::reading), unfolding(modinfo_document::specs::Kind::reads_named))]
+    #[tactic(auto, using(deno_graph_json::proofs::Reading::reading), unfolding(modinfo_document::specs::Named::reads_named))]
     fn from_json(alloc: Global, value: Element<'_>) -> Result<Outermost, ReadError> {
         let name = read_str(alloc, value)?;
         outermost_named(alloc, name)
     }
 }
 
-/// Returns what the outermost node of this type is.
-#[tactic(auto, unfolding(modinfo_document::specs::Kind::named))]
+/// Returns the type of the outermost node by its name.
+#[tactic(auto, unfolding(modinfo_document::specs::Named::named))]
 fn outermost_named(alloc: Global, name: &str) -> Result<Outermost, ReadError>
     ensures read { IsReadResult (string name.now) (named outermost_types name.now) result }
     ensures expected { IfErr result (ExpectsNameIn outermost_types) }
@@ -56,7 +56,7 @@ fn outermost_named(alloc: Global, name: &str) -> Result<Outermost, ReadError>
     }
 }
 
-/// What is inside of a file.
+/// The type of the node inside a `File`.
 #[derive(Clone, Copy, Debug, PartialEq, Eq)]
 pub enum ProgramType {
     Program,
@@ -68,7 +68,7 @@ const PROGRAM: &[&str] = &["Program"];
 impl FromJson<Estree> for ProgramType {
     ghost reads = { reads_named program_types };
 
-    #[tactic(auto, using(deno_graph_json::proofs::Reading::reading), unfolding(modinfo_document::specs::Kind::reads_named))]
+    #[tactic(auto, using(deno_graph_json::proofs::Reading::reading), unfolding(modinfo_document::specs::Named::reads_named))]
     fn from_json(alloc: Global, value: Element<'_>) -> Result<ProgramType, ReadError> {
         let name = read_str(alloc, value)?;
         program_named(alloc, name)
@@ -76,7 +76,7 @@ impl FromJson<Estree> for ProgramType {
 }
 
 /// Returns the type of this name, if that is the type of programs.
-#[tactic(auto, unfolding(modinfo_document::specs::Kind::named))]
+#[tactic(auto, unfolding(modinfo_document::specs::Named::named))]
 fn program_named(alloc: Global, name: &str) -> Result<ProgramType, ReadError>
     ensures read { IsReadResult (string name.now) (named program_types name.now) result }
     ensures expected { IfErr result (ExpectsNameIn program_types) }

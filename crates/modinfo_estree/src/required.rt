@@ -1,4 +1,4 @@
-//! Required members, and values that are read with what is known of a text.
+//! Required members, and values that are read with a context.
 
 ghost use Rattle.std.specs.Prelude.{◌≡◌, Option, Some};
 ghost use Rattle.serde_json.specs.Data.{Data, array};
@@ -14,7 +14,7 @@ use deno_graph_json::{Element, Elements, Expected, ReadError};
 use deno_graph_source::values::Items;
 use std::alloc::Global;
 
-/// A type that is read from JSON with a `Context`: what is known of the text of the document.
+/// A type that is read from JSON with a `Context`, the facts that are known about the text of the document.
 pub trait ReadWith<Context> {
     ghost use Rattle.std.specs.Prelude.{Option};
     ghost use Rattle.serde_json.specs.Data.{Data};
@@ -91,8 +91,7 @@ pub fn required<'v>(
     }
 }
 
-/// Turns what was read from the value of a member into what is read from the object: an error in the value
-/// becomes an error in the member.
+/// Adds the name of a member to the path of an error. A value that was read stays as it is.
 pub fn in_member<T>(
     alloc: Global,
     members: &NodeMembers<'_>,

@@ -1,8 +1,7 @@
 ghost use Rattle.std.specs.Prelude.{◌≡◌};
 ghost use Rattle.modinfo_estree.specs.Child.{is_in, is_read, role_of};
 
-/// What a node is to the node above, by the member that has it. Members that nothing asks for are
-/// `Other`.
+/// The member of the parent in which a node is. `Other` if no rule reads the member.
 #[derive(Clone, Copy, Debug, PartialEq, Eq)]
 pub enum Role {
     Arguments,
@@ -25,7 +24,7 @@ pub enum Role {
 impl Role {
     /// Returns the role of the nodes in the member of this name. The value of an attribute of JSX isn't
     /// written as a string of JavaScript, and no rule reads it.
-    #[tactic(auto, unfolding(crate::specs::Child::role_of, modinfo_document::specs::Kind::named))]
+    #[tactic(auto, unfolding(crate::specs::Child::role_of, modinfo_document::specs::Named::named))]
     pub fn of_member(is_jsx_attribute: bool, name: &str) -> Role
         ensures { result ≡ role_of is_jsx_attribute name.now }
     {

@@ -2,7 +2,7 @@ use crate::offsets::Offsets;
 use crate::tokens::Tokens;
 use deno_graph_json::ObjectReader;
 
-/// The tree of a parser, as the whole that its parts are read in.
+/// Marks readers of the tree of a JavaScript parser.
 #[derive(Debug)]
 pub struct Estree;
 

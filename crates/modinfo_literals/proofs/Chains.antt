@@ -1,33 +1,8 @@
 -- Elements from the start of a text to its end, and that a text has one list of elements.
-use Rattle.std.proofs.Common.{
-  ◌≡◌,
-  ℕ,
-  ◌⊎◌,
-  Option,
-  Some,
-  None,
-  List,
-  [],
-  ◌∷◌,
-  ◌++◌,
-  drop,
-  get_or,
-  refl,
-  sym,
-  ap,
-  ◌∙◌,
-  subst,
-  ⊎_elim,
-  unwrap_or,
-}
-use Rattle.modinfo_literals.specs.Literal.{
-  Consists,
-  IsStringElement,
-  IsTemplateElement,
-  string_of,
-  Spells,
-  SpellsCooked,
-}
+use Rattle.std.proofs.Common.{◌≡◌, ℕ, ◌⊎◌, Option, Some, None, List, [], ◌∷◌, ◌++◌, drop, get_or, refl, sym}
+use Rattle.std.proofs.Common.{ap, ◌∙◌, subst, ⊎_elim, unwrap_or}
+use Rattle.modinfo_literals.specs.Literal.{Consists, IsStringElement, IsTemplateElement, string_of, Spells}
+use Rattle.modinfo_literals.specs.Literal.{SpellsCooked}
 use Rattle.modinfo_literals.specs.internal.Step.{Step, string_step, template_step}
 use Rattle.modinfo_literals.proofs.Complete.{string-complete, template-complete}
 

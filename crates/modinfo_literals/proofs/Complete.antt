@@ -1,105 +1,31 @@
 -- The step over each element of the definitions.
-use Rattle.std.proofs.Common.{
-  ◌≡◌,
-  ℕ,
-  ◌<◌,
-  ◌≤◌,
-  ◌⊎◌,
-  ◌==◌,
-  true,
-  false,
-  Option,
-  Some,
-  None,
-  List,
-  [],
-  ◌∷◌,
-  ◌++◌,
-  length,
-  nat_eq,
-  codes,
-  refl,
-  sym,
-  ap,
-  ◌∙◌,
-  subst,
-  inl,
-  inr,
-  ⊎_elim,
-  arith,
-  append_assoc,
-  length-append,
-}
+use Rattle.std.proofs.Common.{◌≡◌, ℕ, ◌<◌, ◌≤◌, ◌⊎◌, ◌==◌, true, false, Option, Some, None, List, [], ◌∷◌}
+use Rattle.std.proofs.Common.{◌++◌, length, nat_eq, codes, refl, sym, ap, ◌∙◌, subst, inl, inr, ⊎_elim, arith}
+use Rattle.std.proofs.Common.{append_assoc, length-append}
 use Rattle.std.specs.Char.{digit_value, is_digit}
-use Rattle.std.proofs.lemmas.Bool.{
-  or_parts,
-  or_cases,
-  eqb-true,
-  eq-eqb,
-  ne_eqb,
-  ltb-false,
-  le-ltb,
-  lt-ltb,
-  le-leb,
-  false≢true,
-}
-use Rattle.modinfo_literals.specs.Escape.{
-  AreDigits,
-  begins_with,
-  number,
-  is_line_terminator,
-  is_special,
-  most_octal_digits,
-  IsLineEnd,
-  IsCommonEscape,
-  IsStringEscape,
-  IsTemplateEscape,
-}
-use Rattle.modinfo_literals.specs.Escape.IsLineEnd.{
-  carriage_return_line_feed,
-  carriage_return,
-  other_terminator,
-}
-use Rattle.modinfo_literals.specs.Escape.IsCommonEscape.{
-  backspace,
-  tab,
-  line_feed,
-  vertical_tab,
-  form_feed,
-  carriage_return as carriage_return_escape,
-  itself,
-  hex,
-  unicode,
-  code_point,
-  line_continuation,
-}
+use Rattle.std.proofs.lemmas.Bool.{or_parts, or_cases, eqb-true, eq-eqb, ne_eqb, ltb-false, le-ltb, lt-ltb}
+use Rattle.std.proofs.lemmas.Bool.{le-leb, false≢true}
+use Rattle.modinfo_literals.specs.Escape.{AreDigits, begins_with, number, is_line_terminator, is_special}
+use Rattle.modinfo_literals.specs.Escape.{most_octal_digits, IsLineEnd, IsCommonEscape, IsStringEscape}
+use Rattle.modinfo_literals.specs.Escape.{IsTemplateEscape}
+use Rattle.modinfo_literals.specs.Escape.IsLineEnd.{carriage_return_line_feed, carriage_return}
+use Rattle.modinfo_literals.specs.Escape.IsLineEnd.{other_terminator}
+use Rattle.modinfo_literals.specs.Escape.IsCommonEscape.{backspace, tab, line_feed, vertical_tab, form_feed}
+use Rattle.modinfo_literals.specs.Escape.IsCommonEscape.{carriage_return as carriage_return_escape, itself}
+use Rattle.modinfo_literals.specs.Escape.IsCommonEscape.{hex, unicode, code_point, line_continuation}
 use Rattle.modinfo_literals.specs.Escape.IsStringEscape.{common, octal, eight_or_nine}
 use Rattle.modinfo_literals.specs.Escape.IsTemplateEscape.{common as template_common, zero}
 use Rattle.modinfo_literals.specs.Literal.{IsStringElement, IsTemplateElement}
 use Rattle.modinfo_literals.specs.Literal.IsStringElement.{character, escape}
-use Rattle.modinfo_literals.specs.Literal.IsTemplateElement.{
-  character as template_character,
-  dollar,
-  carriage_return_line_feed as carriage_return_line_feed_element,
-  carriage_return as carriage_return_element,
-  escape as template_escape,
-}
+use Rattle.modinfo_literals.specs.Literal.IsTemplateElement.{character as template_character, dollar}
+use Rattle.modinfo_literals.specs.Literal.IsTemplateElement.{carriage_return_line_feed as carriage_return_line_feed_element}
+use Rattle.modinfo_literals.specs.Literal.IsTemplateElement.{carriage_return as carriage_return_element}
+use Rattle.modinfo_literals.specs.Literal.IsTemplateElement.{escape as template_escape}
 use Rattle.std.specs.List.{list_any}
-use Rattle.modinfo_literals.specs.internal.Step.{
-  stands_for,
-  stands_for_nothing,
-  after_carriage_return,
-  hex_step,
-  braced_step,
-  unicode_step,
-  octal_step,
-  single_escape,
-  common_step,
-  string_escape_step,
-  template_escape_step,
-  string_step,
-  template_step,
-}
+use Rattle.modinfo_literals.specs.internal.Step.{stands_for, stands_for_nothing, after_carriage_return}
+use Rattle.modinfo_literals.specs.internal.Step.{hex_step, braced_step, unicode_step, octal_step}
+use Rattle.modinfo_literals.specs.internal.Step.{single_escape, common_step, string_escape_step}
+use Rattle.modinfo_literals.specs.internal.Step.{template_escape_step, string_step, template_step}
 use Rattle.modinfo_literals.proofs.Digits.{digits_of-append, drop-append}
 
 -- digits

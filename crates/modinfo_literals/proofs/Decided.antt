@@ -1,55 +1,16 @@
 -- The test whether a text is a string literal with a value agrees with the definition.
-use Rattle.std.proofs.Common.{
-  ◌≡◌,
-  ℕ,
-  zero,
-  suc,
-  ◌≤◌,
-  ◌⊎◌,
-  ◌==◌,
-  ◌||◌,
-  true,
-  Option,
-  Some,
-  None,
-  List,
-  [],
-  ◌∷◌,
-  length,
-  nat_eq,
-  refl,
-  sym,
-  ap,
-  ◌∙◌,
-  subst,
-  inl,
-  inr,
-  arith,
-}
-use Rattle.std.proofs.lemmas.Bool.{
-  and_from,
-  and_parts,
-  eqb-true,
-  eq-eqb,
-  false≢true,
-  or_cases,
-  or_left,
-  or_right,
-}
+use Rattle.std.proofs.Common.{◌≡◌, ℕ, zero, suc, ◌≤◌, ◌⊎◌, ◌==◌, ◌||◌, true, Option, Some, None, List, []}
+use Rattle.std.proofs.Common.{◌∷◌, length, nat_eq, refl, sym, ap, ◌∙◌, subst, inl, inr, arith}
+use Rattle.std.proofs.lemmas.Bool.{and_from, and_parts, eqb-true, eq-eqb, false≢true, or_cases, or_left}
+use Rattle.std.proofs.lemmas.Bool.{or_right}
 use Rattle.std.proofs.lemmas.Bool.Decides.{Decides-eqb}
 use Rattle.std.proofs.lemmas.Slice.Eq.{slice_eq-Decides}
 use Rattle.std.specs.Bool.{IsTrue}
 use Rattle.std.specs.Cmp.Lexicographic.{pointwise}
 use Rattle.std.specs.Str.{chars}
 use Rattle.modinfo_literals.specs.Literal.{Consists, IsStringElement, Spells, string_of}
-use Rattle.modinfo_literals.specs.Value.{
-  Elements,
-  are_whole,
-  elements_in,
-  is_spelled,
-  is_spelled_by,
-  with_element,
-}
+use Rattle.modinfo_literals.specs.Value.{Elements, are_whole, elements_in, is_spelled, is_spelled_by}
+use Rattle.modinfo_literals.specs.Value.{with_element}
 use Rattle.modinfo_literals.specs.declared.element.Form.TheVariants.{StringWith}
 use Rattle.modinfo_literals.specs.internal.Step.{Step, string_step}
 use Rattle.modinfo_literals.proofs.Chains.{Walks, string_step-quote, string_walks}

@@ -1,71 +1,19 @@
 -- A string literal without escapes spells the text between its quotes.
-use Rattle.std.proofs.Common.{
-  ◌≡◌,
-  ℕ,
-  ◌+◌,
-  ◌-◌,
-  ◌/◌,
-  ◌%◌,
-  ◌<◌,
-  ◌≤◌,
-  ◌⊎◌,
-  true,
-  false,
-  Bool,
-  Some,
-  List,
-  [],
-  ◌∷◌,
-  ◌++◌,
-  map,
-  encode_utf8,
-  encode_utf8_all,
-  suc,
-  zero,
-  refl,
-  sym,
-  ap,
-  ◌∙◌,
-  subst,
-  ⊎_elim,
-  arith,
-}
+use Rattle.std.proofs.Common.{◌≡◌, ℕ, ◌+◌, ◌-◌, ◌/◌, ◌%◌, ◌<◌, ◌≤◌, ◌⊎◌, true, false, Bool, Some, List, []}
+use Rattle.std.proofs.Common.{◌∷◌, ◌++◌, map, encode_utf8, encode_utf8_all, suc, zero, refl, sym, ap, ◌∙◌}
+use Rattle.std.proofs.Common.{subst, ⊎_elim, arith}
 use Rattle.std.specs.Char.{IsScalar}
 use Rattle.std.specs.Char.Utf16.{is_high_surrogate, is_low_surrogate, surrogate_pair_char}
 use Rattle.std.specs.Char.Escape.{encode_utf16}
 use Rattle.std.specs.List.{flat_map, list_any}
 use Rattle.std.specs.Str.{chars, IsUtf8, IsAscii, all_scalars}
-use Rattle.std.proofs.lemmas.Bool.{
-  and_parts,
-  and_from,
-  and_left,
-  and_right,
-  or_from,
-  or_parts,
-  cases_lt,
-  cond-true,
-  cond-false,
-  lt-ltb,
-  le-ltb,
-  lt-leb,
-  le-leb,
-  ne_eqb,
-}
-use Rattle.std.proofs.lemmas.Str.{
-  chars-append,
-  chars-IsAscii,
-  encode_ascii,
-  encodes-chars,
-  scalars-chars,
-}
+use Rattle.std.proofs.lemmas.Bool.{and_parts, and_from, and_left, and_right, or_from, or_parts, cases_lt}
+use Rattle.std.proofs.lemmas.Bool.{cond-true, cond-false, lt-ltb, le-ltb, lt-leb, le-leb, ne_eqb}
+use Rattle.std.proofs.lemmas.Str.{chars-append, chars-IsAscii, encode_ascii, encodes-chars, scalars-chars}
 use Rattle.std.proofs.Math.Utf8.{scalar_cases}
 use Rattle.deno_graph_base.specs.JsString.{points_of_units}
-use Rattle.deno_graph_base.proofs.Units.{
-  points_of_units-nil,
-  points_of_units-last,
-  points_of_units-pair,
-  points_of_units-alone,
-}
+use Rattle.deno_graph_base.proofs.Units.{points_of_units-nil, points_of_units-last, points_of_units-pair}
+use Rattle.deno_graph_base.proofs.Units.{points_of_units-alone}
 use Rattle.modinfo_literals.specs.Literal.{Consists, IsStringElement, Spells, string_of, units_of}
 use Rattle.modinfo_literals.specs.Literal.IsStringElement.{character}
 use Rattle.modinfo_literals.specs.internal.Plain.{is_special_byte}

@@ -1,34 +1,13 @@
 -- The elements read from the start of a text.
-use Rattle.std.proofs.Common.{
-  ◌≡◌,
-  ℕ,
-  ◌<◌,
-  Option,
-  Some,
-  List,
-  [],
-  ◌∷◌,
-  ◌++◌,
-  length,
-  refl,
-  sym,
-  ap,
-  ◌∙◌,
-  arith,
-  length-append,
-  append-nil,
-}
+use Rattle.std.proofs.Common.{◌≡◌, ℕ, ◌<◌, Option, Some, List, [], ◌∷◌, ◌++◌, length, refl, sym, ap, ◌∙◌}
+use Rattle.std.proofs.Common.{arith, length-append, append-nil}
 use Rattle.std.specs.List.{flat_map}
 use Rattle.std.proofs.lemmas.List.Concat.{flat_map-append}
 use Rattle.modinfo_literals.specs.Literal.{Consists, IsStringElement, IsTemplateElement, units_of}
 use Rattle.modinfo_literals.specs.Literal.IsStringElement.{character, escape}
-use Rattle.modinfo_literals.specs.Literal.IsTemplateElement.{
-  character as template_character,
-  dollar,
-  carriage_return_line_feed,
-  carriage_return,
-  escape as template_escape,
-}
+use Rattle.modinfo_literals.specs.Literal.IsTemplateElement.{character as template_character, dollar}
+use Rattle.modinfo_literals.specs.Literal.IsTemplateElement.{carriage_return_line_feed, carriage_return}
+use Rattle.modinfo_literals.specs.Literal.IsTemplateElement.{escape as template_escape}
 use Rattle.modinfo_literals.specs.declared.element.Form.{Form}
 use Rattle.modinfo_literals.specs.declared.element.Form.TheVariants.{StringWith, Template}
 use Rattle.modinfo_literals.specs.internal.Step.{Step}

@@ -1,117 +1,32 @@
 -- What a step over an element finds is an element of the definitions.
-use Rattle.std.proofs.Common.{
-  ◌≡◌,
-  ℕ,
-  ◌<◌,
-  ◌≤◌,
-  ◌==◌,
-  ◌&&◌,
-  not,
-  Bool,
-  true,
-  false,
-  Option,
-  Some,
-  None,
-  List,
-  [],
-  ◌∷◌,
-  ◌++◌,
-  length,
-  drop,
-  nat_lt,
-  nat_le,
-  nat_eq,
-  codes,
-  cond,
-  suc,
-  refl,
-  sym,
-  ap,
-  ◌∙◌,
-  subst,
-  inl,
-  inr,
-  ⊎_elim,
-  arith,
-  append_assoc,
-  unwrap_or,
-}
+use Rattle.std.proofs.Common.{◌≡◌, ℕ, ◌<◌, ◌≤◌, ◌==◌, ◌&&◌, not, Bool, true, false, Option, Some, None, List}
+use Rattle.std.proofs.Common.{[], ◌∷◌, ◌++◌, length, drop, nat_lt, nat_le, nat_eq, codes, cond, suc, refl}
+use Rattle.std.proofs.Common.{sym, ap, ◌∙◌, subst, inl, inr, ⊎_elim, arith, append_assoc, unwrap_or}
 use Rattle.std.specs.Char.{is_digit}
 use Rattle.std.specs.List.{list_any}
-use Rattle.std.proofs.lemmas.Bool.{
-  or_from,
-  and_parts,
-  cases_Bool,
-  cond-true,
-  cond-false,
-  eqb-true,
-  ltb-true,
-  leb-true,
-  not-true,
-}
-use Rattle.modinfo_literals.specs.Escape.{
-  AreDigits,
-  begins_with,
-  number,
-  is_line_terminator,
-  is_special,
-  IsCommonEscape,
-  IsStringEscape,
-  IsTemplateEscape,
-}
-use Rattle.modinfo_literals.specs.Escape.IsLineEnd.{
-  carriage_return_line_feed,
-  carriage_return,
-  other_terminator,
-}
-use Rattle.modinfo_literals.specs.Escape.IsCommonEscape.{
-  backspace,
-  tab,
-  line_feed,
-  vertical_tab,
-  form_feed,
-  carriage_return as carriage_return_escape,
-  itself,
-  hex,
-  unicode,
-  code_point,
-  line_continuation,
-}
+use Rattle.std.proofs.lemmas.Bool.{or_from, and_parts, cases_Bool, cond-true, cond-false, eqb-true, ltb-true}
+use Rattle.std.proofs.lemmas.Bool.{leb-true, not-true}
+use Rattle.modinfo_literals.specs.Escape.{AreDigits, begins_with, number, is_line_terminator, is_special}
+use Rattle.modinfo_literals.specs.Escape.{IsCommonEscape, IsStringEscape, IsTemplateEscape}
+use Rattle.modinfo_literals.specs.Escape.IsLineEnd.{carriage_return_line_feed, carriage_return}
+use Rattle.modinfo_literals.specs.Escape.IsLineEnd.{other_terminator}
+use Rattle.modinfo_literals.specs.Escape.IsCommonEscape.{backspace, tab, line_feed, vertical_tab, form_feed}
+use Rattle.modinfo_literals.specs.Escape.IsCommonEscape.{carriage_return as carriage_return_escape, itself}
+use Rattle.modinfo_literals.specs.Escape.IsCommonEscape.{hex, unicode, code_point, line_continuation}
 use Rattle.modinfo_literals.specs.Escape.IsStringEscape.{common, octal, eight_or_nine}
 use Rattle.modinfo_literals.specs.Escape.IsTemplateEscape.{common as template_common, zero}
 use Rattle.modinfo_literals.specs.Literal.{IsStringElement, IsTemplateElement}
 use Rattle.modinfo_literals.specs.Literal.IsStringElement.{character, escape}
-use Rattle.modinfo_literals.specs.Literal.IsTemplateElement.{
-  character as template_character,
-  dollar,
-  carriage_return_line_feed as carriage_return_line_feed_element,
-  carriage_return as carriage_return_element,
-  escape as template_escape,
-}
-use Rattle.modinfo_literals.specs.internal.Step.{
-  Step,
-  after_carriage_return,
-  digits_of,
-  hex_step,
-  close_brace,
-  braced_step,
-  unicode_step,
-  octal_step,
-  single_escape,
-  common_step,
-  string_escape_step,
-  template_escape_step,
-  string_step,
-  template_step,
-}
-use Rattle.modinfo_literals.proofs.Digits.{
-  digits_of-first,
-  AreDigits-digits_of,
-  digits_of-drop,
-  digits_of-end,
-  length-digits_of,
-}
+use Rattle.modinfo_literals.specs.Literal.IsTemplateElement.{character as template_character, dollar}
+use Rattle.modinfo_literals.specs.Literal.IsTemplateElement.{carriage_return_line_feed as carriage_return_line_feed_element}
+use Rattle.modinfo_literals.specs.Literal.IsTemplateElement.{carriage_return as carriage_return_element}
+use Rattle.modinfo_literals.specs.Literal.IsTemplateElement.{escape as template_escape}
+use Rattle.modinfo_literals.specs.internal.Step.{Step, after_carriage_return, digits_of, hex_step}
+use Rattle.modinfo_literals.specs.internal.Step.{close_brace, braced_step, unicode_step, octal_step}
+use Rattle.modinfo_literals.specs.internal.Step.{single_escape, common_step, string_escape_step}
+use Rattle.modinfo_literals.specs.internal.Step.{template_escape_step, string_step, template_step}
+use Rattle.modinfo_literals.proofs.Digits.{digits_of-first, AreDigits-digits_of, digits_of-drop}
+use Rattle.modinfo_literals.proofs.Digits.{digits_of-end, length-digits_of}
 
 -- the text begins with an element, which the step is over
 abbrev pub Found : (List ℕ → List ℕ → Option ℕ → Type 0) → List ℕ → Step → Type 0

@@ -1,77 +1,19 @@
 -- The steps over digits, by what the program reads.
-use Rattle.std.proofs.Common.{
-  ◌≡◌,
-  ℕ,
-  ◌+◌,
-  ◌*◌,
-  ◌<◌,
-  ◌≤◌,
-  ◌&&◌,
-  ◌||◌,
-  ◌==◌,
-  true,
-  false,
-  Option,
-  None,
-  List,
-  [],
-  ◌∷◌,
-  length,
-  drop,
-  min,
-  nat_lt,
-  nat_le,
-  cond,
-  not,
-  suc,
-  zero,
-  refl,
-  sym,
-  ap,
-  ◌∙◌,
-  arith,
-}
+use Rattle.std.proofs.Common.{◌≡◌, ℕ, ◌+◌, ◌*◌, ◌<◌, ◌≤◌, ◌&&◌, ◌||◌, ◌==◌, true, false, Option, None, List}
+use Rattle.std.proofs.Common.{[], ◌∷◌, length, drop, min, nat_lt, nat_le, cond, not, suc, zero, refl, sym, ap}
+use Rattle.std.proofs.Common.{◌∙◌, arith}
 use Rattle.std.specs.Char.{digit_value, is_digit}
 use Rattle.std.specs.Str.{chars, IsUtf8}
 use Rattle.std.proofs.lemmas.Str.{length-le-encodes, encodes-chars}
 use Rattle.std.proofs.Math.Nat.{min-eq_left}
-use Rattle.std.proofs.lemmas.Bool.{
-  ltb-true,
-  eq-eqb,
-  ne_eqb,
-  or_left,
-  or_right,
-  or_from,
-  and_left,
-  and_right,
-  and_from,
-  cond_both,
-  cond-true,
-  cond-false,
-  lt-ltb,
-  le-leb,
-  le-ltb,
-  lt-leb,
-}
+use Rattle.std.proofs.lemmas.Bool.{ltb-true, eq-eqb, ne_eqb, or_left, or_right, or_from, and_left, and_right}
+use Rattle.std.proofs.lemmas.Bool.{and_from, cond_both, cond-true, cond-false, lt-ltb, le-leb, le-ltb, lt-leb}
 use Rattle.modinfo_literals.specs.Escape.{AreDigits, begins_with, is_line_terminator, number}
-use Rattle.modinfo_literals.specs.internal.Step.{
-  Step,
-  stands_for,
-  digits_of,
-  hex_step,
-  close_brace,
-  braced_step,
-  unicode_step,
-  octal_step,
-  stands_for_nothing,
-  after_carriage_return,
-  single_escape,
-  common_step,
-  string_escape_step,
-  template_escape_step,
-  string_step,
-  template_step,
-}
+use Rattle.modinfo_literals.specs.internal.Step.{Step, stands_for, digits_of, hex_step, close_brace}
+use Rattle.modinfo_literals.specs.internal.Step.{braced_step, unicode_step, octal_step, stands_for_nothing}
+use Rattle.modinfo_literals.specs.internal.Step.{after_carriage_return, single_escape, common_step}
+use Rattle.modinfo_literals.specs.internal.Step.{string_escape_step, template_escape_step, string_step}
+use Rattle.modinfo_literals.specs.internal.Step.{template_step}
 use Rattle.modinfo_literals.proofs.Digits.{AreDigits-digits_of, length-digits_of}
 
 -- a number of at most four hexadecimal digits, and of at most three octal digits, is a code point

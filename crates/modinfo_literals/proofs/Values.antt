@@ -6,14 +6,8 @@ use Rattle.modinfo_literals.specs.Literal.{Consists, IsStringElement, Spells, Sp
 use Rattle.modinfo_literals.specs.declared.element.Form.TheVariants.{StringWith, Template}
 use Rattle.modinfo_literals.specs.internal.Step.{string_step, template_step}
 use Rattle.modinfo_literals.specs.internal.Read.{AreUnits}
-use Rattle.modinfo_literals.proofs.Chains.{
-  Walks,
-  Walks-unique,
-  string_walks,
-  template_walks,
-  string_step-quote,
-  template_step-nil,
-}
+use Rattle.modinfo_literals.proofs.Chains.{Walks, Walks-unique, string_walks, template_walks}
+use Rattle.modinfo_literals.proofs.Chains.{string_step-quote, template_step-nil}
 
 -- a part of a template
 module _ (slice end units : List ℕ) (read : AreUnits Template (chars slice) end units) where

@@ -1,23 +1,7 @@
 -- Whether a text is a string literal with a value, as a test: `Spells`, in a form that computes. The law
 -- `spelling_is_decided` says that the two agree.
-use Rattle.std.specs.Prelude.{
-  ℕ,
-  zero,
-  suc,
-  ◌==◌,
-  ◌&&◌,
-  ◌||◌,
-  Bool,
-  false,
-  Option,
-  Some,
-  None,
-  List,
-  [],
-  ◌∷◌,
-  length,
-  nat_eq,
-}
+use Rattle.std.specs.Prelude.{ℕ, zero, suc, ◌==◌, ◌&&◌, ◌||◌, Bool, false, Option, Some, None, List, [], ◌∷◌}
+use Rattle.std.specs.Prelude.{length, nat_eq}
 use Rattle.std.specs.Cmp.Lexicographic.{pointwise}
 use Rattle.std.specs.Str.{chars}
 use Rattle.modinfo_literals.specs.Literal.{string_of}

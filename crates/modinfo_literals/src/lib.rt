@@ -6,8 +6,6 @@ mod element;
 mod escape;
 pub mod laws;
 mod plain;
-#[cfg(test)]
-mod tests;
 mod text;
 mod value;
 

@@ -21,6 +21,7 @@ mod objects;
 mod parentheses;
 mod primary;
 mod program;
+mod specifiers;
 mod statements;
 mod subscripts;
 mod sums;

@@ -10,9 +10,16 @@ use std::alloc::Global;
 /// The message of the error of a text that nests too deep.
 const TOO_DEEP: &str = "the text nests too deep";
 
-/// The largest number of tries inside one another. A try that fails is read again, so each may double what
-/// the text inside it costs.
-const MAX_TRIES: usize = 8;
+/// The message of the error of a text that could be read in two ways at too many places inside one another.
+const TOO_MANY_TRIES: &str =
+    "the text nests too deep in arrow functions or type arguments that could be something else";
+
+/// The largest number of tries inside one another. A try that fails is read again.
+const MAX_TRIES: usize = 32;
+
+/// The depth from which on a try that gets too deep is one that failed. Where less is left, other ways to
+/// read the text nest too deep as well.
+const DEPTH_OF_TRIES: usize = 200;
 
 /// The result of a function of the grammar.
 pub(crate) type Parsed<T> = Result<T, ReadError>;
@@ -88,10 +95,30 @@ pub(crate) enum Form {
     Template,
     /// `left + right`, whose operands are nodes.
     Sum,
+    Array,
     Object,
+    /// `target = value`, where the target may be a pattern.
+    Assigned,
     /// An arrow function, after which no operator may follow.
     Arrow,
+    /// Operands with operators, which nothing can be assigned to.
+    Operation,
     Other,
+}
+
+impl Form {
+    /// Returns whether the expression may be an element of a pattern, if what is in it may.
+    pub(crate) fn may_be_pattern(self) -> bool {
+        matches!(
+            self,
+            Form::Identifier | Form::Require | Form::Array | Form::Object | Form::Assigned
+        )
+    }
+
+    /// Returns whether an assignment operator may follow the expression.
+    pub(crate) fn may_be_target(self) -> bool {
+        !matches!(self, Form::Sum | Form::Arrow | Form::Operation)
+    }
 }
 
 /// An operand that was read.
@@ -124,6 +151,8 @@ pub(crate) struct State {
     lexer: Mark,
     nodes: usize,
     context: Context,
+    no_pattern: usize,
+    no_parameter: usize,
 }
 
 /// Reads a text by the grammar of its language, and collects the nodes that the analysis reads.
@@ -138,6 +167,11 @@ pub(crate) struct Parser<'a> {
     /// Whether the `:` of the conditional around the current token and what follows the `:` were read with
     /// the expression between `?` and `:`.
     pub(crate) has_read_conditional: bool,
+    /// Offset after the start of the last element that no pattern may have, or zero.
+    pub(crate) no_pattern: usize,
+    /// Offset after the start of the last `await` or `yield` of the function around the current token, or
+    /// zero. No parameter may have one.
+    pub(crate) no_parameter: usize,
     /// The number of tries around the current token.
     tries: usize,
     /// Offsets at which a try to read an arrow function or type arguments has failed, ascending.
@@ -154,18 +188,23 @@ impl<'a> Parser<'a> {
             nodes: Vec::new(alloc),
             turns: text.len().saturating_add(2),
             has_read_conditional: false,
+            no_pattern: 0,
+            no_parameter: 0,
             tries: 0,
             failed: Vec::new(alloc),
         })
     }
 
-    /// Returns the nodes and the comments of the text that was read.
+    /// Returns the nodes, the comments and the choices of the text that was read.
     pub(crate) fn into_syntax(self) -> Syntax {
         let Parser { lexer, nodes, .. } = self;
+        let has_hashbang = lexer.has_hashbang();
+        let (comments, choices) = lexer.into_parts();
         Syntax {
-            has_hashbang: lexer.has_hashbang(),
-            comments: lexer.into_comments(),
             nodes,
+            comments,
+            choices,
+            has_hashbang,
         }
     }
 
@@ -262,6 +301,21 @@ impl<'a> Parser<'a> {
         ReadError::syntax(TOO_DEEP, self.start())
     }
 
+    /// Returns the error of an `await` or a `yield` in parameters.
+    #[cold]
+    pub(crate) fn error_in_parameters(&self) -> ReadError {
+        ReadError::syntax(
+            "`await` and `yield` can't be in parameters",
+            self.no_parameter.saturating_sub(1),
+        )
+    }
+
+    /// Keeps that an element which begins at an offset can't be in a pattern.
+    #[inline(always)]
+    pub(crate) fn keep_no_pattern(&mut self, start: usize) {
+        self.no_pattern = start.saturating_add(1);
+    }
+
     /// Adds a node around the nodes from the index `first` on, from an offset to the end of the last
     /// token.
     pub(crate) fn push(&mut self, shape: Shape, first: usize, start: usize) -> Parsed<()> {
@@ -282,7 +336,7 @@ impl<'a> Parser<'a> {
             Form::Template => Shape::Template,
             Form::Sum => Shape::Sum,
             Form::Object => Shape::Object,
-            Form::Identifier | Form::Require | Form::Arrow | Form::Other => Shape::Other,
+            _ => Shape::Other,
         };
         self.push(shape, first, start)
     }
@@ -293,6 +347,8 @@ impl<'a> Parser<'a> {
             lexer: self.lexer.mark(),
             nodes: self.nodes.len(),
             context: self.context,
+            no_pattern: self.no_pattern,
+            no_parameter: self.no_parameter,
         }
     }
 
@@ -301,6 +357,8 @@ impl<'a> Parser<'a> {
         self.lexer.reset(state.lexer);
         self.nodes.truncate(state.nodes);
         self.context = state.context;
+        self.no_pattern = state.no_pattern;
+        self.no_parameter = state.no_parameter;
         self.has_read_conditional = false;
     }
 
@@ -321,21 +379,25 @@ impl<'a> Parser<'a> {
     /// Begins a try at the current token. Returns the state to which the try goes back if it fails.
     pub(crate) fn begin_try(&mut self) -> Parsed<State> {
         if self.tries >= MAX_TRIES {
-            return Err(self.too_deep());
+            return Err(self.error(TOO_MANY_TRIES));
         }
         self.tries = self.tries.saturating_add(1);
         Ok(self.state())
     }
 
-    /// Ends a try that began in a state. If it returned false or a syntax error, goes back to that
-    /// state and keeps that the try fails there. Returns whether it succeeded. A text that nests too deep
-    /// isn't tried another way.
-    pub(crate) fn end_try(&mut self, state: State, tried: Parsed<bool>) -> Parsed<bool> {
+    /// Ends a try that began in a state, with `depth` left. If it returned false or a syntax error, goes
+    /// back to that state and keeps that the try fails there. Returns whether it succeeded.
+    pub(crate) fn end_try(
+        &mut self,
+        depth: usize,
+        state: State,
+        tried: Parsed<bool>,
+    ) -> Parsed<bool> {
         self.tries = self.tries.saturating_sub(1);
         match tried {
             Ok(true) => Ok(true),
             Err(ReadError::OutOfMemory) => Err(ReadError::OutOfMemory),
-            Err(ReadError::Syntax(error)) if error.message == TOO_DEEP => {
+            Err(ReadError::Syntax(error)) if is_limit(error.message, depth) => {
                 Err(ReadError::Syntax(error))
             }
             Ok(false) | Err(ReadError::Syntax(_)) => {
@@ -354,4 +416,10 @@ impl<'a> Parser<'a> {
             Err(index) => Ok(self.failed.insert(index, at)?),
         }
     }
+}
+
+/// Returns whether an error in a try, which began with `depth` left, is that of a limit beyond which the text
+/// isn't tried another way.
+pub(crate) fn is_limit(message: &str, depth: usize) -> bool {
+    message == TOO_MANY_TRIES || message == TOO_DEEP && depth < DEPTH_OF_TRIES
 }

@@ -6,6 +6,7 @@ use crate::shape::FlatNode;
 use deno_graph_source::tree::MediaType;
 use modinfo_lexer::comments::FiledComment;
 use modinfo_lexer::syntax_error::ReadError;
+use modinfo_pieces::choice::Choice;
 use std::alloc::Global;
 
 /// The deepest nesting that is read: how many functions of the grammar may be inside one another.
@@ -18,6 +19,8 @@ pub struct Syntax {
     pub nodes: Vec<FlatNode>,
     /// The comments, in the order of the text.
     pub comments: Vec<FiledComment>,
+    /// What the parser has decided where the bytes don't, in the order of the text.
+    pub choices: Vec<Choice>,
     /// Whether the text begins with a `#!` line.
     pub has_hashbang: bool,
 }

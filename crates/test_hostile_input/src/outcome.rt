@@ -64,7 +64,7 @@ impl Outcome {
     }
 }
 
-/// Whether the report on a document has the outcome with this index and name.
+/// Returns whether the report on a document has the outcome with this index and name.
 fn reports(
     alloc: Global,
     form: Form,
@@ -85,7 +85,7 @@ fn reports(
     Ok(is_status && errors.is_empty() && output.as_slice().starts_with(expected.as_bytes()))
 }
 
-/// Whether the output is one line with an object.
+/// Returns whether the output is one line with an object.
 fn is_line(output: &[u8]) -> bool {
     output.starts_with(b"{") && output.ends_with(b"}\n")
 }

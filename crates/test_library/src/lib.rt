@@ -6,6 +6,8 @@
 #[cfg(test)]
 pub mod facades;
 #[cfg(test)]
+mod literals;
+#[cfg(test)]
 mod parser;
 #[cfg(test)]
 mod program;

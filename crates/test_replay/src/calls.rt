@@ -25,6 +25,7 @@ pub fn answer_of(alloc: Global, words: &[&str], input: &[u8]) -> Result<String, 
     };
     match *name {
         "serve" => serve::serve(alloc, words, input),
+        "both" => serve::both(alloc, words, input),
         "beginnings" => serve::beginnings(alloc, words, input),
         "from_specifier" => specifiers::from_specifier(alloc, text_of(input)?),
         name => of_json(alloc, name, words, input),

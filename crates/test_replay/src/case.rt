@@ -39,7 +39,7 @@ impl<'a> Case<'a> {
             "input-from" => self.read_input_from(rt, rest),
             "bytes" => self.read_hexadecimal(rt.alloc(), rest),
             "status" => self.read_status(rest),
-            "output" | "errors" | "answer" => self.read_answer(word, rest),
+            "output" | "errors" | "report" | "answer" => self.read_answer(word, rest),
             "output-from" => self.read_lines_from(rt, "output", rest),
             "answer-from" => self.read_lines_from(rt, "answer", rest),
             _ => Err(CaseError::Invalid("a line of it begins with no word of a test case")),
@@ -51,7 +51,7 @@ impl<'a> Case<'a> {
             self.words.push(word)?;
         }
         match self.words.first() {
-            Some(name) if *name == "serve" || *name == "beginnings" => self.read_status("0"),
+            Some(name) if matches!(*name, "serve" | "both" | "beginnings") => self.read_status("0"),
             _ => Ok(()),
         }
     }

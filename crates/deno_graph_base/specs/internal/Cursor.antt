@@ -1,21 +1,6 @@
 -- Cursors, and the checkpoints of a text.
-use Rattle.std.specs.Prelude.{
-  ◌≡◌,
-  ◌+◌,
-  ◌<◌,
-  ◌≤◌,
-  ◌⊎◌,
-  ◌==◌,
-  ◌||◌,
-  ◌&&◌,
-  ℕ,
-  Bool,
-  List,
-  All,
-  Any,
-  length,
-  nat_lt,
-}
+use Rattle.std.specs.Prelude.{◌≡◌, ◌+◌, ◌<◌, ◌≤◌, ◌⊎◌, ◌==◌, ◌||◌, ◌&&◌, ℕ, Bool, List, All, Any, length}
+use Rattle.std.specs.Prelude.{nat_lt}
 use Rattle.std.specs.List.Sorted.{IsNonDecreasingBy}
 use Rattle.std.specs.Str.{IsCharBoundary}
 use Rattle.deno_graph_base.specs.Position.{position_at}

@@ -1,30 +1,6 @@
 -- The stack of a walk: the entered nodes that are not left yet, and the paths still to come.
-use Rattle.std.specs.Prelude.{
-  ◌≡◌,
-  ◌⊎◌,
-  ℕ,
-  suc,
-  ◌+◌,
-  ◌-◌,
-  ◌^◌,
-  min,
-  Contains,
-  List,
-  [],
-  ◌∷◌,
-  ◌++◌,
-  length,
-  map,
-  Bool,
-  not,
-  ◌&&◌,
-  cond,
-  Option,
-  Some,
-  None,
-  true,
-  false,
-}
+use Rattle.std.specs.Prelude.{◌≡◌, ◌⊎◌, ℕ, suc, ◌+◌, ◌-◌, ◌^◌, min, Contains, List, [], ◌∷◌, ◌++◌, length}
+use Rattle.std.specs.Prelude.{map, Bool, not, ◌&&◌, cond, Option, Some, None, true, false}
 use Rattle.std.specs.Borrow.{Bor}
 use Rattle.deno_graph_source.specs.declared.tree.node.Node.{Node}
 use Rattle.deno_graph_dep.specs.DependencyRules.{children_to_visit, dependency_rules}

@@ -9,9 +9,7 @@ use Rattle.deno_graph_jsdoc.specs.JsDocGrammar.{IsSecond, AreAttributes, ends_id
 use Rattle.deno_graph_jsdoc.specs.JsDocImport.{Import, Mode, BeginsWithImport, EndsDeclaration}
 use Rattle.deno_graph_jsdoc.specs.JsDocImport.{EndsDynamicImport, import_of}
 use Rattle.deno_graph_jsdoc.specs.declared.import.JsDocImport.{JsDocImport}
-use Rattle.deno_graph_base.specs.declared.values.resolution_mode.TypeScriptTypesResolutionMode.{
-  TypeScriptTypesResolutionMode,
-}
+use Rattle.deno_graph_base.specs.declared.values.resolution_mode.TypeScriptTypesResolutionMode.{TypeScriptTypesResolutionMode}
 
 -- the text begins with an Alphabetic character, as an identifier does
 abbrev pub begins_ident : List ℕ → Bool

@@ -5,18 +5,12 @@ use Rattle.deno_graph_source.specs.declared.tree.comments.DependencyComment.{Dep
 use Rattle.deno_graph_info.specs.declared.analysis.specifier_with_range.SpecifierWithRange.{SpecifierWithRange}
 use Rattle.deno_graph_pragmas.specs.Split.{TextPart, IsCaptured, IsSliceOf, IsInQuotes}
 use Rattle.deno_graph_module_info.specs.declared.head_pragmas.HeadPragma.{HeadPragma}
-use Rattle.deno_graph_module_info.specs.declared.head_pragmas.HeadPragma.TheVariants.{
-  TsSelfTypes,
-  JsxImportSource,
-  JsxImportSourceTypes,
-}
+use Rattle.deno_graph_module_info.specs.declared.head_pragmas.HeadPragma.TheVariants.{TsSelfTypes}
+use Rattle.deno_graph_module_info.specs.declared.head_pragmas.HeadPragma.TheVariants.{JsxImportSource}
+use Rattle.deno_graph_module_info.specs.declared.head_pragmas.HeadPragma.TheVariants.{JsxImportSourceTypes}
 use Rattle.deno_graph_module_info.specs.Spelled.{CoversBare, CoversQuoted}
-use Rattle.deno_graph_module_info.specs.Pragma.{
-  Pragma,
-  self_types_pragma,
-  jsx_import_source_pragma,
-  jsx_import_source_types_pragma,
-}
+use Rattle.deno_graph_module_info.specs.Pragma.{Pragma, self_types_pragma, jsx_import_source_pragma}
+use Rattle.deno_graph_module_info.specs.Pragma.{jsx_import_source_types_pragma}
 
 -- the range covers the specifier in the source, with its quotes if it is quoted
 abbrev pub Covers : List ℕ → Bool → SpecifierWithRange → Type 0

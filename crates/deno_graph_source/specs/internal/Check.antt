@@ -1,24 +1,6 @@
 -- The results of the checks of a source: `Ok` or `None` without a fault, and else a fault.
-use Rattle.std.specs.Prelude.{
-  ◌≡◌,
-  ◌≢◌,
-  ℕ,
-  ◌+◌,
-  ◌<◌,
-  ◌≤◌,
-  List,
-  Any,
-  All,
-  ◌⊎◌,
-  length,
-  slice_get,
-  slice_index_or,
-  IsSomeAnd,
-  Option,
-  MatchOption,
-  Result,
-  MatchResult,
-}
+use Rattle.std.specs.Prelude.{◌≡◌, ◌≢◌, ℕ, ◌+◌, ◌<◌, ◌≤◌, List, Any, All, ◌⊎◌, length, slice_get}
+use Rattle.std.specs.Prelude.{slice_index_or, IsSomeAnd, Option, MatchOption, Result, MatchResult}
 use Rattle.std.specs.Borrow.{Bor}
 use Rattle.std.specs.List.{AllAdjacentBelow}
 use Rattle.std.specs.Option.{option_to_list}

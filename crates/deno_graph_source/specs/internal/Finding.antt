@@ -4,12 +4,10 @@ use Rattle.deno_graph_source.specs.Comments.{FiledComments, comments_of}
 use Rattle.deno_graph_source.specs.FaultPlace.{RangeHas, CommentHas, PartHas, Overlap, comment_at}
 use Rattle.deno_graph_source.specs.NodePath.{node_below, LeadsTo}
 use Rattle.deno_graph_source.specs.declared.tree.check.finding.Finding.{Finding}
-use Rattle.deno_graph_source.specs.declared.tree.check.finding.Finding.TheVariants.{
-  Program as ProgramFinding,
-  Node as TreeFinding,
-  Comment as TextFinding,
-  Overlap as OverlapFinding,
-}
+use Rattle.deno_graph_source.specs.declared.tree.check.finding.Finding.TheVariants.{Program as ProgramFinding}
+use Rattle.deno_graph_source.specs.declared.tree.check.finding.Finding.TheVariants.{Node as TreeFinding}
+use Rattle.deno_graph_source.specs.declared.tree.check.finding.Finding.TheVariants.{Comment as TextFinding}
+use Rattle.deno_graph_source.specs.declared.tree.check.finding.Finding.TheVariants.{Overlap as OverlapFinding}
 use Rattle.deno_graph_source.specs.declared.tree.check.finding.CommentFinding.{CommentFinding}
 use Rattle.deno_graph_source.specs.declared.tree.check.finding.NodeFinding.{NodeFinding}
 use Rattle.deno_graph_source.specs.declared.tree.comments.DependencyComment.{DependencyComment}
@@ -17,12 +15,10 @@ use Rattle.deno_graph_source.specs.declared.tree.fault.SourceFault.{SourceFault}
 use Rattle.deno_graph_source.specs.declared.tree.fault.SourceFault.TheVariants.{CommentsOverlap}
 use Rattle.deno_graph_source.specs.declared.tree.comments.CommentPlace.{CommentPlace}
 use Rattle.deno_graph_source.specs.declared.tree.fault_place.FaultPlace.{FaultPlace}
-use Rattle.deno_graph_source.specs.declared.tree.fault_place.FaultPlace.TheVariants.{
-  Program as AtProgram,
-  Node as AtNode,
-  Comment as AtComment,
-  Comments as AtComments,
-}
+use Rattle.deno_graph_source.specs.declared.tree.fault_place.FaultPlace.TheVariants.{Program as AtProgram}
+use Rattle.deno_graph_source.specs.declared.tree.fault_place.FaultPlace.TheVariants.{Node as AtNode}
+use Rattle.deno_graph_source.specs.declared.tree.fault_place.FaultPlace.TheVariants.{Comment as AtComment}
+use Rattle.deno_graph_source.specs.declared.tree.fault_place.FaultPlace.TheVariants.{Comments as AtComments}
 use Rattle.deno_graph_source.specs.declared.tree.node.Node.{Node}
 use Rattle.deno_graph_source.specs.declared.tree.node.Program.{Program}
 

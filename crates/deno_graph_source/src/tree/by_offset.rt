@@ -145,7 +145,8 @@ fn add_item<T: Drop>(
     if let Some(items) = map.get_mut(&pos) {
         return items.push(item);
     }
-    let mut items = Items::new(alloc);
+    // Nearly every offset has one item.
+    let mut items = Items::with_capacity(alloc, 1)?;
     items.push(item)?;
     drop(map.insert(pos, items)?);
     Ok(())

@@ -65,7 +65,7 @@ fn first_overflow(
     Ok(None)
 }
 
-/// Whether the types that the comments of a dependency name would end after the largest column.
+/// Returns whether the types that the comments of a dependency name would end after the largest column.
 fn overflows(alloc: Global, dependency: Element<'_>) -> Result<bool, AllocError>
     ensures { IfOk result
         (λ overflows. IsTrue overflows ↔ DependencyOverflows (data_of dependency.entry)) }

@@ -1,12 +1,13 @@
 //! Checking documents of `analyze --source`.
 
-ghost use Rattle.std.specs.Prelude.{◌≡◌, IfOk, IsSomeAnd};
+ghost use Rattle.std.specs.Prelude.{◌≡◌, ◌≢◌, ◌++◌, ℕ, List, codes, IfOk, IsSomeAnd, MatchOption};
 ghost use Rattle.std.specs.Rc.{rc_str_bytes};
 ghost use Rattle.std.specs.String.{string_bytes};
 ghost use Rattle.deno_graph_base.specs.Position.{HasPosition};
 ghost use Rattle.deno_graph_json.specs.Data.{data_of};
 ghost use Rattle.modinfo_document.specs.Report.{HasNoWarnings, IsNamed};
-ghost use Rattle.modinfo.specs.Check.{HasParsedText, HasSyntaxPlace, IsSourceFaultReport, IsTextFaultReport, OfReport, ReportsOnText};
+ghost use Rattle.modinfo.specs.Check.{HasParsedText, HasSyntaxPlace, IsExpectedBy, IsSourceFaultReport};
+ghost use Rattle.modinfo.specs.Check.{IsTextFaultReport, OfReport, ReportsOnText};
 ghost use Rattle.modinfo.specs.Fault.{name_of_fault};
 ghost use Rattle.modinfo.specs.Source.{IsSourceDocument};
 
@@ -74,8 +75,8 @@ pub fn check_text(alloc: Global, text: SourceText) -> Result<Report, AllocError>
     }
 }
 
-/// The report on a syntax error. The message of the parser is what is expected. The place has the parser's
-/// position, and that position's offset in the source text. The only error is a failed allocation.
+/// Returns the report on a syntax error: what the message of the parser expects, its position, and the offset
+/// of that position in the source text. The only error is a failed allocation.
 fn syntax_report(
     alloc: Global,
     source: RcStr,
@@ -86,11 +87,12 @@ fn syntax_report(
     ensures place { IfOk result (HasSyntaxPlace (rc_str_bytes source)) }
     ensures position { IfOk result (λ report. IsSomeAnd report.at
         (λ at. at.position ≡ diagnostic.now.position)) }
-    ensures expected { IfOk result (λ report. string_bytes report.expected ≡ diagnostic.now.message) }
+    ensures expected { IfOk result (λ report.
+        IsExpectedBy diagnostic.now.message (string_bytes report.expected)) }
 {
     let fault = String::from_str(alloc, Fault::Syntax.name())?;
     let pointer = String::from_str(alloc, "/source")?;
-    let expected = String::from_str(alloc, diagnostic.message.as_str())?;
+    let expected = expected_by(alloc, diagnostic.message.as_str())?;
     let mut report = FaultReport::of_value(fault, pointer, expected);
     let text = SourceTextInfo::new(alloc, source)?;
     let position = diagnostic.position;
@@ -98,4 +100,28 @@ fn syntax_report(
         .as_source_pos(&text)
         .map(|offset| TextPlace { position, offset });
     Ok(report)
+}
+
+/// Returns what is expected, as a noun phrase, by a message of the parser: what follows `expected ` in the
+/// message, else valid syntax, with the message. The only error is a failed allocation.
+fn expected_by(alloc: Global, message: &str) -> Result<String, AllocError>
+    ensures { IfOk result (λ expected. IsExpectedBy message.now (string_bytes expected)) }
+{
+    match after_expected(message) {
+        Some(expected) => String::from_str(alloc, expected),
+        None => {
+            let mut expected = String::from_str(alloc, "valid syntax: ")?;
+            expected.push_str(message)?;
+            Ok(expected)
+        }
+    }
+}
+
+/// Returns what follows `expected ` in a message. `None` where the message doesn't begin with that.
+fn after_expected(message: &str) -> Option<&str>
+    ensures { MatchOption result
+        ((expected : List ℕ) → message.now ≢ codes "expected " ++ expected)
+        (λ expected. message.now ≡ codes "expected " ++ expected.now) }
+{
+    message.strip_prefix("expected ")
 }

@@ -1,6 +1,6 @@
 -- The first element of a text, as the code finds it.
-use Rattle.std.specs.Prelude.{ℕ, ◌==◌, ◌&&◌, ◌||◌, not, if◌then◌else◌, nat_le, nat_lt}
-use Rattle.std.specs.Prelude.{Option, Some, None, List, [], ◌∷◌, length, drop, zero, suc}
+use Rattle.std.specs.Prelude.{ℕ, ◌==◌, ◌&&◌, ◌||◌, not, if◌then◌else◌, nat_le, nat_lt, Option, Some, None}
+use Rattle.std.specs.Prelude.{List, [], ◌∷◌, length, drop, zero, suc}
 use Rattle.std.specs.Char.{is_digit}
 use Rattle.modinfo_literals.specs.Escape.{begins_with, number, is_line_terminator}
 

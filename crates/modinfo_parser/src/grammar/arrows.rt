@@ -13,9 +13,11 @@ impl<'a> Parser<'a> {
         }
         self.next()?;
         let context = self.context;
+        let no_parameter = self.no_parameter;
         self.context = context.in_function(is_async, false);
         let result = self.body_of_arrow(depth - 1);
         self.context = context;
+        self.no_parameter = no_parameter;
         result?;
         Ok(Form::Arrow)
     }
@@ -77,7 +79,7 @@ impl<'a> Parser<'a> {
         }
         let state = self.begin_try()?;
         let result = self.type_parameters_before_parenthesis(depth - 1);
-        self.end_try(state, result)
+        self.end_try(depth, state, result)
     }
 
     /// Type parameters, and `async` before them. Returns whether `(` follows them.

@@ -2,6 +2,7 @@
 
 use crate::parser::{Parsed, Parser};
 use crate::shape::Shape;
+use modinfo_lexer::syntax_error::ReadError;
 use modinfo_lexer::token::TokenKind;
 
 impl<'a> Parser<'a> {
@@ -11,13 +12,19 @@ impl<'a> Parser<'a> {
         if depth == 0 {
             return Err(self.too_deep());
         }
-        let kind = self.kind();
-        match kind {
+        let start = self.start();
+        match self.kind() {
             TokenKind::BracketOpen => self.array(depth - 1)?,
             TokenKind::BraceOpen => self.object(depth - 1)?,
             TokenKind::This if self.language.is_typescript => return self.next(),
             _ => return self.bound_name(),
         };
+        if self.no_pattern > start {
+            return Err(ReadError::syntax(
+                "expected a name or a pattern",
+                self.no_pattern.saturating_sub(1),
+            ));
+        }
         Ok(())
     }
 

@@ -13,14 +13,8 @@ impl<'a> Parser<'a> {
         }
         match self.kind() {
             TokenKind::Var | TokenKind::Const => return self.variable_statement(depth - 1),
-            TokenKind::Function => {
-                self.function_expression(depth - 1, false)?;
-                return Ok(());
-            }
-            TokenKind::Class => {
-                self.class_expression(depth - 1)?;
-                return Ok(());
-            }
+            TokenKind::Function => return self.function_declaration(depth - 1, false),
+            TokenKind::Class => return self.class_declaration(depth - 1),
             TokenKind::Let if self.is_let_declaration()? => {
                 return self.variable_statement(depth - 1);
             }
@@ -29,8 +23,7 @@ impl<'a> Parser<'a> {
             }
             TokenKind::Async if self.is_async_function()? => {
                 self.next()?;
-                self.function_expression(depth - 1, true)?;
-                return Ok(());
+                return self.function_declaration(depth - 1, true);
             }
             TokenKind::Await if self.eat_await_using()? => {
                 self.variables(depth - 1)?;
@@ -60,7 +53,7 @@ impl<'a> Parser<'a> {
 
     /// A class or an export after decorators.
     #[cycle(grammar)]
-    pub(crate) fn decorated_statement(&mut self, depth: usize) -> Parsed<Item> {
+    pub(crate) fn decorated_item(&mut self, depth: usize) -> Parsed<Item> {
         if depth == 0 {
             return Err(self.too_deep());
         }
@@ -70,6 +63,26 @@ impl<'a> Parser<'a> {
         if self.at(TokenKind::Export) {
             return self.export_from(depth - 1, first, start);
         }
+        self.class_after_decorators(depth - 1)?;
+        Ok(Item::Plain)
+    }
+
+    /// A class with decorators, as a statement.
+    #[cycle(grammar)]
+    pub(crate) fn decorated_class_declaration(&mut self, depth: usize) -> Parsed<()> {
+        if depth == 0 {
+            return Err(self.too_deep());
+        }
+        self.decorators(depth - 1)?;
+        self.class_after_decorators(depth - 1)
+    }
+
+    /// The class after decorators of a statement.
+    #[cycle(grammar)]
+    fn class_after_decorators(&mut self, depth: usize) -> Parsed<()> {
+        if depth == 0 {
+            return Err(self.too_deep());
+        }
         if self.language.is_typescript {
             self.eat(TokenKind::Declare)?;
             self.eat(TokenKind::Abstract)?;
@@ -77,7 +90,35 @@ impl<'a> Parser<'a> {
         if !self.at(TokenKind::Class) {
             return Err(self.error("expected a class after the decorators"));
         }
+        self.class_declaration(depth - 1)
+    }
+
+    /// `class` with its name.
+    #[cycle(grammar)]
+    pub(crate) fn class_declaration(&mut self, depth: usize) -> Parsed<()> {
+        if depth == 0 {
+            return Err(self.too_deep());
+        }
+        if !self.peek()?.kind.is_identifier() {
+            self.next()?;
+            return Err(self.error("expected the name of the class"));
+        }
         self.class_expression(depth - 1)?;
-        Ok(Item::Plain)
+        Ok(())
+    }
+
+    /// `function` with its name.
+    #[cycle(grammar)]
+    fn function_declaration(&mut self, depth: usize, is_async: bool) -> Parsed<()> {
+        if depth == 0 {
+            return Err(self.too_deep());
+        }
+        self.next()?;
+        let is_generator = self.eat(TokenKind::Star)?;
+        if !self.kind().is_identifier() {
+            return Err(self.error("expected the name of the function"));
+        }
+        self.next()?;
+        self.method(depth - 1, is_async, is_generator)
     }
 }

@@ -1,8 +1,9 @@
 //! Exports.
 
-use crate::grammar::statements::Item;
+use crate::grammar::statements::{Item, may_begin_typed};
 use crate::parser::{Parsed, Parser};
 use crate::shape::Shape;
+use modinfo_lexer::syntax_error::ReadError;
 use modinfo_lexer::token::TokenKind;
 
 impl<'a> Parser<'a> {
@@ -74,7 +75,7 @@ impl<'a> Parser<'a> {
         self.next()?;
         let has_name = self.eat(TokenKind::As)?;
         if has_name {
-            self.exported_name()?;
+            self.name_or_string("expected a name after `as`")?;
         }
         self.expect(TokenKind::From, "expected `from` in the export")?;
         let src = self.string("expected the specifier of the export, a string")?;
@@ -96,25 +97,17 @@ impl<'a> Parser<'a> {
         self.push(shape, first, start)
     }
 
-    /// A name that is exported: a word or a string.
-    fn exported_name(&mut self) -> Parsed<()> {
-        let kind = self.kind();
-        if kind.is_name() || kind == TokenKind::String {
-            self.next()
-        } else {
-            Err(self.error("expected the name of the export"))
-        }
-    }
-
     /// Names in braces, with a source if there is one. Adds the node of the export.
     fn export_names(&mut self, start: usize, type_only: bool) -> Parsed<()> {
         let first = self.nodes.len();
-        self.specifiers()?;
+        let foreign_name = self.exported_specifiers()?;
         let mut src = None;
         let mut has_with = false;
         if self.eat(TokenKind::From)? {
             src = Some(self.string("expected the specifier of the export, a string")?);
             has_with = self.attributes()?;
+        } else if let Some(offset) = foreign_name {
+            return Err(ReadError::syntax("expected a name that a variable may have", offset));
         }
         self.semicolon()?;
         let shape = Shape::NamedExport {
@@ -151,12 +144,12 @@ impl<'a> Parser<'a> {
             return Err(self.too_deep());
         }
         match self.kind() {
-            TokenKind::Function => self.function_expression(depth - 1, false)?,
+            TokenKind::Function => return self.function(depth - 1, false),
             TokenKind::Class => self.class_expression(depth - 1)?,
             TokenKind::At => self.decorated_class(depth - 1)?,
             TokenKind::Async if self.is_async_function()? => {
                 self.next()?;
-                self.function_expression(depth - 1, true)?
+                return self.function(depth - 1, true);
             }
             TokenKind::Abstract | TokenKind::Interface if self.language.is_typescript => {
                 return self.default_of_typescript(depth - 1);
@@ -191,24 +184,27 @@ impl<'a> Parser<'a> {
             return Err(self.too_deep());
         }
         match self.kind() {
+            TokenKind::At => self.decorated_class_declaration(depth - 1),
+            TokenKind::Declare if self.is_declared_import()? => {
+                self.module_item(depth - 1)?;
+                Ok(())
+            }
             TokenKind::Var
             | TokenKind::Let
             | TokenKind::Const
             | TokenKind::Using
             | TokenKind::Await
             | TokenKind::Function
-            | TokenKind::Async
-            | TokenKind::Class
-            | TokenKind::At
-            | TokenKind::Enum
-            | TokenKind::Abstract
-            | TokenKind::Declare
-            | TokenKind::Interface
-            | TokenKind::Module
-            | TokenKind::Namespace
-            | TokenKind::Type
-            | TokenKind::Global => {
+            | TokenKind::Class => {
                 self.statement(depth - 1)?;
+                Ok(())
+            }
+            TokenKind::Async if self.is_async_function()? => {
+                self.statement(depth - 1)?;
+                Ok(())
+            }
+            kind if self.language.is_typescript && may_begin_typed(kind) => {
+                self.typed_declaration(depth - 1)?;
                 Ok(())
             }
             _ => Err(self.error("expected a declaration after `export`")),

@@ -2,7 +2,9 @@
 
 use crate::parser::{Form, Operand, Parsed, Parser};
 use crate::shape::Shape;
-use modinfo_lexer::token::TokenKind;
+use modinfo_lexer::characters::byte_at;
+use modinfo_lexer::syntax_error::ReadError;
+use modinfo_lexer::token::{Token, TokenKind};
 
 impl<'a> Parser<'a> {
     /// Expressions with commas between them.
@@ -43,12 +45,40 @@ impl<'a> Parser<'a> {
         if depth == 0 {
             return Err(self.too_deep());
         }
+        if let Some(form) = self.lone_operand()? {
+            return Ok(form);
+        }
         let form = self.assignment_operand(depth - 1)?;
         let kind = self.kind();
         if form == Form::Arrow || !(kind == TokenKind::Question || kind.is_assignment()) {
             return Ok(form);
         }
-        self.rest_of_assignment(depth - 1)
+        if kind == TokenKind::Question && self.is_optional_mark()? {
+            return Ok(form);
+        }
+        self.expect_target(form)?;
+        if kind != TokenKind::Equal || !form.may_be_pattern() {
+            return self.rest_of_assignment(depth - 1);
+        }
+        let no_pattern = self.no_pattern;
+        self.rest_of_assignment(depth - 1)?;
+        self.no_pattern = no_pattern;
+        Ok(Form::Assigned)
+    }
+
+    /// An operand of one token that a delimiter follows. Returns `None`, and stays at the current token,
+    /// where there is none.
+    #[inline(always)]
+    fn lone_operand(&mut self) -> Parsed<Option<Form>> {
+        let token = self.token();
+        if !is_delimiter(byte_at(self.lexer.text().as_bytes(), token.end)) {
+            return Ok(None);
+        }
+        let form = form_of_token(token);
+        if form.is_some() {
+            self.next()?;
+        }
+        Ok(form)
     }
 
     /// The rest of assignments and conditionals after their first operand.
@@ -77,11 +107,22 @@ impl<'a> Parser<'a> {
             } else {
                 break;
             }
-            if self.assignment_operand(depth - 1)? == Form::Arrow {
+            let form = self.assignment_operand(depth - 1)?;
+            if form == Form::Arrow {
                 break;
             }
+            self.expect_target(form)?;
         }
-        Ok(Form::Other)
+        Ok(Form::Operation)
+    }
+
+    /// Returns an error at an assignment operator after an expression to which nothing can be assigned.
+    fn expect_target(&self, form: Form) -> Parsed<()> {
+        if self.kind().is_assignment() && !form.may_be_target() {
+            Err(self.error("nothing can be assigned to an operation"))
+        } else {
+            Ok(())
+        }
     }
 
     /// Returns whether the current `?` marks a parameter of TypeScript that may be left out.
@@ -121,7 +162,11 @@ impl<'a> Parser<'a> {
         if self.context.keeps_values {
             return self.sum(depth - 1);
         }
-        let form = self.unary(depth - 1)?;
+        let form = if begins_without_prefix(self.kind()) {
+            self.postfix(depth - 1)?
+        } else {
+            self.unary(depth - 1)?
+        };
         if form == Form::Arrow || !self.at_binary_operator() {
             return Ok(form);
         }
@@ -134,18 +179,21 @@ impl<'a> Parser<'a> {
         if depth == 0 {
             return Err(self.too_deep());
         }
+        let mut form = Form::Other;
         for _turn in 0..self.turns {
             if !self.at_binary_operator() {
                 break;
             }
-            if self.binary_operand(depth - 1)? == Form::Arrow {
-                return Ok(Form::Arrow);
+            match self.binary_operand(depth - 1)? {
+                Form::Arrow => return Ok(Form::Arrow),
+                Form::Operation => form = Form::Operation,
+                _ => (),
             }
         }
-        Ok(Form::Other)
+        Ok(form)
     }
 
-    /// A binary operator with its right operand.
+    /// A binary operator with its right operand. After a type, as in `a as B`, the whole is no operation.
     #[cycle(grammar)]
     pub(crate) fn binary_operand(&mut self, depth: usize) -> Parsed<Form> {
         if depth == 0 {
@@ -157,7 +205,12 @@ impl<'a> Parser<'a> {
             self.type_in_expression(depth - 1)?;
             return Ok(Form::Other);
         }
-        self.unary(depth - 1)
+        let start = self.start();
+        let form = match self.lone_operand()? {
+            Some(form) => form,
+            None => self.unary(depth - 1)?,
+        };
+        operation(form, start, self.has_read_conditional)
     }
 
     /// A type after `as` or `satisfies`; `as const` too.
@@ -196,18 +249,44 @@ impl<'a> Parser<'a> {
         if depth == 0 {
             return Err(self.too_deep());
         }
+        let mut is_update = self.at_update();
         if !self.skip_prefix_operator()? {
             return self.postfix(depth - 1);
         }
+        let mut is_unary = !is_update;
         for _turn in 0..self.turns {
+            // No other prefix operator may follow `++`.
+            if is_update {
+                break;
+            }
+            is_update = self.at_update();
             if !self.skip_prefix_operator()? {
                 break;
             }
+            is_unary |= !is_update;
         }
-        match self.postfix(depth - 1)? {
-            Form::Arrow => Ok(Form::Arrow),
-            _ => Ok(Form::Other),
+        let start = self.start();
+        let form = self.postfix(depth - 1)?;
+        if is_unary {
+            self.expect_no_power()?;
         }
+        operation(form, start, self.has_read_conditional)
+    }
+
+    /// Returns an error at `**` after a prefix operator with its operand.
+    #[inline(always)]
+    pub(crate) fn expect_no_power(&self) -> Parsed<()> {
+        if self.at(TokenKind::StarStar) {
+            Err(self.error("expected parentheses around the left operand of `**`"))
+        } else {
+            Ok(())
+        }
+    }
+
+    /// Returns whether the current token is `++` or `--`.
+    #[inline(always)]
+    fn at_update(&self) -> bool {
+        matches!(self.kind(), TokenKind::PlusPlus | TokenKind::MinusMinus)
     }
 
     /// Goes on after a prefix operator, and keeps an `await` outside of functions. Returns whether there
@@ -238,6 +317,7 @@ impl<'a> Parser<'a> {
     /// Goes on after the word `await`, and keeps the node of an await if no function is around it.
     pub(crate) fn keep_await(&mut self) -> Parsed<()> {
         let start = self.start();
+        self.no_parameter = start.saturating_add(1);
         self.next()?;
         if self.context.is_function {
             return Ok(());
@@ -252,6 +332,7 @@ impl<'a> Parser<'a> {
         if depth == 0 {
             return Err(self.too_deep());
         }
+        self.no_parameter = self.start().saturating_add(1);
         self.next()?;
         let has_star = self.at_on_line(TokenKind::Star);
         if has_star {
@@ -260,7 +341,7 @@ impl<'a> Parser<'a> {
         if has_star || self.may_begin_operand() {
             self.assignment(depth - 1)?;
         }
-        Ok(Form::Other)
+        Ok(Form::Operation)
     }
 
     /// Returns whether an operand of `yield` may begin with the current token.
@@ -291,11 +372,7 @@ impl<'a> Parser<'a> {
         let first = self.nodes.len();
         let start = self.start();
         let form = self.primary(depth - 1)?;
-        match self.kind() {
-            TokenKind::Comma | TokenKind::ParenClose | TokenKind::Semicolon => return Ok(form),
-            _ => (),
-        }
-        if form == Form::Arrow {
+        if form == Form::Arrow || !may_follow_operand(self.kind()) {
             return Ok(form);
         }
         let operand = Operand {
@@ -305,12 +382,81 @@ impl<'a> Parser<'a> {
             end: self.lexer.previous_end(),
         };
         let form = self.subscripts(depth - 1, operand)?;
-        if matches!(self.kind(), TokenKind::PlusPlus | TokenKind::MinusMinus)
-            && !self.token().is_after_line_end
-        {
+        if self.at_update() && !self.token().is_after_line_end {
             self.next()?;
-            return Ok(Form::Other);
+            return Ok(Form::Operation);
         }
         Ok(form)
+    }
+}
+
+/// Returns the form of an operator with its operand, which begins at an offset, or an error if that is an
+/// arrow function. In `a ? b + (c) : d => e` it is `(c)`, with which the rest of the conditional was read.
+#[inline(always)]
+fn operation(operand: Form, start: usize, has_read_conditional: bool) -> Parsed<Form> {
+    if operand != Form::Arrow {
+        Ok(Form::Operation)
+    } else if has_read_conditional {
+        Ok(Form::Arrow)
+    } else {
+        Err(ReadError::syntax("expected parentheses around the arrow function", start))
+    }
+}
+
+/// Returns whether no prefix operator can begin with a token, by far the most frequent tokens at the start
+/// of an operand among them.
+#[inline(always)]
+fn begins_without_prefix(kind: TokenKind) -> bool {
+    matches!(
+        kind,
+        TokenKind::Identifier
+            | TokenKind::This
+            | TokenKind::String
+            | TokenKind::Number
+            | TokenKind::ParenOpen
+            | TokenKind::BracketOpen
+            | TokenKind::BraceOpen
+            | TokenKind::Function
+            | TokenKind::New
+    )
+}
+
+/// Returns whether a token may go on with the operand before it, as members, calls, `++` and `--` do.
+#[inline(always)]
+fn may_follow_operand(kind: TokenKind) -> bool {
+    matches!(
+        kind,
+        TokenKind::Dot
+            | TokenKind::ParenOpen
+            | TokenKind::BracketOpen
+            | TokenKind::QuestionDot
+            | TokenKind::Template
+            | TokenKind::TemplateHead
+            | TokenKind::Bang
+            | TokenKind::Less
+            | TokenKind::ShiftLeft
+            | TokenKind::PlusPlus
+            | TokenKind::MinusMinus
+    )
+}
+
+/// Returns whether an operand ends before a byte.
+#[inline(always)]
+fn is_delimiter(byte: u8) -> bool {
+    matches!(byte, b',' | b';' | b':' | b')' | b']' | b'}')
+}
+
+/// Returns the form of an operand that is one token, or `None` where the operand depends on more.
+#[inline(always)]
+fn form_of_token(token: Token) -> Option<Form> {
+    match token.kind {
+        TokenKind::Identifier if !token.has_escape => Some(Form::Identifier),
+        TokenKind::String => Some(Form::String),
+        TokenKind::Number
+        | TokenKind::This
+        | TokenKind::Null
+        | TokenKind::True
+        | TokenKind::False => Some(Form::Other),
+        _ => None,
     }
 }

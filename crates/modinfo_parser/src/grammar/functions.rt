@@ -1,12 +1,27 @@
 //! Functions, their parameters and their bodies.
 
 use crate::parser::{Form, Parsed, Parser};
+use modinfo_lexer::characters::byte_at;
 use modinfo_lexer::token::TokenKind;
 
 impl<'a> Parser<'a> {
-    /// `function`, with a name or without.
+    /// `function`, with a name or without, and a body.
     #[cycle(grammar)]
     pub(crate) fn function_expression(&mut self, depth: usize, is_async: bool) -> Parsed<Form> {
+        if depth == 0 {
+            return Err(self.too_deep());
+        }
+        self.function(depth - 1, is_async)?;
+        let last = self.lexer.previous_end().saturating_sub(1);
+        if byte_at(self.lexer.text().as_bytes(), last) != b'}' {
+            return Err(self.error("expected `{` before the body of the function"));
+        }
+        Ok(Form::Other)
+    }
+
+    /// `function`, with a name or without. In TypeScript the body may be left out.
+    #[cycle(grammar)]
+    pub(crate) fn function(&mut self, depth: usize, is_async: bool) -> Parsed<()> {
         if depth == 0 {
             return Err(self.too_deep());
         }
@@ -15,8 +30,7 @@ impl<'a> Parser<'a> {
         if self.kind().is_identifier() {
             self.next()?;
         }
-        self.method(depth - 1, is_async, is_generator)?;
-        Ok(Form::Other)
+        self.method(depth - 1, is_async, is_generator)
     }
 
     /// The parameters and the body of a function or a method.
@@ -31,9 +45,11 @@ impl<'a> Parser<'a> {
             return Err(self.too_deep());
         }
         let context = self.context;
+        let no_parameter = self.no_parameter;
         self.context = context.in_brackets().in_function(is_async, is_generator);
         let result = self.signature_and_body(depth - 1);
         self.context = context;
+        self.no_parameter = no_parameter;
         result
     }
 
@@ -43,7 +59,11 @@ impl<'a> Parser<'a> {
         if depth == 0 {
             return Err(self.too_deep());
         }
+        let start = self.start();
         self.signature(depth - 1)?;
+        if self.no_parameter > start {
+            return Err(self.error_in_parameters());
+        }
         if self.at(TokenKind::BraceOpen) {
             return self.block(depth - 1);
         }

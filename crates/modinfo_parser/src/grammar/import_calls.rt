@@ -3,6 +3,7 @@
 use crate::parser::{Form, Parsed, Parser};
 use crate::shape::Shape;
 use deno_graph_source::tree::{Callee, ImportPhase};
+use modinfo_lexer::syntax_error::ReadError;
 use modinfo_lexer::token::TokenKind;
 
 impl<'a> Parser<'a> {
@@ -29,6 +30,9 @@ impl<'a> Parser<'a> {
                 _ => return Err(self.error("expected `meta`, `source` or `defer` after `import.`")),
             };
             self.next()?;
+        }
+        if !self.at(TokenKind::ParenOpen) {
+            return Err(ReadError::syntax("expected no declaration of an import here", start));
         }
         let args = self.kept_arguments(depth - 1)?;
         let shape = Shape::Call {

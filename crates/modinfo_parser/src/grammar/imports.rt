@@ -61,7 +61,7 @@ impl<'a> Parser<'a> {
             self.expect(TokenKind::As, "expected `as` after `*`")?;
             self.bound_name()?;
         } else {
-            head.has_specifiers |= self.specifiers()?;
+            head.has_specifiers |= self.imported_specifiers()?;
         }
         self.import_from(head)
     }
@@ -139,23 +139,6 @@ impl<'a> Parser<'a> {
         let result = self.peek();
         self.reset(state);
         Ok(result?.kind != TokenKind::String)
-    }
-
-    /// `{`, names with commas between them, and `}`. Returns whether there are names.
-    pub(crate) fn specifiers(&mut self) -> Parsed<bool> {
-        self.expect(TokenKind::BraceOpen, "expected `{` before the names")?;
-        let mut has_specifiers = false;
-        for _turn in 0..self.turns {
-            let kind = self.kind();
-            if kind.is_name() || matches!(kind, TokenKind::String | TokenKind::Comma) {
-                has_specifiers |= kind != TokenKind::Comma;
-                self.next()?;
-            } else {
-                break;
-            }
-        }
-        self.expect(TokenKind::BraceClose, "expected `}` after the names")?;
-        Ok(has_specifiers)
     }
 
     /// The attributes after `with`, or after `assert` on the line. Adds the node of their object. Returns

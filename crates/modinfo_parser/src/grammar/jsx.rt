@@ -25,7 +25,7 @@ impl<'a> Parser<'a> {
         if depth == 0 {
             return Err(self.too_deep());
         }
-        self.lexer.rescan_angle();
+        self.lexer.begin_jsx()?;
         self.next()?;
         self.jsx_element(depth - 1)?;
         self.lexer.end_jsx();
@@ -118,13 +118,20 @@ impl<'a> Parser<'a> {
                 self.expression(depth - 1)?;
                 self.expect(TokenKind::BraceClose, "expected `}` after the expression")
             }
-            TokenKind::Less => {
-                self.next()?;
-                self.jsx_element(depth - 1)?;
-                self.next()
-            }
+            TokenKind::Less => self.jsx_element_of_attribute(depth - 1),
             _ => Err(self.error("expected the value of the attribute")),
         }
+    }
+
+    /// An element that is the value of an attribute.
+    #[cycle(grammar)]
+    fn jsx_element_of_attribute(&mut self, depth: usize) -> Parsed<()> {
+        if depth == 0 {
+            return Err(self.too_deep());
+        }
+        self.next()?;
+        self.jsx_element(depth - 1)?;
+        self.next()
     }
 
     /// The children of an element with a name, and its end tag up to the last `>`.

@@ -42,26 +42,36 @@ impl<'a> Parser<'a> {
         let first = self.nodes.len();
         let start = self.start();
         self.next()?;
-        let is_await = self.eat(TokenKind::Await)?;
+        let is_await = self.context.is_async && self.eat(TokenKind::Await)?;
         self.expect(TokenKind::ParenOpen, "expected `(` after `for`")?;
         if is_await && !self.context.is_function {
             self.push(Shape::Await, first, start)?;
         }
         let context = self.context;
         self.context = context.in_brackets();
-        let result = self.for_head(depth - 1);
+        let result = self.for_head(depth - 1, is_await);
         self.context = context;
         result?;
         self.expect(
             TokenKind::ParenClose,
             "expected `)` after the head of the loop",
         )?;
+        self.body_of_for(depth - 1)
+    }
+
+    /// The statement of a `for` loop. A level of loops takes much of the stack, so it costs one more of the
+    /// depth.
+    #[cycle(grammar)]
+    fn body_of_for(&mut self, depth: usize) -> Parsed<()> {
+        if depth == 0 {
+            return Err(self.too_deep());
+        }
         self.body(depth - 1)
     }
 
     /// What is between the parentheses of `for`.
     #[cycle(grammar)]
-    fn for_head(&mut self, depth: usize) -> Parsed<()> {
+    fn for_head(&mut self, depth: usize, is_await: bool) -> Parsed<()> {
         if depth == 0 {
             return Err(self.too_deep());
         }
@@ -69,6 +79,9 @@ impl<'a> Parser<'a> {
             self.context.allows_in = false;
             self.for_start(depth - 1)?;
             self.context.allows_in = true;
+        }
+        if is_await && !self.at(TokenKind::Of) {
+            return Err(self.error("expected `of` in the loop of `for await`"));
         }
         match self.kind() {
             TokenKind::Of => {

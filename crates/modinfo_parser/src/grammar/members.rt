@@ -42,6 +42,9 @@ impl<'a> Parser<'a> {
         if matches!(self.kind(), TokenKind::ParenOpen | TokenKind::Less) {
             return self.method(depth - 1, modifiers.is_async, modifiers.is_generator);
         }
+        if modifiers.is_method {
+            return Err(self.error("expected `(` before the parameters"));
+        }
         if self.language.is_typescript {
             self.type_annotation(depth - 1)?;
         }
@@ -58,9 +61,11 @@ impl<'a> Parser<'a> {
             return Err(self.too_deep());
         }
         let context = self.context;
+        let no_parameter = self.no_parameter;
         self.context = context.in_function(false, false);
         let result = self.assignment(depth - 1);
         self.context = context;
+        self.no_parameter = no_parameter;
         result?;
         Ok(())
     }
@@ -72,9 +77,11 @@ impl<'a> Parser<'a> {
             return Err(self.too_deep());
         }
         let context = self.context;
+        let no_parameter = self.no_parameter;
         self.context = context.in_function(false, false);
         let result = self.block(depth - 1);
         self.context = context;
+        self.no_parameter = no_parameter;
         result
     }
 

@@ -10,6 +10,8 @@ pub(crate) struct Modifiers {
     pub(crate) is_async: bool,
     pub(crate) is_generator: bool,
     pub(crate) is_static: bool,
+    /// Whether a method has to follow, as after `get` or `*`.
+    pub(crate) is_method: bool,
     /// The range of the name itself, if the last word is no modifier but the name.
     pub(crate) name: Option<SourceRange>,
 }
@@ -21,6 +23,7 @@ impl<'a> Parser<'a> {
             is_async: false,
             is_generator: false,
             is_static: false,
+            is_method: false,
             name: None,
         };
         let word = self.token();
@@ -34,8 +37,10 @@ impl<'a> Parser<'a> {
                 return Ok(modifiers);
             }
             modifiers.is_async = word.kind == TokenKind::Async;
+            modifiers.is_method = true;
         }
         modifiers.is_generator = self.eat(TokenKind::Star)?;
+        modifiers.is_method |= modifiers.is_generator;
         Ok(modifiers)
     }
 
@@ -45,11 +50,15 @@ impl<'a> Parser<'a> {
             is_async: false,
             is_generator: false,
             is_static: false,
+            is_method: false,
             name: None,
         };
+        let mut has_static = false;
         for _turn in 0..self.turns {
             let word = self.token();
-            if !self.may_be_modifier(word.kind) {
+            let is_second = has_static && word.kind == TokenKind::Static
+                || modifiers.is_async && word.kind == TokenKind::Async;
+            if is_second || !self.may_be_modifier(word.kind) {
                 break;
             }
             self.next()?;
@@ -62,8 +71,14 @@ impl<'a> Parser<'a> {
                 return Ok(modifiers);
             }
             modifiers.is_async |= word.kind == TokenKind::Async;
+            has_static |= word.kind == TokenKind::Static;
+            modifiers.is_method = matches!(word.kind, TokenKind::Get | TokenKind::Set);
+            if modifiers.is_method {
+                return Ok(modifiers);
+            }
         }
         modifiers.is_generator = self.eat(TokenKind::Star)?;
+        modifiers.is_method = modifiers.is_generator;
         Ok(modifiers)
     }
 

@@ -16,7 +16,9 @@ impl<'a> Parser<'a> {
         let range = SourceRange::new(token.start, token.end);
         match token.kind {
             TokenKind::BracketOpen => {
+                let no_pattern = self.no_pattern;
                 self.computed_member(depth - 1)?;
+                self.no_pattern = no_pattern;
                 Ok(KeyShape::Other)
             }
             TokenKind::String => {

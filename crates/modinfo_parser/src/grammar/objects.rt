@@ -49,7 +49,9 @@ impl<'a> Parser<'a> {
         let first = self.nodes.len();
         let start = self.start();
         let shape = if self.eat(TokenKind::DotDotDot)? {
-            self.assignment(depth - 1)?;
+            if !self.assignment(depth - 1)?.may_be_pattern() || self.at(TokenKind::Comma) {
+                self.keep_no_pattern(start);
+            }
             Shape::Other
         } else {
             self.named_property(depth - 1)?
@@ -66,27 +68,44 @@ impl<'a> Parser<'a> {
         if depth == 0 {
             return Err(self.too_deep());
         }
+        let start = self.start();
         let modifiers = self.property_modifiers()?;
+        let word = self.kind();
         let key = match modifiers.name {
             Some(range) => KeyShape::Ident(range),
             None => self.property_name(depth - 1)?,
         };
-        match self.kind() {
-            TokenKind::Colon => {
-                self.next()?;
-                self.property_value(depth - 1)?;
-                return Ok(Shape::KeyValue(key));
-            }
-            TokenKind::Equal => {
-                self.next()?;
-                self.assignment(depth - 1)?;
-            }
-            TokenKind::ParenOpen | TokenKind::Less => {
-                self.method(depth - 1, modifiers.is_async, modifiers.is_generator)?;
-            }
-            _ => (),
+        if matches!(self.kind(), TokenKind::ParenOpen | TokenKind::Less) {
+            self.method(depth - 1, modifiers.is_async, modifiers.is_generator)?;
+            self.keep_no_pattern(start);
+            return Ok(Shape::Other);
         }
+        if modifiers.is_method {
+            return Err(self.error("expected `(` before the parameters"));
+        }
+        if self.eat(TokenKind::Colon)? {
+            self.property_value(depth - 1)?;
+            return Ok(Shape::KeyValue(key));
+        }
+        if modifiers.name.is_none() && !word.is_identifier() {
+            return Err(self.error("expected `:` after the name of the property"));
+        }
+        self.default_of_shorthand(depth - 1)?;
         Ok(Shape::Other)
+    }
+
+    /// `=` and the default of a shorthand property, which is a part of a pattern, if it is there.
+    #[cycle(grammar)]
+    fn default_of_shorthand(&mut self, depth: usize) -> Parsed<()> {
+        if depth == 0 {
+            return Err(self.too_deep());
+        }
+        if self.eat(TokenKind::Equal)? {
+            let no_pattern = self.no_pattern;
+            self.assignment(depth - 1)?;
+            self.no_pattern = no_pattern;
+        }
+        Ok(())
     }
 
     /// The value of a property. If values are kept, adds its node.
@@ -98,6 +117,9 @@ impl<'a> Parser<'a> {
         let first = self.nodes.len();
         let start = self.start();
         let form = self.assignment(depth - 1)?;
+        if !form.may_be_pattern() {
+            self.keep_no_pattern(start);
+        }
         if self.context.keeps_values {
             self.push_value(form, first, start)?;
         }

@@ -2,6 +2,7 @@
 //! elements with commas between them; `=>` after the parentheses decides.
 
 use crate::parser::{Form, Parsed, Parser};
+use modinfo_lexer::syntax_error::ReadError;
 use modinfo_lexer::token::TokenKind;
 
 impl<'a> Parser<'a> {
@@ -11,8 +12,11 @@ impl<'a> Parser<'a> {
         if depth == 0 {
             return Err(self.too_deep());
         }
+        let start = self.start();
         let must_be_arrow = self.parentheses(depth - 1)?;
-        if self.arrow_after_parentheses(depth - 1, false, must_be_arrow)? {
+        if self.at_arrow_or_type(start)?
+            && self.arrow_after_parentheses(depth - 1, false, must_be_arrow)?
+        {
             return Ok(Form::Arrow);
         }
         if must_be_arrow {
@@ -27,8 +31,9 @@ impl<'a> Parser<'a> {
         if depth == 0 {
             return Err(self.too_deep());
         }
+        let start = self.start();
         self.parentheses(depth - 1)?;
-        if self.arrow_after_parentheses(depth - 1, true, false)? {
+        if self.at_arrow_or_type(start)? && self.arrow_after_parentheses(depth - 1, true, false)? {
             return Ok(Form::Arrow);
         }
         Ok(Form::Other)
@@ -79,8 +84,13 @@ impl<'a> Parser<'a> {
         if depth == 0 {
             return Err(self.too_deep());
         }
+        let start = self.start();
+        let is_this = self.at(TokenKind::This);
         let is_rest = self.eat(TokenKind::DotDotDot)?;
-        self.assignment(depth - 1)?;
+        let form = self.assignment(depth - 1)?;
+        if !(form.may_be_pattern() || is_this && self.at(TokenKind::Colon)) {
+            self.keep_no_pattern(start);
+        }
         if !self.language.is_typescript {
             return Ok(is_rest);
         }
@@ -90,6 +100,26 @@ impl<'a> Parser<'a> {
             self.assignment(depth - 1)?;
         }
         Ok(is_rest || is_optional || has_type)
+    }
+
+    /// Returns whether `=>` or, in TypeScript, a `:` follows parentheses which begin at an offset and may
+    /// be parameters. If they can't be and `=>` follows them, returns an error.
+    fn at_arrow_or_type(&self, start: usize) -> Parsed<bool> {
+        let is_arrow = self.at_on_line(TokenKind::Arrow);
+        if !is_arrow && !(self.at(TokenKind::Colon) && self.language.is_typescript) {
+            return Ok(false);
+        }
+        let may_be_parameters = self.no_pattern <= start && self.no_parameter <= start;
+        if may_be_parameters || !is_arrow {
+            return Ok(may_be_parameters);
+        }
+        if self.no_pattern > start {
+            return Err(ReadError::syntax(
+                "expected a name or a pattern",
+                self.no_pattern.saturating_sub(1),
+            ));
+        }
+        Err(self.error_in_parameters())
     }
 
     /// What follows the parameters of an arrow function, if the parentheses before the current token are
@@ -105,9 +135,6 @@ impl<'a> Parser<'a> {
             return Err(self.too_deep());
         }
         if !self.at_on_line(TokenKind::Arrow) {
-            if !(self.at(TokenKind::Colon) && self.language.is_typescript) {
-                return Ok(false);
-            }
             if self.context.is_in_conditional {
                 return self.arrow_in_conditional(depth - 1, is_async, must_be_arrow);
             }
@@ -161,7 +188,7 @@ impl<'a> Parser<'a> {
         }
         let state = self.begin_try()?;
         let result = self.return_type_before_arrow(depth - 1);
-        self.end_try(state, result)
+        self.end_try(depth, state, result)
     }
 
     /// `:` and a return type. Returns whether `=>` follows them.
@@ -187,7 +214,7 @@ impl<'a> Parser<'a> {
         }
         let state = self.begin_try()?;
         let result = self.typed_arrow(depth - 1, is_async);
-        self.end_try(state, result)
+        self.end_try(depth, state, result)
     }
 
     /// A return type, `=>` and a body. Returns whether they are there, and take no `:` of the conditional

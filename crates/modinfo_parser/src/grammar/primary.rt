@@ -20,7 +20,7 @@ impl<'a> Parser<'a> {
             | TokenKind::Super
             | TokenKind::PrivateName => self.token_as(Form::Other),
             TokenKind::Slash | TokenKind::SlashEqual => self.regular_expression(),
-            TokenKind::Template | TokenKind::TemplateHead => self.template(depth - 1),
+            TokenKind::Template | TokenKind::TemplateHead => self.template(depth - 1, false),
             TokenKind::ParenOpen => self.parenthesized(depth - 1),
             TokenKind::BracketOpen => self.array(depth - 1),
             TokenKind::BraceOpen => self.object(depth - 1),
@@ -145,12 +145,23 @@ impl<'a> Parser<'a> {
             return self.jsx(depth - 1);
         }
         if self.eat_names_in_angles()? {
-            return self.parenthesized(depth - 1);
+            let form = self.postfix(depth - 1)?;
+            return self.asserted(form);
         }
         if self.try_type_parameters(depth - 1)? {
             return self.generic_arrow(depth - 1, false);
         }
         self.type_assertion(depth - 1)
+    }
+
+    /// Returns the form of an operand in parentheses with names in `<` and `>` before it: that of an arrow
+    /// function, or of an operand after a type, which can't be the left operand of `**`.
+    fn asserted(&self, operand: Form) -> Parsed<Form> {
+        if operand == Form::Arrow {
+            return Ok(operand);
+        }
+        self.expect_no_power()?;
+        Ok(Form::Operation)
     }
 
     /// Returns whether `<` begins type parameters where an element of JSX may begin too: a name with
@@ -191,8 +202,19 @@ impl<'a> Parser<'a> {
         self.next()?;
         self.type_in_expression(depth - 1)?;
         self.expect_greater()?;
-        self.unary(depth - 1)?;
-        Ok(Form::Other)
+        self.asserted_operand(depth - 1)?;
+        self.expect_no_power()?;
+        Ok(Form::Operation)
+    }
+
+    /// The operand after a type in `<` and `>`. A level of these takes much of the stack, so it costs one
+    /// more of the depth.
+    #[cycle(grammar)]
+    fn asserted_operand(&mut self, depth: usize) -> Parsed<Form> {
+        if depth == 0 {
+            return Err(self.too_deep());
+        }
+        self.unary(depth - 1)
     }
 
     /// An array literal, which may be a pattern.
@@ -208,7 +230,7 @@ impl<'a> Parser<'a> {
         self.context = context;
         result?;
         self.expect(TokenKind::BracketClose, "expected `]` after the elements")?;
-        Ok(Form::Other)
+        Ok(Form::Array)
     }
 
     /// Elements of an array, of which some may be left out.
@@ -221,14 +243,28 @@ impl<'a> Parser<'a> {
             match self.kind() {
                 TokenKind::BracketClose => break,
                 TokenKind::Comma => self.next()?,
-                TokenKind::DotDotDot => self.next()?,
                 _ => {
-                    self.assignment(depth - 1)?;
+                    self.element(depth - 1)?;
                     if !self.eat(TokenKind::Comma)? {
                         break;
                     }
                 }
             }
+        }
+        Ok(())
+    }
+
+    /// An element of an array, which may be spread.
+    #[cycle(grammar)]
+    fn element(&mut self, depth: usize) -> Parsed<()> {
+        if depth == 0 {
+            return Err(self.too_deep());
+        }
+        let start = self.start();
+        let is_spread = self.eat(TokenKind::DotDotDot)?;
+        let form = self.assignment(depth - 1)?;
+        if !form.may_be_pattern() || is_spread && self.at(TokenKind::Comma) {
+            self.keep_no_pattern(start);
         }
         Ok(())
     }

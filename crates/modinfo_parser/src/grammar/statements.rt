@@ -11,16 +11,20 @@ pub(crate) enum Item {
 }
 
 impl<'a> Parser<'a> {
-    /// A statement or a declaration.
+    /// A statement or a declaration, but no import and no export.
     #[cycle(grammar)]
     pub(crate) fn statement(&mut self, depth: usize) -> Parsed<Item> {
         if depth == 0 {
             return Err(self.too_deep());
         }
         match self.kind() {
-            TokenKind::Import => return self.import_statement(depth - 1),
-            TokenKind::Export => return self.export(depth - 1),
-            TokenKind::At => return self.decorated_statement(depth - 1),
+            TokenKind::Export => {
+                return Err(self.error("expected no export here"));
+            }
+            TokenKind::At => {
+                self.decorated_class_declaration(depth - 1)?;
+                return Ok(Item::Plain);
+            }
             kind if self.language.is_typescript && may_begin_typed(kind) => {
                 let item = self.typescript_statement(depth - 1)?;
                 if let Some(item) = item {
@@ -46,7 +50,8 @@ impl<'a> Parser<'a> {
             TokenKind::For => self.for_statement(depth - 1),
             TokenKind::While => self.while_statement(depth - 1),
             TokenKind::Do => self.do_statement(depth - 1),
-            TokenKind::Return | TokenKind::Throw => self.return_statement(depth - 1),
+            TokenKind::Return => self.return_statement(depth - 1),
+            TokenKind::Throw => self.throw_statement(depth - 1),
             TokenKind::Break | TokenKind::Continue => self.jump_statement(),
             TokenKind::Switch => self.switch_statement(depth - 1),
             TokenKind::Try => self.try_statement(depth - 1),
@@ -130,7 +135,7 @@ impl<'a> Parser<'a> {
         Ok(())
     }
 
-    /// `return` or `throw`, with an expression if there is one on the line.
+    /// `return`, with an expression if there is one on the line.
     #[cycle(grammar)]
     fn return_statement(&mut self, depth: usize) -> Parsed<()> {
         if depth == 0 {
@@ -146,6 +151,20 @@ impl<'a> Parser<'a> {
         if !is_alone {
             self.expression(depth - 1)?;
         }
+        self.semicolon()
+    }
+
+    /// `throw` with an expression, which begins on the line.
+    #[cycle(grammar)]
+    fn throw_statement(&mut self, depth: usize) -> Parsed<()> {
+        if depth == 0 {
+            return Err(self.too_deep());
+        }
+        self.next()?;
+        if self.token().is_after_line_end {
+            return Err(self.error("expected an expression on the line of `throw`"));
+        }
+        self.expression(depth - 1)?;
         self.semicolon()
     }
 
@@ -183,23 +202,38 @@ impl<'a> Parser<'a> {
         }
         self.next()?;
         self.block(depth - 1)?;
-        if self.eat(TokenKind::Catch)? {
-            if self.eat(TokenKind::ParenOpen)? {
-                self.binding(depth - 1)?;
-                if self.language.is_typescript {
-                    self.type_annotation(depth - 1)?;
-                }
-                self.expect(
-                    TokenKind::ParenClose,
-                    "expected `)` after the name of the error",
-                )?;
-            }
-            self.block(depth - 1)?;
+        let has_catch = self.at(TokenKind::Catch);
+        if has_catch {
+            self.catch_clause(depth - 1)?;
         }
         if self.eat(TokenKind::Finally)? {
-            self.block(depth - 1)?;
+            return self.block(depth - 1);
         }
-        Ok(())
+        if has_catch {
+            Ok(())
+        } else {
+            Err(self.error("expected `catch` or `finally` after the block of `try`"))
+        }
+    }
+
+    /// `catch`, with the name of the error if there is one, and its block.
+    #[cycle(grammar)]
+    fn catch_clause(&mut self, depth: usize) -> Parsed<()> {
+        if depth == 0 {
+            return Err(self.too_deep());
+        }
+        self.next()?;
+        if self.eat(TokenKind::ParenOpen)? {
+            self.binding(depth - 1)?;
+            if self.language.is_typescript {
+                self.type_annotation(depth - 1)?;
+            }
+            self.expect(
+                TokenKind::ParenClose,
+                "expected `)` after the name of the error",
+            )?;
+        }
+        self.block(depth - 1)
     }
 
     /// `switch`, with its cases.
@@ -220,7 +254,7 @@ impl<'a> Parser<'a> {
         self.expect(TokenKind::BraceClose, "expected `}` after the cases")
     }
 
-    /// `case` with its value or `default`, or a statement of a case.
+    /// `case` with its value or `default`, and the statements of the case.
     #[cycle(grammar)]
     fn switch_case(&mut self, depth: usize) -> Parsed<()> {
         if depth == 0 {
@@ -228,12 +262,20 @@ impl<'a> Parser<'a> {
         }
         if self.eat(TokenKind::Case)? {
             self.expression(depth - 1)?;
-            return self.expect(TokenKind::Colon, "expected `:` after the case");
+            self.expect(TokenKind::Colon, "expected `:` after the case")?;
+        } else {
+            self.expect(TokenKind::Default, "expected `case`, `default` or `}`")?;
+            self.expect(TokenKind::Colon, "expected `:` after `default`")?;
         }
-        if self.eat(TokenKind::Default)? {
-            return self.expect(TokenKind::Colon, "expected `:` after `default`");
+        for _turn in 0..self.turns {
+            if matches!(
+                self.kind(),
+                TokenKind::Case | TokenKind::Default | TokenKind::BraceClose
+            ) {
+                break;
+            }
+            self.statement(depth - 1)?;
         }
-        self.statement(depth - 1)?;
         Ok(())
     }
 
@@ -252,7 +294,7 @@ impl<'a> Parser<'a> {
 }
 
 /// Returns whether a statement that TypeScript alone has may begin with a word.
-fn may_begin_typed(kind: TokenKind) -> bool {
+pub(crate) fn may_begin_typed(kind: TokenKind) -> bool {
     matches!(
         kind,
         TokenKind::Abstract

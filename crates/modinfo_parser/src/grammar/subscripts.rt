@@ -6,6 +6,7 @@ use modinfo_lexer::token::TokenKind;
 impl<'a> Parser<'a> {
     /// The members and calls after an operand.
     #[cycle(grammar)]
+    #[inline(never)]
     pub(crate) fn subscripts(&mut self, depth: usize, operand: Operand) -> Parsed<Form> {
         if depth == 0 {
             return Err(self.too_deep());
@@ -99,7 +100,7 @@ impl<'a> Parser<'a> {
         }
         let context = self.context;
         self.context.keeps_values = false;
-        let result = self.template(depth - 1);
+        let result = self.template(depth - 1, true);
         self.context = context;
         result?;
         Ok(())
@@ -152,9 +153,15 @@ impl<'a> Parser<'a> {
                 _ => break,
             }
         }
-        if self.at(TokenKind::ParenOpen) {
-            self.arguments(depth - 1)?;
+        match self.kind() {
+            TokenKind::ParenOpen => {
+                self.arguments(depth - 1)?;
+                Ok(())
+            }
+            TokenKind::QuestionDot => {
+                Err(self.error("expected `(`: `?.` can't follow the constructor after `new`"))
+            }
+            _ => Ok(()),
         }
-        Ok(())
     }
 }

@@ -33,7 +33,7 @@ impl<'a> Parser<'a> {
             if is_sum {
                 self.push_value(operand, operand_first, operand_start)?;
             }
-            form = if is_sum { Form::Sum } else { Form::Other };
+            form = if is_sum { Form::Sum } else { Form::Operation };
             operands = operands.saturating_add(1);
         }
         if form == Form::Arrow || !self.at_binary_operator() {
@@ -57,10 +57,7 @@ impl<'a> Parser<'a> {
             if form == Form::Arrow || !is_product {
                 break;
             }
-            form = match self.binary_operand(depth - 1)? {
-                Form::Arrow => Form::Arrow,
-                _ => Form::Other,
-            };
+            form = self.binary_operand(depth - 1)?;
         }
         Ok(form)
     }

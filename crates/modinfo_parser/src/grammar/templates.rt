@@ -6,15 +6,19 @@ use deno_graph_base::text::SourceRange;
 use modinfo_lexer::token::{Token, TokenKind};
 
 impl<'a> Parser<'a> {
-    /// A template. If values are kept, its parts and its expressions are nodes, by turns.
+    /// A template. If values are kept, its parts and its expressions are nodes, by turns. The parts of a
+    /// tagged one may have any escapes.
     #[cycle(grammar)]
-    pub(crate) fn template(&mut self, depth: usize) -> Parsed<Form> {
+    pub(crate) fn template(&mut self, depth: usize, is_tagged: bool) -> Parsed<Form> {
         if depth == 0 {
             return Err(self.too_deep());
         }
         let keeps_values = self.context.keeps_values;
         for _turn in 0..self.turns {
             let part = self.token();
+            if !is_tagged {
+                self.lexer.check_escapes()?;
+            }
             if keeps_values {
                 self.push_part(part)?;
             }

@@ -1,6 +1,7 @@
 //! Type arguments and type parameters.
 
-use crate::parser::{Parsed, Parser};
+use crate::grammar::types::begins_type;
+use crate::parser::{Parsed, Parser, is_limit};
 use modinfo_lexer::syntax_error::ReadError;
 use modinfo_lexer::token::TokenKind;
 
@@ -11,7 +12,8 @@ impl<'a> Parser<'a> {
         self.expect(TokenKind::Greater, "expected `>` after the types")
     }
 
-    /// `<`, types with commas between them, and `>`. If that isn't there, no try at the `<` will succeed.
+    /// `<`, types with commas between them, and `>`. If that isn't there, no try at the `<` will succeed;
+    /// but if the text nests too deep for it there, with less depth left than tries need, one may.
     #[cycle(grammar)]
     pub(crate) fn type_arguments(&mut self, depth: usize) -> Parsed<()> {
         if depth == 0 {
@@ -19,8 +21,10 @@ impl<'a> Parser<'a> {
         }
         let start = self.start();
         let result = self.angle_brackets(depth - 1);
-        if let Err(ReadError::Syntax(_)) = result {
-            self.keep_failed(start)?;
+        if let Err(ReadError::Syntax(error)) = result {
+            if !is_limit(error.message, depth) {
+                self.keep_failed(start)?;
+            }
         }
         result
     }
@@ -89,7 +93,7 @@ impl<'a> Parser<'a> {
         }
         let state = self.begin_try()?;
         let result = self.type_arguments_of_expression(depth - 1);
-        self.end_try(state, result)
+        self.end_try(depth, state, result)
     }
 
     /// Type arguments. Returns whether what follows them can't be the right operand of a comparison.
@@ -99,19 +103,19 @@ impl<'a> Parser<'a> {
             return Err(self.too_deep());
         }
         self.type_arguments(depth - 1)?;
-        Ok(self.may_follow_type_arguments())
+        self.may_follow_type_arguments()
     }
 
     /// Returns whether the current token may follow type arguments of an expression: `(`, a template, or
-    /// a token with which no operand begins.
-    fn may_follow_type_arguments(&self) -> bool {
+    /// a token with which no operand begins. An `as` before what is no type is a name.
+    fn may_follow_type_arguments(&mut self) -> Parsed<bool> {
         let token = self.token();
         match token.kind {
-            TokenKind::ParenOpen | TokenKind::Template | TokenKind::TemplateHead => true,
-            TokenKind::Less | TokenKind::Greater | TokenKind::Plus | TokenKind::Minus => false,
-            _ => {
-                token.is_after_line_end || self.at_binary_operator() || !begins_operand(token.kind)
-            }
+            TokenKind::ParenOpen | TokenKind::Template | TokenKind::TemplateHead => Ok(true),
+            TokenKind::Less | TokenKind::Greater | TokenKind::Plus | TokenKind::Minus => Ok(false),
+            _ if token.is_after_line_end || !begins_operand(token.kind) => Ok(true),
+            TokenKind::As | TokenKind::Satisfies => Ok(begins_type(self.peek()?.kind)),
+            _ => Ok(self.at_binary_operator()),
         }
     }
 

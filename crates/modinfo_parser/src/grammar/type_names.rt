@@ -129,7 +129,10 @@ impl<'a> Parser<'a> {
             "expected `(` after `import` in the type",
         )?;
         let arg = self.string("expected the specifier of the import type, a string")?;
-        let has_with = self.eat(TokenKind::Comma)? && self.import_options()?;
+        let has_with = self.eat(TokenKind::Comma)?;
+        if has_with {
+            self.import_options()?;
+        }
         self.expect(TokenKind::ParenClose, "expected `)` after the specifier")?;
         for _turn in 0..self.turns {
             if !self.at(TokenKind::Dot) {
@@ -141,12 +144,12 @@ impl<'a> Parser<'a> {
         self.push(Shape::ImportType { arg, has_with }, first, start)
     }
 
-    /// The options of an `import(..)`: `{ with: { .. } }`. Adds the node of the inner object. Returns
-    /// whether there are options.
-    fn import_options(&mut self) -> Parsed<bool> {
-        if !self.eat(TokenKind::BraceOpen)? {
-            return Ok(false);
-        }
+    /// The options of an `import(..)`: `{ with: { .. } }`. Adds the node of the inner object.
+    fn import_options(&mut self) -> Parsed<()> {
+        self.expect(
+            TokenKind::BraceOpen,
+            "expected `{` before the options of the import type",
+        )?;
         if !matches!(
             self.kind(),
             TokenKind::With | TokenKind::Assert | TokenKind::String
@@ -159,7 +162,7 @@ impl<'a> Parser<'a> {
         self.eat(TokenKind::Comma)?;
         self.expect(TokenKind::BraceClose, "expected `}` after the options")?;
         self.eat(TokenKind::Comma)?;
-        Ok(true)
+        Ok(())
     }
 
     /// A tuple: `[`, types with commas between them, which may have names, and `]`.

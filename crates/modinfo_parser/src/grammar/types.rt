@@ -75,10 +75,29 @@ impl<'a> Parser<'a> {
             self.next()?;
             self.constraint_of_conditional(depth - 1)?;
             self.expect(TokenKind::Question, "expected `?` in the conditional type")?;
-            self.type_(depth - 1)?;
+            self.branch_of_conditional(depth - 1)?;
             self.expect(TokenKind::Colon, "expected `:` in the conditional type")?;
         }
         Ok(())
+    }
+
+    /// The type after the `?` of a conditional type. A level of them takes much of the stack, so it costs
+    /// three of the depth.
+    #[cycle(grammar)]
+    fn branch_of_conditional(&mut self, depth: usize) -> Parsed<()> {
+        if depth == 0 {
+            return Err(self.too_deep());
+        }
+        self.inner_branch(depth - 1)
+    }
+
+    /// The type of a branch, with less depth left.
+    #[cycle(grammar)]
+    fn inner_branch(&mut self, depth: usize) -> Parsed<()> {
+        if depth == 0 {
+            return Err(self.too_deep());
+        }
+        self.type_(depth - 1)
     }
 
     /// The type after `extends`, which is no conditional type.
@@ -218,16 +237,15 @@ impl<'a> Parser<'a> {
             return Err(self.too_deep());
         }
         for _turn in 0..self.turns {
-            let is_operator = matches!(
+            if !matches!(
                 self.kind(),
                 TokenKind::Keyof | TokenKind::Unique | TokenKind::Readonly
-            );
-            if !is_operator || !begins_type(self.peek()?.kind) {
+            ) {
                 break;
             }
             self.next()?;
         }
-        if self.at(TokenKind::Infer) && self.peek()?.kind.is_identifier() {
+        if self.at(TokenKind::Infer) {
             return self.infer_type(depth - 1);
         }
         self.primary_type(depth - 1)?;
@@ -260,7 +278,7 @@ impl<'a> Parser<'a> {
             return Err(self.too_deep());
         }
         self.next()?;
-        self.next()?;
+        self.bound_name()?;
         if !self.at(TokenKind::Extends) {
             return Ok(());
         }
@@ -273,7 +291,7 @@ impl<'a> Parser<'a> {
         }
         let state = self.begin_try()?;
         let result = self.constraint_of_infer(depth - 1);
-        self.end_try(state, result)?;
+        self.end_try(depth, state, result)?;
         Ok(())
     }
 
@@ -290,8 +308,8 @@ impl<'a> Parser<'a> {
     }
 }
 
-/// Returns whether a type may begin with a token after `keyof`, `unique` or `readonly`.
-fn begins_type(kind: TokenKind) -> bool {
+/// Returns whether a type may begin with a token after `as` or `satisfies`.
+pub(crate) fn begins_type(kind: TokenKind) -> bool {
     kind.is_name()
         || matches!(
             kind,

@@ -51,16 +51,34 @@ impl<'a> Parser<'a> {
             return Err(self.too_deep());
         }
         let following = self.peek()?;
-        if matches!(
-            self.kind(),
-            TokenKind::Module | TokenKind::Namespace | TokenKind::Global
-        ) {
-            if let Some(item) = self.module_statement(depth - 1, start, following)? {
-                return Ok(item);
+        match self.kind() {
+            TokenKind::Module | TokenKind::Namespace | TokenKind::Global => {
+                if let Some(item) = self.module_statement(depth - 1, start, following)? {
+                    return Ok(item);
+                }
             }
+            TokenKind::Abstract | TokenKind::Interface | TokenKind::Type => {
+                return self.typed_declaration(depth - 1);
+            }
+            _ => (),
         }
         self.statement(depth - 1)?;
         Ok(Item::Plain)
+    }
+
+    /// A declaration that TypeScript alone has. If a line ends after its first word, that is a name, as in
+    /// TypeScript's own parser.
+    #[cycle(grammar)]
+    pub(crate) fn typed_declaration(&mut self, depth: usize) -> Parsed<Item> {
+        if depth == 0 {
+            return Err(self.too_deep());
+        }
+        let is_name = self.peek()?.is_after_line_end;
+        match self.typescript_statement(depth - 1)? {
+            Some(item) => Ok(item),
+            None if is_name => self.statement(depth - 1),
+            None => Err(self.error("expected a declaration")),
+        }
     }
 
     /// `module`, `namespace` or `global` with its body, if the token after the word goes on with one.
@@ -79,14 +97,15 @@ impl<'a> Parser<'a> {
         match self.kind() {
             TokenKind::Global if following.kind == TokenKind::BraceOpen => {
                 self.next()?;
-                self.block(depth - 1)?;
+                self.module_body(depth - 1)?;
                 Ok(Some(Item::Plain))
             }
+            _ if following.is_after_line_end => Ok(None),
             TokenKind::Module if following.kind == TokenKind::String => {
                 self.next()?;
                 let name = self.string("expected the name of the module, a string")?;
                 if self.at(TokenKind::BraceOpen) {
-                    self.block(depth - 1)?;
+                    self.module_body(depth - 1)?;
                 } else {
                     self.semicolon()?;
                 }
@@ -96,7 +115,7 @@ impl<'a> Parser<'a> {
             TokenKind::Module | TokenKind::Namespace if following.kind.is_identifier() => {
                 self.next()?;
                 self.entity_name()?;
-                self.block(depth - 1)?;
+                self.module_body(depth - 1)?;
                 Ok(Some(Item::Plain))
             }
             _ => Ok(None),
@@ -179,7 +198,6 @@ fn may_be_declared(token: Token) -> bool {
             | TokenKind::Enum
             | TokenKind::Function
             | TokenKind::Global
-            | TokenKind::Import
             | TokenKind::Interface
             | TokenKind::Let
             | TokenKind::Module

@@ -44,7 +44,7 @@ const SECOND_FAILS: [Step; 3] = [
     ("b", false, Some("b")),
 ];
 
-/// Whether the call is out of memory.
+/// Returns whether the call is out of memory.
 fn is_out_of_memory<P: EsParser, S: ParsedSourceStore>(
     rt: &(impl AllocGlobal + Abort),
     analyzer: &mut CapturingModuleAnalyzer<P, S>,
@@ -104,7 +104,7 @@ fn assert_steps<P: EsParser, S: ParsedSourceStore>(
     }
 }
 
-/// Whether the source of this text is stored under the specifier, or no source if there is no text.
+/// Returns whether the source of this text is stored under the specifier, or no source if there is no text.
 fn is_stored<S: ParsedSourceStore>(
     rt: &(impl AllocGlobal + Abort),
     store: &S,

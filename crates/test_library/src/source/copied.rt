@@ -1,7 +1,7 @@
 use deno_graph_source::values::TryClone;
 use std::process::Abort;
 
-/// Whether a copy is equal to the value.
+/// Returns whether a copy is equal to the value.
 pub fn is_copied<T: TryClone + PartialEq + Drop>(
     rt: &(impl AllocGlobal + Abort),
     value: &T,

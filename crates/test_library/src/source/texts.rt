@@ -65,7 +65,7 @@ fn of_units(rt: &(impl AllocGlobal + Abort), units: &[u16]) -> JsString {
     JsString::from_units(rt.alloc(), units).expect(rt, "memory")
 }
 
-/// Whether the string of these units is equal to the string of the text.
+/// Returns whether the string of these units is equal to the string of the text.
 fn has_units_of(rt: &(impl AllocGlobal + Abort), units: &[u16], text: &str) -> bool {
     of_units(rt, units) == JsString::from_str(rt.alloc(), text).expect(rt, "memory")
 }

@@ -116,7 +116,7 @@ fn every_way_to(
     }
 }
 
-/// Whether copies are equal, and a call on the parts of the source has the same result.
+/// Returns whether copies are equal, and a call on the parts of the source has the same result.
 fn by_copies(alloc: Global, source: &ParsedSource, info: &ModuleInfo) -> Result<bool, AllocError> {
     Ok(
         is_made_of_parts(alloc, source, info)?
@@ -134,12 +134,12 @@ fn is_made_of_parts(
     Ok(info_of_parts(alloc, source)? == *info)
 }
 
-/// Whether a copy is equal.
+/// Returns whether a copy is equal.
 fn is_copied<T: TryClone + PartialEq + Drop>(alloc: Global, value: &T) -> Result<bool, AllocError> {
     Ok(value.try_clone(alloc)? == *value)
 }
 
-/// Whether the descriptors that borrow from the tree are the same as those of the information.
+/// Returns whether the descriptors that borrow from the tree are the same as those of the information.
 fn by_dependencies(
     alloc: Global,
     source: &ParsedSource,
@@ -161,7 +161,7 @@ fn are_same(
             .all(|(borrowed, owned)| is_same(text_info, borrowed, owned))
 }
 
-/// Whether both have the same kind, specifier, range and attributes.
+/// Returns whether both have the same kind, specifier, range and attributes.
 fn is_same(
     text_info: &SourceTextInfo,
     borrowed: &DependencyDescriptor<'_>,

@@ -33,7 +33,7 @@ impl Run {
         Ok(run)
     }
 
-    /// Whether an allocation failed, for the document or for one of its lines.
+    /// Returns whether an allocation failed, for the document or for one of its lines.
     fn is_out_of_memory(&self) -> bool {
         let output = self.output.as_slice();
         output.is_empty() && self.errors.as_slice() == b"modinfo: OutOfMemory\n".as_slice()
@@ -76,6 +76,25 @@ impl Run {
 pub fn serve(alloc: Global, words: &[&str], input: &[u8]) -> Result<String, CaseError> {
     let run = Run::of(alloc, words, input)?;
     answer_with_others(alloc, words, input, &run)
+}
+
+/// Runs the program, and `check` with the same words. Appends the report, and the status of `check` if it is another.
+pub fn both(alloc: Global, words: &[&str], input: &[u8]) -> Result<String, CaseError> {
+    let run = Run::of(alloc, words, input)?;
+    let mut answer = answer_with_others(alloc, words, input, &run)?;
+    let mut check_words = Vec::new(alloc);
+    check_words.push("check")?;
+    check_words.extend_from_slice(words)?;
+    let check = Run::of(alloc, check_words.as_slice(), input)?;
+    push_lines(&mut answer, "report", text_of(check.output.as_slice())?)?;
+    if check.status != run.status {
+        push_lines(
+            &mut answer,
+            "status",
+            format!(in alloc; "{}", check.status)?.as_str(),
+        )?;
+    }
+    Ok(answer)
 }
 
 fn answer_with_others(

@@ -106,12 +106,12 @@ impl Tested {
         )
     }
 
-    /// Whether the second source was parsed and stored, after the first.
+    /// Returns whether the second source was parsed and stored, after the first.
     fn is_parsed(&self) -> bool {
         self.stored.get() == 2
     }
 
-    /// Whether the store has the source that was stored last. Allocates nothing.
+    /// Returns whether the store has the source that was stored last. Allocates nothing.
     fn has_last(&self, alloc: Global) -> Result<bool, AllocError> {
         let there = self
             .analyzer

@@ -114,7 +114,7 @@ impl Tested {
         run(alloc, &mut self.analyzer, commands)
     }
 
-    /// Whether the analyzer is in one of the states. Allocates nothing.
+    /// Returns whether the analyzer is in one of the states. Allocates nothing.
     fn is_in(&self, alloc: Global, states: &[State]) -> Result<bool, AllocError> {
         for (calls, first, second) in states {
             if self.calls.get() == *calls
@@ -127,7 +127,7 @@ impl Tested {
         Ok(false)
     }
 
-    /// Whether the source under a specifier has this text, or there is no source if `text` is `None`.
+    /// Returns whether the source under a specifier has this text, or there is no source if `text` is `None`.
     fn has_text(
         &self,
         alloc: Global,

@@ -136,7 +136,7 @@ fn look_ups_agree(comments: &Comments, before: &Comments) -> bool {
     })
 }
 
-/// Whether there are more comments than before at the offset, after the comments of `before`.
+/// Returns whether there are more comments than before at the offset, after the comments of `before`.
 fn is_filed(comments: &Comments, before: &Comments, side: CommentSide, pos: usize) -> bool {
     let (now, then) = match side {
         CommentSide::Leading => (comments.get_leading(pos), before.get_leading(pos)),

@@ -62,7 +62,7 @@ impl Tested {
         Ok(parser.parse_program(alloc, options))
     }
 
-    /// Whether the store has these sources under `U` and `V`. Allocates nothing.
+    /// Returns whether the store has these sources under `U` and `V`. Allocates nothing.
     fn holds(
         &self,
         alloc: Global,

@@ -29,7 +29,7 @@ fn read_and_look_up(alloc: Global, made: &Made) -> Result<(), CaseError> {
     values::look_up(alloc, made)
 }
 
-/// Whether an allocation fails now.
+/// Returns whether an allocation fails now.
 fn is_out_of_memory(alloc: Global) -> bool {
     Vec::<u64>::with_capacity(alloc, 1).is_err()
 }

@@ -3,15 +3,8 @@ use Rattle.std.proofs.Common.{◌+◌, ◌≤◌, ℕ, List, [], Option, IfOk, O
 use Rattle.std.proofs.lemmas.Result.{IfOk-weaker}
 use Rattle.deno_graph_analyzer.specs.CapturingModuleAnalyzer.{parser_of, analyzer_state}
 use Rattle.deno_graph_analyzer.specs.Commands.{Unmarked, misses, AreAnswers}
-use Rattle.deno_graph_analyzer.proofs.WholeRuns.{
-  by_result,
-  runs_function,
-  early_function,
-  ends_sound,
-  run_replies,
-  sound_empty,
-  unmarked_at-empty,
-}
+use Rattle.deno_graph_analyzer.proofs.WholeRuns.{by_result, runs_function, early_function, ends_sound}
+use Rattle.deno_graph_analyzer.proofs.WholeRuns.{run_replies, sound_empty, unmarked_at-empty}
 use Rattle.deno_graph_analyzer.proofs.run.run.Goals as goal
 
 pub returns-clause-function : goal.returns-clause-function

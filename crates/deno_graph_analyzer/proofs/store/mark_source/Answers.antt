@@ -3,12 +3,8 @@ use Rattle.std.proofs.Common.{◌≡◌, ◌∙◌, ap, sym, Some, None, Result,
 use Rattle.deno_graph_source.specs.ParsedSource.{marked}
 use Rattle.deno_graph_analyzer.specs.Sources.{source_at, with_source, with_mark_of}
 use Rattle.deno_graph_analyzer.specs.internal.MapSources.{sources_of}
-use Rattle.deno_graph_analyzer.proofs.StoredSources.{
-  source_at-sources_of,
-  with_source-sources_of,
-  with_source_again,
-  source_at-with_source_here,
-}
+use Rattle.deno_graph_analyzer.proofs.StoredSources.{source_at-sources_of, with_source-sources_of}
+use Rattle.deno_graph_analyzer.proofs.StoredSources.{with_source_again, source_at-with_source_here}
 use Rattle.deno_graph_analyzer.proofs.store.mark_source.Goals as goal
 
 at_err : {T E P : Type 0} (result : Result T E) → P → OnErr result P

@@ -3,23 +3,10 @@ use Rattle.std.proofs.Common.{◌≡◌, true, false, [], ◌∷◌, ◌++◌, m
 use Rattle.deno_graph_source.specs.Node.{kind_of}
 use Rattle.deno_graph_dep.specs.Argument.{part_seen, is_sum, is_string, parts}
 use Rattle.deno_graph_dep.proofs.Depth.{child_smaller}
-use Rattle.deno_graph_dep.proofs.Spine.{
-  plus_of,
-  left_at,
-  Descends-step,
-  child_shaped,
-  seen_push,
-  step_with,
-  seen_reverse,
-  has_spine,
-  LeftSpine-join,
-  LeftSpine-end,
-  sum_form-unknown,
-  sum_form-known,
-  HasFormAt-binary,
-  Descends-all_sums,
-  string_is_no_binary,
-}
+use Rattle.deno_graph_dep.proofs.Spine.{plus_of, left_at, Descends-step, child_shaped, seen_push, step_with}
+use Rattle.deno_graph_dep.proofs.Spine.{seen_reverse, has_spine, LeftSpine-join, LeftSpine-end}
+use Rattle.deno_graph_dep.proofs.Spine.{sum_form-unknown, sum_form-known, HasFormAt-binary, Descends-all_sums}
+use Rattle.deno_graph_dep.proofs.Spine.{string_is_no_binary}
 use Rattle.deno_graph_dep.proofs.argument.sum_argument.Goals as goal
 
 pub loop-operand-smaller : goal.loop-operand-smaller

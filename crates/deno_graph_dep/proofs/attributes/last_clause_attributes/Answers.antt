@@ -5,19 +5,12 @@ use Rattle.std.proofs.lemmas.Bool.{both_ways}
 use Rattle.std.proofs.lemmas.Result.{IfOk-weaker}
 use Rattle.deno_graph_source.specs.declared.tree.node.Node.{Node}
 use Rattle.deno_graph_dep.specs.Attributes.{AreObjectAttributes, AreClauseAttributes}
-use Rattle.deno_graph_dep.proofs.LastClause.{
-  ClausesBelow,
-  ClausesBelow-skip,
-  ClausesBelow-clause,
-  AreClauseAttributes-unknown,
-  AreClauseAttributes-none,
-  AreClauseAttributes-last,
-}
+use Rattle.deno_graph_dep.proofs.LastClause.{ClausesBelow, ClausesBelow-skip, ClausesBelow-clause}
+use Rattle.deno_graph_dep.proofs.LastClause.{AreClauseAttributes-unknown, AreClauseAttributes-none}
+use Rattle.deno_graph_dep.proofs.LastClause.{AreClauseAttributes-last}
 use Rattle.deno_graph_dep.proofs.attributes.last_clause_attributes.Goals as goal
-use Rattle.deno_graph_dep.proofs.attributes.last_clause_attributes.Goals.{
-  then-is_clause+in-Some,
-  else-is_clause,
-}
+use Rattle.deno_graph_dep.proofs.attributes.last_clause_attributes.Goals.{then-is_clause+in-Some}
+use Rattle.deno_graph_dep.proofs.attributes.last_clause_attributes.Goals.{else-is_clause}
 
 pub loop-property-preserved : goal.loop-property-preserved
 loop-property-preserved c =

@@ -3,10 +3,8 @@ use Rattle.std.proofs.Common.{Some, [], sym, subst, take, ◌+◌}
 use Rattle.deno_graph_dep.specs.Attributes.{HoldsLast, attribute_of, declared}
 use Rattle.deno_graph_dep.proofs.LastGiven.{HoldsLast-nil, HoldsLast-skip_more, HoldsLast-put_more}
 use Rattle.deno_graph_dep.proofs.attributes.parse_import_attributes.Goals as goal
-use Rattle.deno_graph_dep.proofs.attributes.parse_import_attributes.Goals.{
-  in-Some-static_entry+in_ok-put_attribute,
-  in_default-static_entry,
-}
+use Rattle.deno_graph_dep.proofs.attributes.parse_import_attributes.Goals.{in-Some-static_entry+in_ok-put_attribute}
+use Rattle.deno_graph_dep.proofs.attributes.parse_import_attributes.Goals.{in_default-static_entry}
 
 pub loop-property-init : goal.loop-property-init
 loop-property-init c = subst (HoldsLast declared []) (sym c.new-attributes.ensures) (HoldsLast-nil declared)

@@ -10,14 +10,8 @@ use Rattle.deno_graph_dep.specs.DependencyRules.{is_dependency}
 use Rattle.deno_graph_dep.specs.Descriptor.{descriptor_seen}
 use Rattle.deno_graph_dep.specs.DescriptorOf.{IsDescriptorOf}
 use Rattle.deno_graph_dep.specs.Walk.{IsWalkStep}
-use Rattle.deno_graph_dep.proofs.Returned.{
-  AreReturned,
-  AreReturned-more,
-  AreDependencies-given,
-  AreDescriptorsOf-given,
-  step-dependency,
-  step-shaped,
-}
+use Rattle.deno_graph_dep.proofs.Returned.{AreReturned, AreReturned-more, AreDependencies-given}
+use Rattle.deno_graph_dep.proofs.Returned.{AreDescriptorsOf-given, step-dependency, step-shaped}
 use Rattle.deno_graph_dep.proofs.SpelledArguments.{dependencies_spell}
 use Rattle.deno_graph_dep.proofs.collector.analyze_program_dependencies.Goals as goal
 

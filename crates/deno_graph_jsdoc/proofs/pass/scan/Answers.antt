@@ -16,10 +16,9 @@ use Rattle.deno_graph_jsdoc.specs.internal.Pass.{GainsImport}
 use Rattle.deno_graph_jsdoc.proofs.Braces.{IsUnclosed-back, Keeps-back}
 use Rattle.deno_graph_jsdoc.proofs.Imports.{byte_count_before}
 use Rattle.deno_graph_jsdoc.proofs.Cached.{AreCached-back, AreCachedSpaces-back}
-use Rattle.deno_graph_jsdoc.proofs.Passes.{Found, Found-start, Found-imports, Found-dynamics}
-use Rattle.deno_graph_jsdoc.proofs.Passes.{Found-decls, Takes}
-use Rattle.deno_graph_jsdoc.proofs.Passes.{dynamic_skip, dynamic_take, decl_skip, decl_take, next, next_whole}
-use Rattle.deno_graph_jsdoc.proofs.Passes.{next_cut, next_longer, next_skips, declaration_here}
+use Rattle.deno_graph_jsdoc.proofs.Passes.{Found, Found-start, Found-imports, Found-dynamics, Found-decls}
+use Rattle.deno_graph_jsdoc.proofs.Passes.{Takes, dynamic_skip, dynamic_take, decl_skip, decl_take, next}
+use Rattle.deno_graph_jsdoc.proofs.Passes.{next_whole, next_cut, next_longer, next_skips, declaration_here}
 use Rattle.deno_graph_jsdoc.proofs.Passes.{at_declaration, dynamic_here, at_dynamic}
 use Rattle.deno_graph_jsdoc.proofs.Occurrences.{occurrences-after}
 use Rattle.deno_graph_jsdoc.proofs.Sites.{word, Skips}

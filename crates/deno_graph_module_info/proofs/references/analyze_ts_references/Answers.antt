@@ -4,10 +4,8 @@ use Rattle.std.specs.Option.{option_to_list}
 use Rattle.deno_graph_info.specs.declared.analysis.type_script_reference.TypeScriptReference.{TypeScriptReference}
 use Rattle.deno_graph_module_info.proofs.ReferenceLists.{kept-push}
 use Rattle.deno_graph_module_info.proofs.references.analyze_ts_references.Goals as goal
-use Rattle.deno_graph_module_info.proofs.references.analyze_ts_references.Goals.{
-  in-Some+in_ok-push,
-  in_default,
-}
+use Rattle.deno_graph_module_info.proofs.references.analyze_ts_references.Goals.{in-Some+in_ok-push}
+use Rattle.deno_graph_module_info.proofs.references.analyze_ts_references.Goals.{in_default}
 
 pub loop-comment-preserved : goal.loop-comment-preserved
 loop-comment-preserved c =

@@ -1,26 +1,6 @@
 -- A node makes a module exactly if it does so itself or by a child.
-use Rattle.std.proofs.Common.{
-  ◌≡◌,
-  ℕ,
-  ◌<◌,
-  ◌||◌,
-  false,
-  Bool,
-  Some,
-  slice_get,
-  length,
-  sym,
-  ap,
-  refl,
-  ◌∙◌,
-  subst,
-  ◌⊎◌,
-  inl,
-  inr,
-  IsTrue,
-  below_more,
-  arith,
-}
+use Rattle.std.proofs.Common.{◌≡◌, ℕ, ◌<◌, ◌||◌, false, Bool, Some, slice_get, length, sym, ap, refl, ◌∙◌}
+use Rattle.std.proofs.Common.{subst, ◌⊎◌, inl, inr, IsTrue, below_more, arith}
 use Rattle.std.proofs.lemmas.Option.{slice_get_read, slice_get_within}
 use Rattle.deno_graph_source.specs.Node.{kind_of, children_of}
 use Rattle.deno_graph_source.specs.declared.tree.node.Node.{Node}

@@ -1,21 +1,6 @@
 -- A body is a script if the loop passes all items, and an item that ends the loop isn't one of a script.
-use Rattle.std.proofs.Common.{
-  ◌≡◌,
-  ℕ,
-  false,
-  Bool,
-  Some,
-  slice_get,
-  length,
-  sym,
-  ap,
-  refl,
-  ◌∙◌,
-  subst,
-  IsTrue,
-  below_more,
-  arith,
-}
+use Rattle.std.proofs.Common.{◌≡◌, ℕ, false, Bool, Some, slice_get, length, sym, ap, refl, ◌∙◌, subst, IsTrue}
+use Rattle.std.proofs.Common.{below_more, arith}
 use Rattle.std.proofs.lemmas.List.{take_all}
 use Rattle.std.proofs.lemmas.List.Elements.{All-more, All-same, All-get_or}
 use Rattle.std.proofs.lemmas.Option.{slice_get_read, slice_get_within}

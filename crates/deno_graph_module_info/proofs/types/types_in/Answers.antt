@@ -2,12 +2,8 @@ use Rattle.std.proofs.Common.{◌≡◌, inr, subst, refl}
 use Rattle.deno_graph_pragmas.specs.Finders as finder
 use Rattle.deno_graph_pragmas.specs.Match.{IsQuotedIn, IsSliceIn, match_part_of, pragma_part_of}
 use Rattle.deno_graph_pragmas.specs.Split.{HasSplit, IsCaptured, IsSliceOf, IsInQuotes}
-use Rattle.deno_graph_module_info.proofs.Named.{
-  covers_as_written,
-  deno_types_named,
-  no_types_named,
-  ts_types_named,
-}
+use Rattle.deno_graph_module_info.proofs.Named.{covers_as_written, deno_types_named, no_types_named}
+use Rattle.deno_graph_module_info.proofs.Named.{ts_types_named}
 use Rattle.deno_graph_module_info.proofs.types.types_in.Goals as goal
 
 pub specifier_of_match-requires : goal.specifier_of_match-requires

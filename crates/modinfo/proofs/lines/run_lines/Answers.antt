@@ -5,20 +5,10 @@ use Rattle.modinfo.specs.Lines.PrintsLines.{none}
 use Rattle.modinfo.specs.Run.{IsFailure}
 use Rattle.modinfo.specs.declared.fault.Fault.TheVariants.{Input, OutOfMemory}
 use Rattle.modinfo.proofs.Faults.{write_failure}
-use Rattle.modinfo.proofs.LinesTaken.{
-  AppendsFront-more,
-  AppendsFront-sent,
-  LeavesFirstLines-at,
-  LeavesFirstLines-none,
-  Appends-same,
-  PrintsLines-next,
-  PrintsLines-written,
-  TakesLines-all,
-  TakesLines-more,
-  TakesLines-nil,
-  TakesLines-same,
-  exits,
-}
+use Rattle.modinfo.proofs.LinesTaken.{AppendsFront-more, AppendsFront-sent, LeavesFirstLines-at}
+use Rattle.modinfo.proofs.LinesTaken.{LeavesFirstLines-none, Appends-same, PrintsLines-next}
+use Rattle.modinfo.proofs.LinesTaken.{PrintsLines-written, TakesLines-all, TakesLines-more, TakesLines-nil}
+use Rattle.modinfo.proofs.LinesTaken.{TakesLines-same, exits}
 use Rattle.modinfo.proofs.lines.run_lines.Goals as goal
 
 pub returns-in_err-input : goal.returns-in_err-input

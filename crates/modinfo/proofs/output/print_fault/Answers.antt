@@ -1,14 +1,8 @@
 use Rattle.std.proofs.Common.{◌∙◌, subst, sym}
 use Rattle.std.proofs.KnownBytes.{Appends-nil}
 use Rattle.modinfo.specs.Run.{AppendsFront}
-use Rattle.modinfo.proofs.Written.{
-  front_after,
-  front_of_both,
-  front_of_result,
-  line_of_closed,
-  line_of_fault,
-  whole_of_result,
-}
+use Rattle.modinfo.proofs.Written.{front_after, front_of_both, front_of_result, line_of_closed, line_of_fault}
+use Rattle.modinfo.proofs.Written.{whole_of_result}
 use Rattle.modinfo.proofs.output.print_fault.Goals as goal
 
 -- The reader of the output ended.

@@ -1,24 +1,5 @@
-use Rattle.std.proofs.Common.{
-  Bor,
-  List,
-  ℕ,
-  ◌-◌,
-  ◌≡◌,
-  ◌++◌,
-  [],
-  drop,
-  take,
-  length,
-  rules,
-  sym,
-  ap,
-  ◌∙◌,
-  subst,
-  append_assoc,
-  append-nil,
-  take-append-drop,
-  drop_of_length-le,
-}
+use Rattle.std.proofs.Common.{Bor, List, ℕ, ◌-◌, ◌≡◌, ◌++◌, [], drop, take, length, rules, sym, ap, ◌∙◌}
+use Rattle.std.proofs.Common.{subst, append_assoc, append-nil, take-append-drop, drop_of_length-le}
 use Rattle.std.specs.Io.KnownBytes.{Appends, WriteAppends}
 use Rattle.std.proofs.KnownBytes.{Appends-kept, Appends-trans}
 use Rattle.std.proofs.lemmas.List.{take_rest}

@@ -3,14 +3,8 @@ use Rattle.std.proofs.lemmas.Result.{err_from_is_err_and}
 use Rattle.std.specs.String.{string_bytes}
 use Rattle.modinfo.specs.Run.{PrintsResult}
 use Rattle.modinfo.specs.declared.fault.Fault.TheVariants.{OutOfMemory}
-use Rattle.modinfo.proofs.Faults.{
-  failed_read,
-  read_apart,
-  result_apart,
-  run_fault,
-  run_without_memory,
-  write_fault,
-}
+use Rattle.modinfo.proofs.Faults.{failed_read, read_apart, result_apart, run_fault, run_without_memory}
+use Rattle.modinfo.proofs.Faults.{write_fault}
 use Rattle.modinfo.proofs.Outputs.{front_left, nothing_left}
 use Rattle.modinfo.proofs.Written.{known_or_none}
 use Rattle.modinfo.proofs.program.run_document.Goals as goal

@@ -58,7 +58,7 @@ returns-in_default-run_command_line-clause-lines g c command asks =
 pub returns-in-Ok-clause-help : goal.returns-in-Ok-clause-help
 returns-in-Ok-clause-help g c asks =
     let is = same_Some _ _ (sym c.in-Some.is ∙ (c.from_words.ensures Help).1 asks) in
-    let ran = rw c.in-Ok.is at c.in-Some-run_command_line.ensures.help is in
+    let ran = rw (c.in-Ok.is, c.help_on.ensures) at c.in-Some-run_command_line.ensures.help is in
     printed c.in-Ok.passes ran.0 ran.1 c.status_of.ensures ran.2 (Keeps-refl _)
 
 pub returns-in-Ok-clause-version : goal.returns-in-Ok-clause-version
@@ -94,7 +94,7 @@ returns-in-Ok-clause-wrong g c none =
 pub returns-in-Err-clause-help : goal.returns-in-Err-clause-help
 returns-in-Err-clause-help g c asks =
     let is = same_Some _ _ (sym c.in-Some.is ∙ (c.from_words.ensures Help).1 asks) in
-    let ran = rw c.in-Err.is at c.in-Some-run_command_line.ensures.help is in
+    let ran = rw (c.in-Err.is, c.help_on.ensures) at c.in-Some-run_command_line.ensures.help is in
     failed c.in-Err.fault ran.0 refl ran.1 c.print_fault.ensures
 
 pub returns-in-Err-clause-version : goal.returns-in-Err-clause-version

@@ -7,15 +7,8 @@ use Rattle.deno_graph_json.specs.ObjectReader.{readable}
 use Rattle.deno_graph_json.specs.Read.Error.{IsIn}
 use Rattle.modinfo.specs.Reach.{IsQuestionFault}
 use Rattle.modinfo.specs.internal.Reach.{IsModulesFault}
-use Rattle.modinfo.proofs.Modules.{
-  asks_for,
-  error_around,
-  fault_of_modules,
-  lacks_modules,
-  lacks_object,
-  no_question,
-  root_error,
-}
+use Rattle.modinfo.proofs.Modules.{asks_for, error_around, fault_of_modules, lacks_modules, lacks_object}
+use Rattle.modinfo.proofs.Modules.{no_question, root_error}
 use Rattle.modinfo.proofs.reach.read_question.Goals as goal
 
 -- The document is no object.

@@ -7,7 +7,7 @@ use Rattle.deno_graph_json.specs.Read.Partial.{◌>>=◌, member_at, member_or}
 use Rattle.deno_graph_json.specs.Read.Result.{IsReadError}
 use Rattle.deno_graph_json.proofs.Reading.{is_object, goes_on}
 use Rattle.modinfo_document.specs.Document.{Has}
-use Rattle.modinfo_document.specs.Kind.{reads_named}
+use Rattle.modinfo_document.specs.Named.{reads_named}
 use Rattle.modinfo_document.specs.Result.{IsReadResultBy}
 use Rattle.modinfo_document.proofs.Results.{exits_by, result_by_on, some_and, some_with}
 use Rattle.modinfo_estree.specs.Document.{reads_estree, reads_tree, units}

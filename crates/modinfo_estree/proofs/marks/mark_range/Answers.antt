@@ -1,14 +1,7 @@
 use Rattle.std.proofs.Common.{◌≡◌, ◌<◌, ◌+◌, ◌==◌, ◌||◌, ℕ, length, min, arith}
 use Rattle.modinfo_estree.specs.Tokens.{has_byte}
-use Rattle.modinfo_estree.proofs.ByteMarks.{
-  mark_byte,
-  marked_also,
-  none_marked,
-  range_all,
-  range_more,
-  range_none,
-  tested,
-}
+use Rattle.modinfo_estree.proofs.ByteMarks.{mark_byte, marked_also, none_marked, range_all, range_more}
+use Rattle.modinfo_estree.proofs.ByteMarks.{range_none, tested}
 use Rattle.modinfo_estree.proofs.marks.mark_range.Goals as goal
 
 pub loop-at-init : goal.loop-at-init

@@ -4,14 +4,8 @@ use Rattle.std.specs.List.{list_any}
 use Rattle.deno_graph_base.specs.declared.text.position.SourceRange.{SourceRange}
 use Rattle.modinfo_estree.specs.Tokens.{has_byte}
 use Rattle.modinfo_estree.specs.internal.Marks.{AreMarked}
-use Rattle.modinfo_estree.proofs.ByteMarks.{
-  IsPast,
-  mark_more,
-  none_marked,
-  nothing_past,
-  past_range,
-  still_past,
-}
+use Rattle.modinfo_estree.proofs.ByteMarks.{IsPast, mark_more, none_marked, nothing_past, past_range}
+use Rattle.modinfo_estree.proofs.ByteMarks.{still_past}
 use Rattle.modinfo_estree.proofs.marks.mark_ranges.Goals as goal
 use Rattle.modinfo_estree.proofs.marks.mark_ranges.Goals.{then-range-last, else-range-last}
 

@@ -1,13 +1,12 @@
-use Rattle.std.proofs.Common.{◌≡◌, ◌≤◌, ◌∷◌, length, map, Some, None}
-use Rattle.std.proofs.Common.{arith, codes, sym, ap, refl, subst, ◌∙◌}
+use Rattle.std.proofs.Common.{◌≡◌, ◌≤◌, ◌∷◌, length, map, Some, None, arith, codes, sym, ap, refl, subst, ◌∙◌}
 use Rattle.serde_json.specs.Data.{array, object}
 use Rattle.serde_json.specs.Find.{as_str, get_item}
 use Rattle.deno_graph_json.specs.Data.{data_of, elements_data, members_data, view_data}
 use Rattle.deno_graph_json.specs.ObjectReader.{readable, value_of}
 use Rattle.deno_graph_json.specs.Read.Partial.{◌>>=◌, member_at}
 use Rattle.deno_graph_json.specs.Read.Result.{IsReadError, IsReadResult}
-use Rattle.deno_graph_json.proofs.ArrayElements.{AreFrom, depth_of_item, elements_next, from_begin}
-use Rattle.deno_graph_json.proofs.ArrayElements.{from_next, from_here}
+use Rattle.deno_graph_json.proofs.ArrayElements.{AreFrom, depth_of_item, elements_next, from_begin, from_next}
+use Rattle.deno_graph_json.proofs.ArrayElements.{from_here}
 use Rattle.deno_graph_json.proofs.ObjectMembers.{Entry, depth_of_member, rest_here, rest_next}
 use Rattle.deno_graph_json.proofs.Reading.{error_around, exits, object_on, reading, result_on}
 use Rattle.modinfo_estree.specs.Child.{sorted_children}
@@ -15,23 +14,9 @@ use Rattle.modinfo_estree.specs.Member.{is_text, reads_range, text_at}
 use Rattle.modinfo_estree.specs.Node.{children_among, children_in, is_jsx_attribute, node_with}
 use Rattle.modinfo_estree.specs.Source.{byte_of, source_of}
 use Rattle.modinfo_estree.specs.internal.Node.{AreAppended, children_at, item_child}
-use Rattle.modinfo_estree.proofs.Nodes.{
-  all_done,
-  all_new,
-  child_error,
-  item_next,
-  member_next,
-  next_error,
-  no_child,
-  no_item_next,
-  no_type,
-  node_read,
-  none_yet,
-  object_read,
-  one_child,
-  some_more,
-  type_read,
-}
+use Rattle.modinfo_estree.proofs.Nodes.{all_done, all_new, child_error, item_next, member_next, next_error}
+use Rattle.modinfo_estree.proofs.Nodes.{no_child, no_item_next, no_type, node_read, none_yet, object_read}
+use Rattle.modinfo_estree.proofs.Nodes.{one_child, some_more, type_read}
 use Rattle.std.proofs.lemmas.List.{drop_all}
 use Rattle.modinfo_estree.specs.internal.Candidates.{entry_of}
 use Rattle.modinfo_estree.proofs.InnerMembers.{next_left, no_candidate}

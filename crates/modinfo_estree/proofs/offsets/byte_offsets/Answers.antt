@@ -5,10 +5,7 @@ use Rattle.modinfo_estree.specs.internal.Tables.{at_32nds}
 use Rattle.modinfo_estree.proofs.Tables.{none_more, one_more}
 use Rattle.modinfo_estree.proofs.UnitSizes.{all_units, next_unit, no_units, same_units}
 use Rattle.modinfo_estree.proofs.offsets.byte_offsets.Goals as goal
-use Rattle.modinfo_estree.proofs.offsets.byte_offsets.Goals.{
-  then-units-eq0+in_ok-push-2,
-  else-units-eq0,
-}
+use Rattle.modinfo_estree.proofs.offsets.byte_offsets.Goals.{then-units-eq0+in_ok-push-2, else-units-eq0}
 
 pub loop-end-init : goal.loop-end-init
 loop-end-init c = record {

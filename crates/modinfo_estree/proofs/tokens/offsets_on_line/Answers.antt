@@ -1,40 +1,16 @@
-use Rattle.std.proofs.Common.{
-  ◌≡◌,
-  ◌∷◌,
-  ◌++◌,
-  [],
-  ◌+◌,
-  ◌<◌,
-  ◌&&◌,
-  not,
-  length,
-  get_or,
-  ap,
-  sym,
-  ◌∙◌,
-  arith,
-  true,
-  false,
-}
+use Rattle.std.proofs.Common.{◌≡◌, ◌∷◌, ◌++◌, [], ◌+◌, ◌<◌, ◌&&◌, not, length, get_or, ap, sym, ◌∙◌, arith}
+use Rattle.std.proofs.Common.{true, false}
 use Rattle.modinfo_estree.specs.Tokens.{is_on_line}
 use Rattle.modinfo_estree.specs.internal.Marks.{breaks_of, gaps_of}
 use Rattle.modinfo_estree.specs.internal.Tables.{at_32nds}
 use Rattle.modinfo_estree.proofs.Tables.{none_more, one_more}
-use Rattle.modinfo_estree.proofs.TokenTables.{
-  line_at_gap,
-  line_at_start,
-  line_at_token,
-  size_of_breaks,
-  size_of_gaps,
-}
+use Rattle.modinfo_estree.proofs.TokenTables.{line_at_gap, line_at_start, line_at_token, size_of_breaks}
+use Rattle.modinfo_estree.proofs.TokenTables.{size_of_gaps}
 use Rattle.modinfo_estree.proofs.tokens.offsets_on_line.Goals as goal
-use Rattle.modinfo_estree.proofs.tokens.offsets_on_line.Goals.{
-  then-not-is_gap,
-  else-not-is_gap+then-is_on_line,
-  else-not-is_gap+else-is_on_line,
-  then-at-eq0+in_ok-push-2,
-  else-at-eq0,
-}
+use Rattle.modinfo_estree.proofs.tokens.offsets_on_line.Goals.{then-not-is_gap}
+use Rattle.modinfo_estree.proofs.tokens.offsets_on_line.Goals.{else-not-is_gap+then-is_on_line}
+use Rattle.modinfo_estree.proofs.tokens.offsets_on_line.Goals.{else-not-is_gap+else-is_on_line}
+use Rattle.modinfo_estree.proofs.tokens.offsets_on_line.Goals.{then-at-eq0+in_ok-push-2, else-at-eq0}
 
 pub loop-at-init : goal.loop-at-init
 loop-at-init c =

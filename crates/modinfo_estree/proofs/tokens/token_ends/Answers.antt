@@ -5,12 +5,8 @@ use Rattle.modinfo_estree.specs.internal.Tables.{at_32nds}
 use Rattle.modinfo_estree.proofs.Tables.{none_more, one_more}
 use Rattle.modinfo_estree.proofs.TokenTables.{end_at_gap, end_at_start, end_at_token, size_of_gaps}
 use Rattle.modinfo_estree.proofs.tokens.token_ends.Goals as goal
-use Rattle.modinfo_estree.proofs.tokens.token_ends.Goals.{
-  then-not-is_gap_at,
-  else-not-is_gap_at,
-  then-at-eq0+in_ok-push-2,
-  else-at-eq0,
-}
+use Rattle.modinfo_estree.proofs.tokens.token_ends.Goals.{then-not-is_gap_at, else-not-is_gap_at}
+use Rattle.modinfo_estree.proofs.tokens.token_ends.Goals.{then-at-eq0+in_ok-push-2, else-at-eq0}
 
 pub loop-at-init : goal.loop-at-init
 loop-at-init c =

@@ -1,45 +1,14 @@
-use Rattle.std.proofs.Common.{
-  ◌≡◌,
-  ◌+◌,
-  ◌-◌,
-  ◌*◌,
-  ◌/◌,
-  ◌%◌,
-  ◌<◌,
-  ◌≤◌,
-  ℕ,
-  Bool,
-  true,
-  false,
-  ◌⊎◌,
-  inl,
-  inr,
-  List,
-  length,
-  get_or,
-  ap,
-  sym,
-  ◌∙◌,
-  arith,
-  set,
-}
+use Rattle.std.proofs.Common.{◌≡◌, ◌+◌, ◌-◌, ◌*◌, ◌/◌, ◌%◌, ◌<◌, ◌≤◌, ℕ, Bool, true, false, ◌⊎◌, inl, inr}
+use Rattle.std.proofs.Common.{List, length, get_or, ap, sym, ◌∙◌, arith, set}
 use Rattle.std.proofs.lemmas.Bool.{cases_eq}
-use Rattle.std.proofs.lemmas.List.{
-  get_or-replicate,
-  get_or-set_other,
-  get_or-set_same,
-  length-replicate,
-  length-set,
-}
+use Rattle.std.proofs.lemmas.List.{get_or-replicate, get_or-set_other, get_or-set_same, length-replicate}
+use Rattle.std.proofs.lemmas.List.{length-set}
 use Rattle.std.proofs.lemmas.List.FromFn.{fill_by_all}
 use Rattle.modinfo_estree.specs.Tokens.{token_start}
 use Rattle.modinfo_estree.specs.internal.Marks.{gaps_of}
 use Rattle.modinfo_estree.proofs.TokenTables.{size_of_gaps, start_at_end, start_at_gap, start_at_token}
 use Rattle.modinfo_estree.proofs.tokens.token_starts.Goals as goal
-use Rattle.modinfo_estree.proofs.tokens.token_starts.Goals.{
-  then-not-is_gap_at,
-  else-not-is_gap_at,
-}
+use Rattle.modinfo_estree.proofs.tokens.token_starts.Goals.{then-not-is_gap_at, else-not-is_gap_at}
 
 pub loop-at-init : goal.loop-at-init
 loop-at-init c =

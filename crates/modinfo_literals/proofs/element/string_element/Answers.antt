@@ -2,20 +2,13 @@
 use Rattle.std.proofs.Common.{◌∙◌, sym, ap}
 use Rattle.std.specs.Str.{chars}
 use Rattle.modinfo_literals.specs.internal.Step.{stands_for}
-use Rattle.modinfo_literals.proofs.Steps.{
-  string_step-nil,
-  string_step-escape,
-  string_step-quote,
-  string_step-line_feed,
-  string_step-carriage_return,
-  string_step-character,
-}
+use Rattle.modinfo_literals.proofs.Steps.{string_step-nil, string_step-escape, string_step-quote}
+use Rattle.modinfo_literals.proofs.Steps.{string_step-line_feed, string_step-carriage_return}
+use Rattle.modinfo_literals.proofs.Steps.{string_step-character}
 use Rattle.modinfo_literals.proofs.element.string_element.Goals as goal
-use Rattle.modinfo_literals.proofs.element.string_element.Goals.{
-  then-first-quote-via-then-first-quote,
-  then-first-quote-via-else-first-quote+then-first-eq10,
-  then-first-quote-via-else-first-quote+else-first-eq10+then-first-eq13,
-}
+use Rattle.modinfo_literals.proofs.element.string_element.Goals.{then-first-quote-via-then-first-quote}
+use Rattle.modinfo_literals.proofs.element.string_element.Goals.{then-first-quote-via-else-first-quote+then-first-eq10}
+use Rattle.modinfo_literals.proofs.element.string_element.Goals.{then-first-quote-via-else-first-quote+else-first-eq10+then-first-eq13}
 
 pub returns-in_err-first-clause-step : goal.returns-in_err-first-clause-step
 returns-in_err-first-clause-step c =

@@ -3,14 +3,9 @@ use Rattle.std.proofs.Common.{◌≡◌, ◌∙◌, sym, ap, rules}
 use Rattle.std.specs.Str.{chars}
 use Rattle.std.proofs.lemmas.Bool.{and_parts, eqb-true}
 use Rattle.modinfo_literals.specs.internal.Step.{stands_for}
-use Rattle.modinfo_literals.proofs.Steps.{
-  template_step-nil,
-  template_step-escape,
-  template_step-backtick,
-  template_step-dollar,
-  template_step-carriage_return,
-  template_step-character,
-}
+use Rattle.modinfo_literals.proofs.Steps.{template_step-nil, template_step-escape, template_step-backtick}
+use Rattle.modinfo_literals.proofs.Steps.{template_step-dollar, template_step-carriage_return}
+use Rattle.modinfo_literals.proofs.Steps.{template_step-character}
 use Rattle.modinfo_literals.proofs.element.template_element.Goals as goal
 
 pub returns-in_err-first-clause-step : goal.returns-in_err-first-clause-step

@@ -1,12 +1,7 @@
 -- A code point is what the digits before the closing brace stand for.
 use Rattle.std.proofs.Common.{⊎_elim}
-use Rattle.modinfo_literals.proofs.Steps.{
-  braced_step-empty,
-  braced_step-large,
-  braced_step-open,
-  braced_step-closed,
-  length-chars,
-}
+use Rattle.modinfo_literals.proofs.Steps.{braced_step-empty, braced_step-large, braced_step-open}
+use Rattle.modinfo_literals.proofs.Steps.{braced_step-closed, length-chars}
 use Rattle.modinfo_literals.proofs.escape.braced_digits.Goals as goal
 
 pub returns-then-found-eq0-clause-step : goal.returns-then-found-eq0-clause-step

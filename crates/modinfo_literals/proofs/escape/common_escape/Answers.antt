@@ -2,13 +2,8 @@
 use Rattle.std.proofs.Common.{◌≡◌, ◌∙◌, sym, ap, rules}
 use Rattle.modinfo_literals.specs.internal.Step.{stands_for, stands_for_nothing}
 use Rattle.std.specs.Str.{chars}
-use Rattle.modinfo_literals.proofs.Steps.{
-  common_step-hex,
-  common_step-unicode,
-  common_step-carriage_return,
-  common_step-line,
-  common_step-other,
-}
+use Rattle.modinfo_literals.proofs.Steps.{common_step-hex, common_step-unicode, common_step-carriage_return}
+use Rattle.modinfo_literals.proofs.Steps.{common_step-line, common_step-other}
 use Rattle.modinfo_literals.proofs.escape.common_escape.Goals as goal
 
 pub returns-in-x-clause-step : goal.returns-in-x-clause-step

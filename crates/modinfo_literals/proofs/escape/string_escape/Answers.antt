@@ -2,12 +2,8 @@
 use Rattle.std.proofs.Common.{◌∙◌, sym, ap}
 use Rattle.std.specs.Str.{chars}
 use Rattle.modinfo_literals.specs.internal.Step.{stands_for}
-use Rattle.modinfo_literals.proofs.Steps.{
-  string_escape_step-nil,
-  string_escape_step-octal,
-  string_escape_step-decimal,
-  string_escape_step-other,
-}
+use Rattle.modinfo_literals.proofs.Steps.{string_escape_step-nil, string_escape_step-octal}
+use Rattle.modinfo_literals.proofs.Steps.{string_escape_step-decimal, string_escape_step-other}
 use Rattle.modinfo_literals.proofs.escape.string_escape.Goals as goal
 
 pub returns-in_err-first-clause-step : goal.returns-in_err-first-clause-step

@@ -1,16 +1,11 @@
 -- The first character decides which escape the text begins with.
 use Rattle.std.proofs.Common.{◌∙◌, sym, ap, not}
 use Rattle.std.proofs.lemmas.Bool.{and_from, and_left, and_right, cond-true, cond-false, eq-eqb, ne_eqb}
-use Rattle.modinfo_literals.proofs.Steps.{
-  template_escape_step-nil,
-  template_escape_step-other,
-  template_escape_step-digit,
-}
+use Rattle.modinfo_literals.proofs.Steps.{template_escape_step-nil, template_escape_step-other}
+use Rattle.modinfo_literals.proofs.Steps.{template_escape_step-digit}
 use Rattle.modinfo_literals.proofs.escape.template_escape.Goals as goal
-use Rattle.modinfo_literals.proofs.escape.template_escape.Goals.{
-  else-first-eq48-via-then-first-eq48+else-not-begins_with_digit,
-  else-first-eq48-via-else-first-eq48,
-}
+use Rattle.modinfo_literals.proofs.escape.template_escape.Goals.{else-first-eq48-via-then-first-eq48+else-not-begins_with_digit}
+use Rattle.modinfo_literals.proofs.escape.template_escape.Goals.{else-first-eq48-via-else-first-eq48}
 
 pub returns-in_err-first-clause-step : goal.returns-in_err-first-clause-step
 returns-in_err-first-clause-step c =

@@ -1,20 +1,6 @@
 -- A text without bytes is one without characters.
-use Rattle.std.proofs.Common.{
-  ◌≡◌,
-  List,
-  ℕ,
-  [],
-  ◌∙◌,
-  sym,
-  ap,
-  length,
-  encode_utf8_all,
-  MatchBool,
-  Bool,
-  true,
-  false,
-  ◌==◌,
-}
+use Rattle.std.proofs.Common.{◌≡◌, List, ℕ, [], ◌∙◌, sym, ap, length, encode_utf8_all, MatchBool, Bool, true}
+use Rattle.std.proofs.Common.{false, ◌==◌}
 use Rattle.std.specs.Str.{chars, IsUtf8}
 use Rattle.std.proofs.lemmas.Bool.{eqb-true, eqb-false}
 use Rattle.std.proofs.lemmas.List.{nil_from_length}

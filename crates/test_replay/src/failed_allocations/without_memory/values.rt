@@ -75,7 +75,7 @@ fn find_boundaries(line: &SourceTextInfo) -> Result<(), CaseError> {
     Ok(())
 }
 
-/// Whether the offset is a boundary, and the offset and the position are converted into each other.
+/// Returns whether the offset is a boundary, and the offset and the position are converted into each other.
 fn is_boundary(line: &SourceTextInfo, pos: usize, position: Position) -> bool {
     line.text().is_char_boundary(pos)
         && Position::from_source_pos(pos, line) == position
@@ -145,7 +145,7 @@ fn dependency_is_found(found: Option<&DependencyDescriptor>) -> bool {
         && DynamicArgument::default().is_expr()
 }
 
-/// Whether `From` wraps a static and a dynamic dependency that borrow.
+/// Returns whether `From` wraps a static and a dynamic dependency that borrow.
 fn are_borrowed_wrapped() -> bool {
     let import = dep::DependencyDescriptor::from(dep::StaticDependencyDescriptor {
         kind: StaticDependencyKind::Import,
@@ -189,7 +189,7 @@ pub fn take_apart(alloc: Global, made: Made) -> Result<(), CaseError> {
     ])
 }
 
-/// Whether `From` wraps the last dependency, taken out of the info, as static.
+/// Returns whether `From` wraps the last dependency, taken out of the info, as static.
 fn is_static_wrapped(info: ModuleInfo) -> bool {
     let Some(DependencyDescriptor::Static(import)) = info.dependencies.into_vec().pop() else {
         return false;

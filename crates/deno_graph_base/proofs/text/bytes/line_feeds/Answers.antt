@@ -4,12 +4,8 @@ use Rattle.std.proofs.lemmas.Bool.Decides.{nat_tests}
 use Rattle.std.proofs.lemmas.List.Sums.{count_by_more_yes, count_by_more_no}
 use Rattle.deno_graph_base.proofs.ByteCounts.{ord_max-nat}
 use Rattle.deno_graph_base.proofs.text.bytes.line_feeds.Goals as goal
-use Rattle.deno_graph_base.proofs.text.bytes.line_feeds.Goals.{
-  then-bytes-i-eq10,
-  else-bytes-i-eq10,
-  then-bytes-i-eq10-2,
-  else-bytes-i-eq10-2,
-}
+use Rattle.deno_graph_base.proofs.text.bytes.line_feeds.Goals.{then-bytes-i-eq10, else-bytes-i-eq10}
+use Rattle.deno_graph_base.proofs.text.bytes.line_feeds.Goals.{then-bytes-i-eq10-2, else-bytes-i-eq10-2}
 
 pub loop-i-preserved : goal.loop-i-preserved
 loop-i-preserved c =

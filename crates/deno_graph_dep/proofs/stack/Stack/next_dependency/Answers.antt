@@ -2,18 +2,9 @@
 use Rattle.std.proofs.Common.{OnErr, Result, Ok, Err, sym, ◌∙◌}
 use Rattle.std.proofs.lemmas.List.{nil_from_length}
 use Rattle.deno_graph_dep.proofs.Counts.{IsStackOf-enter, IsStackOf-leave}
-use Rattle.deno_graph_dep.proofs.Progress.{
-  Progress-none,
-  Progress-enter,
-  Progress-leave,
-  entered-rises,
-  left-rises,
-  step-enter,
-  step-leave,
-  step-end,
-  IsStackOf-same,
-  to_come-same,
-}
+use Rattle.deno_graph_dep.proofs.Progress.{Progress-none, Progress-enter, Progress-leave, entered-rises}
+use Rattle.deno_graph_dep.proofs.Progress.{left-rises, step-enter, step-leave, step-end, IsStackOf-same}
+use Rattle.deno_graph_dep.proofs.Progress.{to_come-same}
 use Rattle.deno_graph_dep.proofs.Steps.{iterations_left-enter, iterations_left-leave}
 use Rattle.deno_graph_dep.proofs.stack.Stack.next_dependency.Goals as goal
 

@@ -1,6 +1,5 @@
 -- The text after each comma is an end of the text.
-use Rattle.std.proofs.Common.{lit<, ◌≡◌, List, ℕ, ◌∷◌, ◌++◌, length, sym, ap, ◌∙◌, subst, append_assoc}
-use Rattle.std.proofs.Common.{rules}
+use Rattle.std.proofs.Common.{lit<, ◌≡◌, List, ℕ, ◌∷◌, ◌++◌, length, sym, ap, ◌∙◌, subst, append_assoc, rules}
 use Rattle.std.proofs.lemmas.List.Elements.{All-push}
 use Rattle.std.proofs.lemmas.Str.{encodes-chars}
 use Rattle.std.specs.Str.{IsUtf8, chars}

@@ -1,6 +1,6 @@
 -- The range is moved by the bytes before `after`.
-use Rattle.std.proofs.Common.{◌≡◌, ◌+◌, ◌-◌, ◌<◌, ◌^◌, ℕ, Option, Some, IfSome, List, length, ap}
-use Rattle.std.proofs.Common.{subst, arith, rules}
+use Rattle.std.proofs.Common.{◌≡◌, ◌+◌, ◌-◌, ◌<◌, ◌^◌, ℕ, Option, Some, IfSome, List, length, ap, subst}
+use Rattle.std.proofs.Common.{arith, rules}
 use Rattle.std.specs.Str.{chars}
 use denote.Ref.{Bor}
 use Rattle.deno_graph_jsdoc.specs.JsDocImport.{Import}

@@ -10,8 +10,7 @@ use Rattle.deno_graph_jsdoc.proofs.Arguments.{open_none, open_read, arguments_en
 use Rattle.deno_graph_jsdoc.proofs.Imports.{no_head, no_quote, no_tail, import_read, byte_count_before}
 use Rattle.deno_graph_jsdoc.proofs.Imports.{BeginsWithImport-within}
 use Rattle.deno_graph_jsdoc.proofs.Cached.{AreCached-after, AreCached-skipped, AreCachedSpaces-after}
-use Rattle.deno_graph_jsdoc.proofs.Cached.{AreCachedSpaces-skipped}
-use Rattle.deno_graph_jsdoc.proofs.Cached.{AreCachedSpaces-options}
+use Rattle.deno_graph_jsdoc.proofs.Cached.{AreCachedSpaces-skipped, AreCachedSpaces-options}
 use Rattle.deno_graph_jsdoc.proofs.grammar.dynamic.arguments.Goals as goal
 use Rattle.deno_graph_jsdoc.proofs.grammar.dynamic.arguments.Goals.{In_ok-quoted, After-skip_space-after}
 

@@ -1,10 +1,8 @@
 use Rattle.std.proofs.Common.{sym, ◌∙◌}
 use Rattle.deno_graph_module_info.specs.internal.HeadPragma.{head_pragma}
 use Rattle.deno_graph_module_info.proofs.Named.{block_from_not_line, match_in_comment, none_in_comment}
-use Rattle.deno_graph_module_info.proofs.head_pragmas.HeadPragma.find.Goals.{
-  else-is_quoteless-via-then-is_quoteless+else-eq,
-  else-is_quoteless-via-else-is_quoteless,
-}
+use Rattle.deno_graph_module_info.proofs.head_pragmas.HeadPragma.find.Goals.{else-is_quoteless-via-then-is_quoteless+else-eq}
+use Rattle.deno_graph_module_info.proofs.head_pragmas.HeadPragma.find.Goals.{else-is_quoteless-via-else-is_quoteless}
 use Rattle.deno_graph_module_info.proofs.head_pragmas.HeadPragma.find.Goals as goal
 
 pub returns-clause-found : goal.returns-clause-found

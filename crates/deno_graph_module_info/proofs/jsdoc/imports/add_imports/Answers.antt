@@ -1,23 +1,6 @@
 -- Each step adds one import that the scan found.
-use Rattle.std.proofs.Common.{
-  ◌≡◌,
-  ◌+◌,
-  ◌<◌,
-  ◌≤◌,
-  ◌∷◌,
-  ◌++◌,
-  ◌∙◌,
-  None,
-  List,
-  [],
-  ap,
-  length,
-  map,
-  sym,
-  subst,
-  arith,
-  rules,
-}
+use Rattle.std.proofs.Common.{◌≡◌, ◌+◌, ◌<◌, ◌≤◌, ◌∷◌, ◌++◌, ◌∙◌, None, List, [], ap, length, map, sym, subst}
+use Rattle.std.proofs.Common.{arith, rules}
 use Rattle.std.proofs.lemmas.List.{map-append}
 use Rattle.std.specs.Str.{IsUtf8, chars}
 use Rattle.deno_graph_jsdoc.specs.JsDocImports.{AreImportsIn}

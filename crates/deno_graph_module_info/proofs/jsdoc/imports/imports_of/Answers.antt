@@ -1,23 +1,6 @@
 -- Each step adds the imports in one JSDoc comment.
-use Rattle.std.proofs.Common.{
-  ◌≡◌,
-  ◌+◌,
-  ◌<◌,
-  ◌≤◌,
-  ℕ,
-  List,
-  length,
-  take,
-  map,
-  get_or,
-  sym,
-  subst,
-  arith,
-  rules,
-  Bor,
-  Vec,
-  Global,
-}
+use Rattle.std.proofs.Common.{◌≡◌, ◌+◌, ◌<◌, ◌≤◌, ℕ, List, length, take, map, get_or, sym, subst, arith}
+use Rattle.std.proofs.Common.{rules, Bor, Vec, Global}
 use Rattle.std.proofs.lemmas.List.{take_all}
 use Rattle.std.proofs.lemmas.List.Elements.{All-contains, Contains-get_or}
 use Rattle.std.specs.List.{Contains}
@@ -27,22 +10,16 @@ use Rattle.deno_graph_jsdoc.specs.declared.import.JsDocImport.{JsDocImport}
 use Rattle.deno_graph_module_info.specs.CommentImports.{IsJsDoc}
 use Rattle.deno_graph_module_info.specs.internal.CommentImportSteps.{AreJsDocOf}
 use Rattle.deno_graph_module_info.proofs.Chosen.{all, item_in}
-use Rattle.deno_graph_module_info.proofs.Gathered.{
-  Gathered,
-  Gathered-jsdoc,
-  Gathered-imports,
-  Gathered-quoted,
-}
+use Rattle.deno_graph_module_info.proofs.Gathered.{Gathered, Gathered-jsdoc, Gathered-imports}
+use Rattle.deno_graph_module_info.proofs.Gathered.{Gathered-quoted}
 use Rattle.deno_graph_module_info.proofs.ImportRanges.{comment_size}
 use Rattle.deno_graph_module_info.proofs.ReadComments.{AreRead, AreRead-again, AreRead-more, AreRead-start}
 use Rattle.deno_graph_source.specs.Source.{IsSpelled}
 use Rattle.deno_graph_source.specs.declared.tree.comments.DependencyComment.{DependencyComment}
 use Rattle.deno_graph_module_info.proofs.jsdoc.imports.imports_of.Goals as goal
-use Rattle.deno_graph_module_info.proofs.jsdoc.imports.imports_of.Goals.{
-  After-deref-comment-items,
-  then-comment-end+in_ok-add_imports,
-  else-comment-end,
-}
+use Rattle.deno_graph_module_info.proofs.jsdoc.imports.imports_of.Goals.{After-deref-comment-items}
+use Rattle.deno_graph_module_info.proofs.jsdoc.imports.imports_of.Goals.{then-comment-end+in_ok-add_imports}
+use Rattle.deno_graph_module_info.proofs.jsdoc.imports.imports_of.Goals.{else-comment-end}
 
 -- the chosen comments
 are : (c : After-deref-comment-items)

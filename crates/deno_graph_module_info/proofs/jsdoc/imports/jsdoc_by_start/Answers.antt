@@ -1,39 +1,16 @@
 -- Each step chooses or passes one comment; the sort orders the chosen comments.
-use Rattle.std.proofs.Common.{
-  ◌<◌,
-  ◌≤◌,
-  List,
-  [],
-  ◌∷◌,
-  ◌++◌,
-  length,
-  take,
-  sym,
-  ap,
-  ◌∙◌,
-  subst,
-  rules,
-  Bor,
-  Vec,
-  Global,
-}
+use Rattle.std.proofs.Common.{◌<◌, ◌≤◌, List, [], ◌∷◌, ◌++◌, length, take, sym, ap, ◌∙◌, subst, rules, Bor}
+use Rattle.std.proofs.Common.{Vec, Global}
 use Rattle.std.proofs.lemmas.Bool.{both_ways}
 use Rattle.std.proofs.lemmas.List.{map-append, take_all}
 use Rattle.std.proofs.lemmas.List.Sorted.{IsNonDecreasingBy-from_sort_by_key, IsPermutation-map}
 use Rattle.deno_graph_module_info.specs.internal.CommentImportSteps.{AreJsDocOf}
 use Rattle.deno_graph_source.specs.declared.tree.comments.DependencyComment.{DependencyComment}
-use Rattle.deno_graph_module_info.proofs.Chosen.{
-  all,
-  item_next,
-  AreJsDocOf-more,
-  AreJsDocOf-permuted,
-  AreJsDocOf-skip,
-}
+use Rattle.deno_graph_module_info.proofs.Chosen.{all, item_next, AreJsDocOf-more, AreJsDocOf-permuted}
+use Rattle.deno_graph_module_info.proofs.Chosen.{AreJsDocOf-skip}
 use Rattle.deno_graph_module_info.proofs.jsdoc.imports.jsdoc_by_start.Goals as goal
-use Rattle.deno_graph_module_info.proofs.jsdoc.imports.jsdoc_by_start.Goals.{
-  then-is_jsdoc+in_ok-push,
-  else-is_jsdoc,
-}
+use Rattle.deno_graph_module_info.proofs.jsdoc.imports.jsdoc_by_start.Goals.{then-is_jsdoc+in_ok-push}
+use Rattle.deno_graph_module_info.proofs.jsdoc.imports.jsdoc_by_start.Goals.{else-is_jsdoc}
 
 pub loop-comment-preserved : goal.loop-comment-preserved
 loop-comment-preserved c =

@@ -11,12 +11,8 @@ use Rattle.deno_graph_pragmas.proofs.Captured.{attribute_in_quotes, captured_sli
 use Rattle.deno_graph_pragmas.proofs.Attributes.{passed_more, rest_le, found_here, no_more}
 use Rattle.deno_graph_pragmas.proofs.Found.{finds_none_in_quotes, some_answer}
 use Rattle.deno_graph_pragmas.proofs.finders.references.find_attribute.Goals as goal
-use Rattle.deno_graph_pragmas.proofs.finders.references.find_attribute.Goals.{
-  else-is_whitespace-via-else-is_whitespace,
-}
-use Rattle.deno_graph_pragmas.proofs.finders.references.find_attribute.Goals.{
-  else-is_whitespace-via-then-is_whitespace+in-None-1,
-}
+use Rattle.deno_graph_pragmas.proofs.finders.references.find_attribute.Goals.{else-is_whitespace-via-else-is_whitespace}
+use Rattle.deno_graph_pragmas.proofs.finders.references.find_attribute.Goals.{else-is_whitespace-via-then-is_whitespace+in-None-1}
 
 pub attribute_at-requires-clause-rest : goal.attribute_at-requires-clause-rest
 attribute_at-requires-clause-rest c =

@@ -33,7 +33,7 @@ returns-clause-ok g c =
     let pos = c.args.pos in
     let kept = c.get_mut.follows.holds-at-none in
     let updates = c.in_ok-insert.ensures.updates in
-    let pushed = c.in_ok-push.ensures.ok ∙ ap (λ items. items ++ c.args.item ∷ []) c.new-items.ensures in
+    let pushed = c.in_ok-push.ensures.ok ∙ ap (λ items. items ++ c.args.item ∷ []) c.in_ok-items.ensures in
     let is = c.in_ok-insert.ensures.entries
     ∙ ap (λ map. insert_entry nat_cmp map.entries pos c.push-2.new.self) kept
     ∙ ap (insert_entry nat_cmp old pos) pushed in

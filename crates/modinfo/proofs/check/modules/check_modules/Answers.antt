@@ -5,14 +5,8 @@ use Rattle.serde_json.specs.Read.{read as read_text}
 use Rattle.deno_graph_json.specs.Data.{data_of}
 use Rattle.modinfo_document.specs.declared.report.Report.{Report}
 use Rattle.modinfo_document.specs.declared.report.Report.TheVariants.{Valid, Invalid}
-use Rattle.modinfo.specs.Check.{
-  AsksSome,
-  OfReport,
-  ReportsOnQuestion,
-  ReportsQuestion,
-  WarnsOfModules,
-  WarnsOfQuestion,
-}
+use Rattle.modinfo.specs.Check.{AsksSome, OfReport, ReportsOnQuestion, ReportsQuestion, WarnsOfModules}
+use Rattle.modinfo.specs.Check.{WarnsOfQuestion}
 use Rattle.modinfo.proofs.check.modules.check_modules.Goals as goal
 
 -- The report on a value is that on its text.

@@ -4,29 +4,15 @@ use Rattle.std.specs.declared.alloc.AllocError.{AllocError}
 use Rattle.modinfo_document.specs.declared.report.FaultReport.{FaultReport}
 use Rattle.modinfo_document.specs.declared.report.Report.{Report}
 use Rattle.modinfo_document.specs.declared.report.Report.TheVariants.{Valid, Invalid}
-use Rattle.modinfo_document.specs.Check.{
-  IsFaultReport,
-  IsReportIn,
-  IsValidIn,
-  Pointers,
-  points_in_module,
-  points_nowhere,
-}
+use Rattle.modinfo_document.specs.Check.{IsFaultReport, IsReportIn, IsValidIn, Pointers, points_in_module}
+use Rattle.modinfo_document.specs.Check.{points_nowhere}
 use Rattle.modinfo_document.specs.Document.{Contents, reads_document}
 use Rattle.modinfo_document.specs.Report.{HasNoWarnings}
 use Rattle.modinfo_document.specs.Spelling.{WarnsOfLiterals}
 use Rattle.modinfo_estree.specs.Document.{reads_estree}
 use Rattle.modinfo.specs.Answer.{IsReportOn, WarnsOf}
-use Rattle.modinfo.specs.Check.{
-  IsConvertibleText,
-  IsQuestionFaultReport,
-  IsQuestionText,
-  IsSourceFaultReport,
-  IsStoredFaultReport,
-  OfReport,
-  ReportsEncoding,
-  WarnsOfQuestion,
-}
+use Rattle.modinfo.specs.Check.{IsConvertibleText, IsQuestionFaultReport, IsQuestionText, IsSourceFaultReport}
+use Rattle.modinfo.specs.Check.{IsStoredFaultReport, OfReport, ReportsEncoding, WarnsOfQuestion}
 use Rattle.modinfo.specs.Source.{IsSourceDocument}
 use Rattle.modinfo.specs.declared.format.Format.{Format}
 use Rattle.modinfo.specs.declared.format.Format.TheVariants.{Module, Estree, Source, Stored, Modules}

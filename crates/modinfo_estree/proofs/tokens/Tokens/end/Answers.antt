@@ -3,13 +3,7 @@ use Rattle.std.proofs.lemmas.List.{get_or_read}
 use Rattle.modinfo_estree.specs.Tokens.{token_end}
 use Rattle.modinfo_estree.specs.internal.Marks.{gaps_of}
 use Rattle.modinfo_estree.proofs.Tables.{size_of_table, value_by_number}
-use Rattle.modinfo_estree.proofs.TokenTables.{
-  end_at_gap,
-  end_at_start,
-  end_at_token,
-  end_past,
-  size_of_gaps,
-}
+use Rattle.modinfo_estree.proofs.TokenTables.{end_at_gap, end_at_start, end_at_token, end_past, size_of_gaps}
 use Rattle.modinfo_estree.proofs.tokens.Tokens.end.Goals as goal
 
 pub loop-at-init : goal.loop-at-init

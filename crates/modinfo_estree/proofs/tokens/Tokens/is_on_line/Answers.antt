@@ -3,15 +3,8 @@ use Rattle.std.proofs.lemmas.List.{get_or_read}
 use Rattle.modinfo_estree.specs.Tokens.{is_on_line}
 use Rattle.modinfo_estree.specs.internal.Marks.{breaks_of, gaps_of}
 use Rattle.modinfo_estree.proofs.Tables.{size_of_table, value_by_number}
-use Rattle.modinfo_estree.proofs.TokenTables.{
-  line_at_start,
-  line_at_token,
-  line_broken,
-  line_past,
-  line_same,
-  size_of_breaks,
-  size_of_gaps,
-}
+use Rattle.modinfo_estree.proofs.TokenTables.{line_at_start, line_at_token, line_broken, line_past, line_same}
+use Rattle.modinfo_estree.proofs.TokenTables.{size_of_breaks, size_of_gaps}
 use Rattle.modinfo_estree.proofs.tokens.Tokens.is_on_line.Goals as goal
 
 pub loop-at-init : goal.loop-at-init

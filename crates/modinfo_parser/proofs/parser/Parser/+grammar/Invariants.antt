@@ -86,8 +86,20 @@ decreases-declaration_or_expression l = l.depth
 abbrev pub decreases-variable_statement : goal.decreases-variable_statement
 decreases-variable_statement l = l.depth
 
-abbrev pub decreases-decorated_statement : goal.decreases-decorated_statement
-decreases-decorated_statement l = l.depth
+abbrev pub decreases-decorated_item : goal.decreases-decorated_item
+decreases-decorated_item l = l.depth
+
+abbrev pub decreases-decorated_class_declaration : goal.decreases-decorated_class_declaration
+decreases-decorated_class_declaration l = l.depth
+
+abbrev pub decreases-class_after_decorators : goal.decreases-class_after_decorators
+decreases-class_after_decorators l = l.depth
+
+abbrev pub decreases-class_declaration : goal.decreases-class_declaration
+decreases-class_declaration l = l.depth
+
+abbrev pub decreases-function_declaration : goal.decreases-function_declaration
+decreases-function_declaration l = l.depth
 
 abbrev pub decreases-export : goal.decreases-export
 decreases-export l = l.depth
@@ -155,6 +167,9 @@ decreases-postfix l = l.depth
 abbrev pub decreases-function_expression : goal.decreases-function_expression
 decreases-function_expression l = l.depth
 
+abbrev pub decreases-function : goal.decreases-function
+decreases-function l = l.depth
+
 abbrev pub decreases-method : goal.decreases-method
 decreases-method l = l.depth
 
@@ -200,6 +215,9 @@ invariant-jsx_element-loop-turn l = l.depth ≡ l.fn.depth
 abbrev pub decreases-jsx_attribute : goal.decreases-jsx_attribute
 decreases-jsx_attribute l = l.depth
 
+abbrev pub decreases-jsx_element_of_attribute : goal.decreases-jsx_element_of_attribute
+decreases-jsx_element_of_attribute l = l.depth
+
 abbrev pub decreases-jsx_children : goal.decreases-jsx_children
 decreases-jsx_children l = l.depth
 
@@ -217,6 +235,9 @@ decreases-do_statement l = l.depth
 
 abbrev pub decreases-for_statement : goal.decreases-for_statement
 decreases-for_statement l = l.depth
+
+abbrev pub decreases-body_of_for : goal.decreases-body_of_for
+decreases-body_of_for l = l.depth
 
 abbrev pub decreases-for_head : goal.decreases-for_head
 decreases-for_head l = l.depth
@@ -256,6 +277,9 @@ decreases-property l = l.depth
 
 abbrev pub decreases-named_property : goal.decreases-named_property
 decreases-named_property l = l.depth
+
+abbrev pub decreases-default_of_shorthand : goal.decreases-default_of_shorthand
+decreases-default_of_shorthand l = l.depth
 
 abbrev pub decreases-property_value : goal.decreases-property_value
 decreases-property_value l = l.depth
@@ -317,6 +341,9 @@ decreases-angle l = l.depth
 abbrev pub decreases-type_assertion : goal.decreases-type_assertion
 decreases-type_assertion l = l.depth
 
+abbrev pub decreases-asserted_operand : goal.decreases-asserted_operand
+decreases-asserted_operand l = l.depth
+
 abbrev pub decreases-array : goal.decreases-array
 decreases-array l = l.depth
 
@@ -325,6 +352,21 @@ decreases-elements l = l.depth
 
 abbrev pub invariant-elements-loop-turn : goal.invariant-elements-loop-turn
 invariant-elements-loop-turn l = l.depth ≡ l.fn.depth
+
+abbrev pub decreases-element : goal.decreases-element
+decreases-element l = l.depth
+
+abbrev pub decreases-module_item : goal.decreases-module_item
+decreases-module_item l = l.depth
+
+abbrev pub decreases-module_body : goal.decreases-module_body
+decreases-module_body l = l.depth
+
+abbrev pub decreases-items_to_brace : goal.decreases-items_to_brace
+decreases-items_to_brace l = l.depth
+
+abbrev pub invariant-items_to_brace-loop-turn : goal.invariant-items_to_brace-loop-turn
+invariant-items_to_brace-loop-turn l = l.depth ≡ l.fn.depth
 
 abbrev pub decreases-statement : goal.decreases-statement
 decreases-statement l = l.depth
@@ -356,11 +398,17 @@ invariant-if_statement-loop-turn l = l.depth ≡ l.fn.depth
 abbrev pub decreases-return_statement : goal.decreases-return_statement
 decreases-return_statement l = l.depth
 
+abbrev pub decreases-throw_statement : goal.decreases-throw_statement
+decreases-throw_statement l = l.depth
+
 abbrev pub decreases-with_statement : goal.decreases-with_statement
 decreases-with_statement l = l.depth
 
 abbrev pub decreases-try_statement : goal.decreases-try_statement
 decreases-try_statement l = l.depth
+
+abbrev pub decreases-catch_clause : goal.decreases-catch_clause
+decreases-catch_clause l = l.depth
 
 abbrev pub decreases-switch_statement : goal.decreases-switch_statement
 decreases-switch_statement l = l.depth
@@ -370,6 +418,9 @@ invariant-switch_statement-loop-turn l = l.depth ≡ l.fn.depth
 
 abbrev pub decreases-switch_case : goal.decreases-switch_case
 decreases-switch_case l = l.depth
+
+abbrev pub invariant-switch_case-loop-turn : goal.invariant-switch_case-loop-turn
+invariant-switch_case-loop-turn l = l.depth ≡ l.fn.depth
 
 abbrev pub decreases-expression_statement : goal.decreases-expression_statement
 decreases-expression_statement l = l.depth
@@ -515,6 +566,12 @@ decreases-type_ l = l.depth
 abbrev pub invariant-type_-loop-turn : goal.invariant-type_-loop-turn
 invariant-type_-loop-turn l = l.depth ≡ l.fn.depth
 
+abbrev pub decreases-branch_of_conditional : goal.decreases-branch_of_conditional
+decreases-branch_of_conditional l = l.depth
+
+abbrev pub decreases-inner_branch : goal.decreases-inner_branch
+decreases-inner_branch l = l.depth
+
 abbrev pub decreases-constraint_of_conditional : goal.decreases-constraint_of_conditional
 decreases-constraint_of_conditional l = l.depth
 
@@ -550,6 +607,9 @@ decreases-typescript_statement l = l.depth
 
 abbrev pub decreases-declared : goal.decreases-declared
 decreases-declared l = l.depth
+
+abbrev pub decreases-typed_declaration : goal.decreases-typed_declaration
+decreases-typed_declaration l = l.depth
 
 abbrev pub decreases-module_statement : goal.decreases-module_statement
 decreases-module_statement l = l.depth

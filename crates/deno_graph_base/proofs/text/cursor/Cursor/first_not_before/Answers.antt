@@ -4,12 +4,8 @@ use Rattle.std.proofs.lemmas.Str.{IsUtf8-drop, IsCharBoundary-past_char, drop_pa
 use Rattle.std.specs.Str.Iter.{chars_rest}
 use lib.Utf8.{encode}
 use Rattle.deno_graph_base.specs.Position.{IsBefore, position_at}
-use Rattle.deno_graph_base.proofs.CursorLemmas.{
-  line_le_offset,
-  character_le_offset,
-  IsCursor-past,
-  past_char_le,
-}
+use Rattle.deno_graph_base.proofs.CursorLemmas.{line_le_offset, character_le_offset, IsCursor-past}
+use Rattle.deno_graph_base.proofs.CursorLemmas.{past_char_le}
 use Rattle.deno_graph_base.proofs.text.cursor.Cursor.first_not_before.Goals as goal
 
 pub loop-c-init : goal.loop-c-init

@@ -4,14 +4,9 @@ use Rattle.std.proofs.lemmas.Bool.{eqb-true, eq-eqb, false≢true}
 use Rattle.std.proofs.lemmas.List.{nil_from_length}
 use Rattle.std.proofs.lemmas.Str.{IsUtf8-string_bytes}
 use Rattle.deno_graph_base.specs.JsString.{lossy_text, IsReadable}
-use Rattle.deno_graph_base.proofs.LossyText.{
-  lossy_text-stored,
-  readable_stored,
-  encoded_stored,
-  stored_readable,
-  readable_text-readable,
-  readable_text-unreadable,
-}
+use Rattle.deno_graph_base.proofs.LossyText.{lossy_text-stored, readable_stored, encoded_stored}
+use Rattle.deno_graph_base.proofs.LossyText.{stored_readable, readable_text-readable}
+use Rattle.deno_graph_base.proofs.LossyText.{readable_text-unreadable}
 use Rattle.deno_graph_base.proofs.text.js_string.JsString.as_str.Goals as goal
 
 none_stored : (c : goal.After-t5-1) → c.self.inside.lone.items ≡ []

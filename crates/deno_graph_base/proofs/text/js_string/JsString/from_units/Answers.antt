@@ -7,15 +7,9 @@ use Rattle.std.specs.String.{string_bytes}
 use Rattle.deno_graph_base.specs.JsString.{lossy_char, lossy_text, points_of_units}
 use Rattle.deno_graph_base.specs.internal.StoredString.{lone_from, points_of}
 use Rattle.deno_graph_base.proofs.LossyText.{IsStored-lossy_text, points_of-lossy_text}
-use Rattle.deno_graph_base.proofs.Units.{
-  text_pushed,
-  lone_pushed,
-  text_whole,
-  lone_whole,
-  IsPaired-points_of_units,
-  all_scalars-points_of_units,
-  flat_map-points_of_units,
-}
+use Rattle.deno_graph_base.proofs.Units.{text_pushed, lone_pushed, text_whole, lone_whole}
+use Rattle.deno_graph_base.proofs.Units.{IsPaired-points_of_units, all_scalars-points_of_units}
+use Rattle.deno_graph_base.proofs.Units.{flat_map-points_of_units}
 use Rattle.deno_graph_base.proofs.text.js_string.JsString.from_units.Goals as goal
 
 pub loop-point-preserved : goal.loop-point-preserved

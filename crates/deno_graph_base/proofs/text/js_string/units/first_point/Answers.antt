@@ -4,10 +4,8 @@ use Rattle.std.specs.Char.Utf16.{is_high_surrogate, is_low_surrogate}
 use Rattle.std.proofs.lemmas.Bool.{and_left, and_right}
 use Rattle.deno_graph_base.proofs.Units.{first_last, first_pair, first_alone}
 use Rattle.deno_graph_base.proofs.text.js_string.units.first_point.Goals as goal
-use Rattle.deno_graph_base.proofs.text.js_string.units.first_point.Goals.{
-  else-is_high_surrogate-via-then-is_high_surrogate+else-is_low_surrogate,
-  else-is_high_surrogate-via-else-is_high_surrogate,
-}
+use Rattle.deno_graph_base.proofs.text.js_string.units.first_point.Goals.{else-is_high_surrogate-via-then-is_high_surrogate+else-is_low_surrogate}
+use Rattle.deno_graph_base.proofs.text.js_string.units.first_point.Goals.{else-is_high_surrogate-via-else-is_high_surrogate}
 
 pub returns-in_default-clause-point : goal.returns-in_default-clause-point
 returns-in_default-clause-point c =

@@ -1,21 +1,5 @@
-use Rattle.std.proofs.Common.{
-  ◌≡◌,
-  ◌+◌,
-  ◌-◌,
-  ◌==◌,
-  ◌<◌,
-  drop,
-  length,
-  slice_index,
-  count_by,
-  arith,
-  sym,
-  ap,
-  ◌∙◌,
-  subst,
-  refl,
-  length-drop,
-}
+use Rattle.std.proofs.Common.{◌≡◌, ◌+◌, ◌-◌, ◌==◌, ◌<◌, drop, length, slice_index, count_by, arith, sym, ap}
+use Rattle.std.proofs.Common.{◌∙◌, subst, refl, length-drop}
 use Rattle.std.proofs.lemmas.List.{take_all}
 use Rattle.std.specs.Fmt.{is_char_start}
 use Rattle.deno_graph_base.proofs.ByteCounts.{one_line, last_line, some_feed}

@@ -1,7 +1,7 @@
 //! Literals and the UTF-16 units of their values, as node evaluates the literals.
 
-use crate::{cooked_value, spells, string_value};
-use deno_graph_base::text::JsString;
+use deno_graph_source::text::JsString;
+use modinfo_literals::{cooked_value, spells, string_value};
 use std::alloc::AllocError;
 use std::process::Abort;
 
