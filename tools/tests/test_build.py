@@ -188,8 +188,10 @@ def test_stamps_of_the_library(repository: Repository) -> None:
     assert stamp.read_text().startswith("proved\nsources ")
 
 
-def test_what_rt_ci_has_proved(repository: Repository) -> None:
-    """.ci/keep_proved leaves what ./modinfo --prove and tools/build_library do. It proves the library's own crate."""
+@pytest.mark.parametrize("kept", [False, True])
+def test_what_rt_ci_has_proved(repository: Repository, kept: bool) -> None:
+    """.ci/keep_proved leaves what ./modinfo --prove and tools/build_library do. It proves the library's own crate, and
+    the program's where rt ci has kept its proof from an earlier run: then there is no object file."""
     repository.prove()
     crates = repository.folder / "crates"
     for crate in "modinfo", "short", "long", "apart", "lowest":
@@ -197,12 +199,14 @@ def test_what_rt_ci_has_proved(repository: Repository) -> None:
         (crates / crate / "out/rlib").symlink_to(repository.folder / "build/crates")
     (crates / "modinfo_cli/out").mkdir()
     (repository.folder / "build/modinfo").rename(crates / "modinfo_cli/out/modinfo_cli")
+    if not kept:
+        repository.write("crates/modinfo_cli/out/modinfo_cli.o", "an object file")
     repository.write("crates/test_replay/out/test_replay", "a program")
     copy_tracked(repository, ".ci/keep_proved")
     repository.runs()
     assert repository.run(".ci/keep_proved", ".") == (0, "", "")
     assert (repository.folder / "build/test_replay").read_text() == "a program"
-    assert repository.runs() == ["modinfo_c 1", "modinfo_c 1"]
+    assert repository.runs() == ["modinfo_cli 1"] * kept + ["modinfo_c 1", "modinfo_c 1"]
     assert repository.is_proved()
     for words in [], ["--target", "aarch64"]:
         assert repository.run("tools/build_library", *words) == (0, "", "")
