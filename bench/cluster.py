@@ -3,7 +3,7 @@
 cost.
 
 usage: build/cluster/bin/python bench/cluster.py [--files N] [--modules N]
-example: examples/cluster/setup && build/cluster/bin/python bench/cluster.py --files 500 --modules 100000
+example: tools/setup cluster && build/cluster/bin/python bench/cluster.py --files 500 --modules 100000
 
   --files N    files of Debian's node packages, evenly spread; else 5000
   --modules N  modules of the table that is asked; else 1000000

@@ -2,7 +2,7 @@
 """Measures what a module costs by its size: its parser, its document, its analysis and its output.
 
 usage: bench/modules.py [--files N] [--sample N]
-example: bench/adapters_setup && ./modinfo --prove && bench/modules.py --files 500
+example: tools/setup bench && ./modinfo --prove && bench/modules.py --files 500
 
   --files N   files of Debian's node packages, evenly spread over all in the order of their paths; else all
   --sample N  how many modules of each class of sizes are measured; else 1000

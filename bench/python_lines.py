@@ -4,7 +4,7 @@
 usage: PYTHON bench/python_lines.py
 example: build/cluster/bin/python bench/python_lines.py
 
-PYTHON is that of a venv with the wheel, as `examples/cluster/setup` makes one. For each size the same lines
+PYTHON is that of a venv with the wheel, as `tools/setup cluster` makes one. For each size the same lines
 are analyzed with each number of jobs in turn, three times. Prints the least seconds of each on the clock and,
 after a slash, of the processors.
 """

@@ -2,7 +2,7 @@
 """Measures `modinfo files` and `modinfo analyze --source`, beside other parsers on the same files.
 
 usage: bench/texts.py [--files N] [--parsers]
-example: bench/adapters_setup && bench/texts.py --files 5000
+example: tools/setup bench && bench/texts.py --files 5000
 
   --files N  how many files of /usr/share/nodejs the parsers read, evenly spread over all; else all
   --parsers  measures the parsers alone, neither single files nor shapes
@@ -10,7 +10,7 @@ example: bench/adapters_setup && bench/texts.py --files 5000
 Prints instructions a byte that callgrind counts, and the peak memory, for single files and for hostile shapes
 at a size and at twice that size; then wall time and processor time of one process that reads and parses all
 files. The environment variable MODINFO names the program; else it is build/modinfo. Needs valgrind,
-/usr/bin/time and the packages of bench/adapters_setup; what isn't installed is left out, and a line says so.
+/usr/bin/time and the packages of `tools/setup bench`; what isn't installed is left out, and a line says so.
 """
 
 import argparse

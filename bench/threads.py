@@ -4,7 +4,7 @@
 usage: PYTHON bench/threads.py [DOCUMENT]
 example: build/cluster/bin/python bench/threads.py
 
-PYTHON is that of a venv with the wheel, as `examples/cluster/setup` makes one. Each thread makes the same
+PYTHON is that of a venv with the wheel, as `tools/setup cluster` makes one. Each thread makes the same
 calls on the document's bytes, by the library alone and with the result read as JSON, which needs Python's
 lock. Prints for each the seconds that one thread takes for its calls, those of eight threads together, and
 the processors that they used.

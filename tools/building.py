@@ -86,7 +86,7 @@ def need(*tools: str) -> None:
     for tool in tools:
         if not shutil.which(tool):
             setup = "aarch64" if "aarch64" in tool else "wasm" if tool.startswith("wasm") else None
-            remedy = f"packaging/setup {setup}" if setup else "apt-get install binutils gcc"
+            remedy = f"tools/setup {setup}" if setup else "apt-get install binutils gcc"
             raise BuildError(f"{tool} isn't on the path: {remedy} installs it")
 
 

@@ -27,6 +27,16 @@ class Programs:
     builds: dict[str, str]
 
 
+def after(setup: str, command: str) -> str:
+    """The command once parts of tools/setup are installed. One setup runs at a time, as apt-get does."""
+    return f"flock build/test tools/setup {setup} && {command}"
+
+
+def with_or_without(setup: str, command: str) -> str:
+    """The command, which passes over what it can't test, also where its packages can't be installed."""
+    return f"{{ flock build/test tools/setup {setup} || [[ $? -eq {UNAVAILABLE} ]]; }} && {command}"
+
+
 UNCHECKED = Programs(
     {
         "MODINFO": "build/unchecked/modinfo",
@@ -39,7 +49,7 @@ UNCHECKED = Programs(
         "modinfo": "exec tools/build_unchecked modinfo",
         "libmodinfo": "exec tools/build_unchecked libmodinfo",
         "test_replay": "exec tools/build_unchecked libmodinfo",
-        "wasm": "flock build/test packaging/setup wasm && exec packaging/wasm/build --unchecked",
+        "wasm": after("wasm", "exec packaging/wasm/build --unchecked"),
     },
 )
 PROVED = Programs(
@@ -52,36 +62,26 @@ PROVED = Programs(
     {
         "modinfo": "exec ./modinfo --prove",
         "libmodinfo": "exec tools/build_library",
-        "wasm": "flock build/test packaging/setup wasm && exec packaging/wasm/build",
+        "wasm": after("wasm", "exec packaging/wasm/build"),
         "test_replay": "[[ -x $TEST_REPLAY ]] || "
         "{ (cd crates/test_replay && rt run) && cp crates/test_replay/out/test_replay build; }",
     },
 )
 
 
-def after(setup: str, command: str) -> str:
-    """The command once its packages are installed. One setup runs at a time, since apt-get runs once at a time."""
-    return f"flock build/test {setup} && {command}"
-
-
-def with_or_without(setup: str, command: str) -> str:
-    """The command, which passes over what it can't test, also where its packages can't be installed."""
-    return f"{{ flock build/test {setup} || [[ $? -eq {UNAVAILABLE} ]]; }} && {command}"
-
-
 def pytest(words: str) -> str:
     """Tests in Python, by Debian's pytest."""
-    return after("bindings/setup python", f"exec /usr/bin/python3 -B -m pytest -q -p no:cacheprovider -r s {words}")
+    return after("python", f"exec /usr/bin/python3 -B -m pytest -q -p no:cacheprovider -r s {words}")
 
 
 def node(words: str) -> str:
     """Tests of the package for node, by paths in its folder."""
-    return after("bindings/node/setup", f"cd bindings/node && exec node --test {words}")
+    return after("node", f"cd bindings/node && exec node --test {words}")
 
 
 def node_18(command: str) -> str:
     """The command with Debian's node 18 as `node`."""
-    return after("packaging/setup node18", f"PATH=$PWD/build/node18:$PATH && {command}")
+    return after("node18", f"PATH=$PWD/build/node18:$PATH && {command}")
 
 
 BROWSER = node("tests/browser/*.test.mjs")
@@ -89,12 +89,12 @@ HAS_BROWSER = f"{{ command -v chromium && command -v chromedriver || exit {UNAVA
 
 # Parts that take long come first, of those that need no build as of the others.
 QUICK = [
-    Part("rust_lint", after("bindings/setup rust", "exec bindings/rust/run_tests lint")),
+    Part("rust_lint", after("rust", "exec bindings/rust/run_tests lint")),
     Part("node", node("tests/*.test.mjs"), ("modinfo", "wasm")),
-    Part("python", after("bindings/setup python", "exec bindings/python/run_tests"), ("libmodinfo",)),
-    Part("formats", after("bindings/node/setup", pytest("bindings/tests/test_formats.py")), ("modinfo",)),
+    Part("python", after("python", "exec bindings/python/run_tests"), ("libmodinfo",)),
+    Part("formats", after("node", pytest("bindings/tests/test_formats.py")), ("modinfo",)),
     # Not beside rust_lint, whose folder cargo locks.
-    Part("rust", after("bindings/setup rust", "exec bindings/rust/run_tests test"), ("libmodinfo",)),
+    Part("rust", after("rust", "exec bindings/rust/run_tests test"), ("libmodinfo",)),
     Part("texts", node("tests/differential/rows.mjs"), ("modinfo",)),
     Part(
         "replay",
@@ -114,8 +114,8 @@ UNCHECKED_PARTS = [Part("browser", f"{HAS_BROWSER} && {BROWSER}", ("modinfo", "w
 PROVED_PARTS = [
     Part("fail_allocations", "exec crates/test_replay/fail_allocations", ("test_replay",)),
     Part("parsers", node("tests/differential/{gaps,machine,mutations,nesting}.mjs"), ("modinfo",)),
-    Part("browser", after("bindings/node/setup_report", BROWSER), ("modinfo", "wasm")),
-    Part("engines", with_or_without("packaging/setup node18", "exec packaging/wasm/test"), ("libmodinfo", "wasm")),
+    Part("browser", after("browser", BROWSER), ("modinfo", "wasm")),
+    Part("engines", with_or_without("node18", "exec packaging/wasm/test"), ("libmodinfo", "wasm")),
     Part("node_18", node_18(node("tests/*.test.mjs")), ("modinfo", "wasm")),
     *QUICK,
     Part("fresh_clone", pytest("tools/tests -m slow")),
@@ -123,23 +123,23 @@ PROVED_PARTS = [
     *(
         Part(
             name,
-            with_or_without("packaging/setup", pytest(f"packaging/tests/test_{name}.py")),
+            with_or_without("package", pytest(f"packaging/tests/test_{name}.py")),
             ("modinfo", "libmodinfo"),
         )
         for name in ("install", "package")
     ),
     Part(
         "aarch64",
-        after("packaging/setup aarch64", "tools/build_library --target aarch64 && exec packaging/aarch64/test"),
+        after("aarch64", "tools/build_library --target aarch64 && exec packaging/aarch64/test"),
         ("modinfo", "libmodinfo"),
     ),
     Part("embed", "exec examples/embed", ("libmodinfo",)),
     Part(
         "languages",
-        with_or_without("packaging/setup languages", pytest("packaging/tests/test_languages.py")),
+        with_or_without("languages", pytest("packaging/tests/test_languages.py")),
         ("libmodinfo",),
     ),
     Part("bench", "cd crates/bench_program && rt try -- $(< args) < stdin | diff stdout -"),
     Part("pages", pytest("bindings/tests/test_pages.py"), ("modinfo", "libmodinfo", "wasm")),
-    Part("cluster", after("examples/cluster/setup", "exec examples/cluster/test"), ("modinfo", "libmodinfo")),
+    Part("cluster", after("cluster", "exec examples/cluster/test"), ("modinfo", "libmodinfo")),
 ]

@@ -96,7 +96,7 @@ class Machine:
         return run(python, "-I", source, folder=source.parent)
 
     def install_wheel(self, python: Path) -> None:
-        if subprocess.run([ROOT / "bindings/setup", "python"], check=False).returncode != 0:
+        if subprocess.run([ROOT / "tools/setup", "python"], check=False).returncode != 0:
             pytest.skip("what makes a wheel can't be installed")
         run(ROOT / "bindings/python/make_wheel", self.room, folder=self.room, MODINFO_LIB_DIR=f"{self.prefix}/lib")
         run("/usr/bin/python3", "-m", "venv", python.parents[1], folder=self.room)

@@ -173,7 +173,7 @@ def test_cmake(place: str, request: pytest.FixtureRequest, tmp_path: Path) -> No
 
 def test_python(prefix: Path, tmp_path: Path) -> None:
     """The wheel is made and run in other folders, with nothing but the installed files."""
-    if subprocess.run([ROOT / "bindings/setup", "python"], check=False).returncode:
+    if subprocess.run([ROOT / "tools/setup", "python"], check=False).returncode:
         pytest.skip("what makes a wheel can't be installed")
     run(ROOT / "bindings/python/make_wheel", tmp_path, MODINFO_LIB_DIR=str(prefix / "lib"))
     run("/usr/bin/python3", "-m", "venv", tmp_path / "venv")

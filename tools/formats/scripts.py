@@ -10,6 +10,7 @@ from formats.schema import Format
 
 PAGE = "docs/BUILD.md"
 SCRIPTS = (
+    "tools/setup",
     "tools/prove_modinfo",
     "tools/build_unchecked",
     "tools/build_library",

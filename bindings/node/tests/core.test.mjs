@@ -73,6 +73,12 @@ test("the module imports nothing, and says what it was made of", { skip }, () =>
   assert.match(target, /^target wasm32-/);
 });
 
+test("an argument of which nothing is known is missing, or has unknown parts alone", { skip }, async () => {
+  const { dependencies } = await functionsWith().moduleInfo("import(x); import(`${x}`); import(`./${x}`);", URL_OF_TEXT);
+  const [part, text] = [{ type: "expr" }, { type: "string", value: "./" }];
+  assert.deepEqual(dependencies.map((each) => each.type === "dynamic" && each.argument), [undefined, [part], [text, part]]);
+});
+
 test("functions without a promise need the module before", { skip }, async () => {
   const own = functionsWith();
   const names = Object.keys(own).filter((name) => name.endsWith("Sync") && name !== "initSync");

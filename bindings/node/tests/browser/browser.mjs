@@ -35,7 +35,7 @@ const PROGRAMS = [["chromium", "--version"], ["chromedriver", "--version"]];
 export function missingPrograms() {
   const missing = PROGRAMS.filter(([name, word]) => spawnSync(name, [word]).status !== 0);
   const names = missing.map(([name]) => name).join(", ");
-  return missing.length > 0 && `bindings/node/setup_report installs what isn't there: ${names}`;
+  return missing.length > 0 && `tools/setup browser installs what isn't there: ${names}`;
 }
 
 export class Browser {
