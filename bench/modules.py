@@ -7,10 +7,10 @@ example: tools/setup bench && ./modinfo --prove && bench/modules.py --files 500
   --files N   files of Debian's node packages, evenly spread over all in the order of their paths; else all
   --sample N  how many modules of each class of sizes are measured; else 1000
 
-Makes a document of each file by TypeScript's parser (bindings/node/tests/equipment). Prints a table of means,
-with a row for each class of sizes and one for the mix. Needs valgrind, /usr/bin/time and Python 3.11.
+Makes a document of ESTree of each file by TypeScript's parser (bindings/node/tests/equipment). Prints a table of
+means, with a row for each class of sizes and one for the mix. Needs valgrind, /usr/bin/time and Python 3.11.
 
-  instructions  of `modinfo analyze --lines` by callgrind, less those for no lines
+  instructions  of `modinfo analyze --estree --lines` by callgrind, less those for no lines
   analysis      its processor time, the fastest of five runs
   MB held       the most memory at once, for all lines
   parser        processor time in a warm process: two passes over the files less one
@@ -32,7 +32,7 @@ sys.path.append(str(ROOT / "tools"))
 from building import run_script  # noqa: E402
 
 MODINFO = ROOT / "build/modinfo"
-ANALYZE = [str(MODINFO), "analyze", "--lines"]
+ANALYZE = [str(MODINFO), "analyze", "--estree", "--lines"]
 ADAPTER = ["node", str(ROOT / "bindings/node/tests/equipment/print_documents.mjs")]
 NODE_FILES = Path("/usr/share/nodejs")
 ENDINGS = {".ts", ".tsx", ".mts", ".cts", ".js", ".jsx", ".mjs", ".cjs"}
@@ -101,7 +101,7 @@ def processor_seconds(command: list[str], data: bytes) -> float:
 
 
 def instructions(data: bytes) -> int:
-    valgrind = ["valgrind", "--tool=callgrind", "--callgrind-out-file=/dev/null", str(MODINFO), "analyze", "--lines"]
+    valgrind = ["valgrind", "--tool=callgrind", "--callgrind-out-file=/dev/null", *ANALYZE]
     run = subprocess.run(valgrind, input=data, stdout=subprocess.DEVNULL, stderr=subprocess.PIPE, check=True)
     counted = re.search(rb"Collected : (\d+)", run.stderr)
     assert counted

@@ -9,7 +9,6 @@ from sources import ROOT
 from formats.blocks import Block
 from formats.pages import PAGE, table
 from formats.schema import Format
-from formats.typescript import MEDIA_TYPES
 
 CRATE = "crates/deno_graph_source/src/tree/media_type"
 RUST = "bindings/rust/src/media_type.rs"
@@ -23,7 +22,6 @@ def blocks(_: Format, __: Format, ___: Format) -> Iterator[Block]:
     yield f"{CRATE}/data_url.rt", f"MIME_TYPES: [(&str, MediaType); {len(mime_types)}] =", in_rattle(mime_types)
     for name, found in ("endings", endings), ("declarations", declarations), ("MIME types", mime_types):
         of_code = [f'  ["{key}", "{found[key]}"],' for key in found if found[key] != "Json"]
-        yield MEDIA_TYPES, name, of_code
         yield GRAPH, name, of_code
         yield RUST, name, [f"    ({rust_key(key, name)}, MediaType::{found[key]})," for key in found]
     rows = [[f"`{key}`", f"`{endings[key]}`", *declared(endings[key], declarations)] for key in endings]

@@ -8,7 +8,6 @@ from formats.schema import Format, Schema
 
 NODE = "bindings/node/modinfo/src/types"
 REPORT = "bindings/node/modinfo-report/src"
-MEDIA_TYPES = "bindings/node/tests/equipment/document/media_types.mjs"
 WIDTH = 100
 
 
@@ -60,10 +59,8 @@ class TypeScript(Language):
             yield f"  {line}"
 
 
-def blocks(document: Format, info: Format, _: Format) -> Iterator[Block]:
-    """The names of media types, and of the members that pragmas name."""
-    media_types = document.root["properties"]["mediaType"]["enum"]
-    yield MEDIA_TYPES, "media types", [f'  "{name}",' for name in media_types]
+def blocks(_: Format, info: Format, __: Format) -> Iterator[Block]:
+    """The names of the members that pragmas name."""
     members = info.root["properties"]
     pragmas = [name for name in members if members[name].get("$ref") == "#/$defs/specifier"]
     lines = ["const PRAGMAS = [", *(f'  "{name}",' for name in pragmas), "] as const;"]

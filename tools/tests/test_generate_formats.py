@@ -16,7 +16,7 @@ JSON = "crates/deno_graph_info/specs/Json"
 @pytest.fixture
 def formats(repository: Repository) -> Repository:
     node = [f"bindings/node/{name}" for name in ("modinfo", "modinfo-graph", "modinfo-report")]
-    sources = ["README.md", *node, "bindings/node/tests/equipment"]
+    sources = ["README.md", *node]
     sources += [".gitattributes", "bindings/python/src", "bindings/python/README.md", "bindings/rust"]
     names = {path.partition("/")[0] for paths in TABLES.values() for path in paths}
     crates = [*(f"crates/{name}/src" for name in names), "crates/deno_graph_info", "crates/modinfo_document"]

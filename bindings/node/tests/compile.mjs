@@ -8,7 +8,7 @@ import { dirname, join } from "node:path";
 const require = createRequire(import.meta.url);
 
 /**
- * The folder of a parser, as the adapters find it.
+ * The folder of a parser, as the tests find it.
  * @param {"acorn" | "typescript"} name
  * @returns {string | undefined}
  */

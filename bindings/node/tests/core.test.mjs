@@ -74,7 +74,7 @@ test("the module imports nothing, and says what it was made of", { skip }, () =>
 });
 
 test("an argument of which nothing is known is missing, or has unknown parts alone", { skip }, async () => {
-  const { dependencies } = await functionsWith().moduleInfo("import(x); import(`${x}`); import(`./${x}`);", URL_OF_TEXT);
+  const { dependencies = [] } = await functionsWith().moduleInfo("import(x); import(`${x}`); import(`./${x}`);", URL_OF_TEXT);
   const [part, text] = [{ type: "expr" }, { type: "string", value: "./" }];
   assert.deepEqual(dependencies.map((each) => each.type === "dynamic" && each.argument), [undefined, [part], [text, part]]);
 });

@@ -14,7 +14,7 @@ import { Modinfo } from "../modinfo-graph/dist/index.js";
 import { estreeDocument } from "../modinfo/dist/index.js";
 import { documentCommand, lineOf } from "./equipment/document_command.mjs";
 import { Pool } from "../modinfo-graph/dist/runtime/pool.js";
-import { mediaTypeOf } from "./equipment/document/media_types.mjs";
+import { mediaTypeOf } from "./equipment/media_types.mjs";
 import { readEstree } from "./estree_reading.mjs";
 import { PARSERS, parsed } from "./estree_parsers.mjs";
 import { DIFFERENCES, TEXTS } from "./estree_texts.mjs";
@@ -29,14 +29,14 @@ import { unchecked } from "./unchecked.mjs";
  */
 
 const notBuilt = !existsSync(MODINFO) && "build/modinfo isn't made";
-const ADAPTER = fileURLToPath(new URL("equipment/estree", import.meta.url));
+const OWN = fileURLToPath(new URL("equipment/typescript", import.meta.url));
 
-/** Texts of the tests of the adapter, which differs from the direct reading at some of them, and its own sources. */
+/** Texts of the tests of ESTree, with those that one reading files otherwise, and sources of these tests. */
 const ALL_TEXTS = [
   ...Object.entries(TEXTS),
   ...DIFFERENCES.map(({ mediaType, texts }) => /** @type {Texts} */ ([mediaType, texts])),
-  ...readdirSync(ADAPTER).map((name) => /** @type {Texts} */ (
-    [mediaTypeOf(name), [readFileSync(join(ADAPTER, name), "utf8")]])),
+  ...readdirSync(OWN).map((name) => /** @type {Texts} */ (
+    [mediaTypeOf(name), [readFileSync(join(OWN, name), "utf8")]])),
 ];
 
 /**

@@ -1,12 +1,12 @@
 /** The parsers whose trees the tests of ESTree read. */
 
-import { Source, SourceFault } from "./equipment/document/source.mjs";
-import { parseWithAcorn } from "./equipment/estree/acorn.mjs";
+import { parseWithAcorn } from "./equipment/acorn.mjs";
 import { loadParser } from "./equipment/installed_parsers.mjs";
+import { parseWithTypeScript } from "./equipment/typescript/index.mjs";
 
 /**
  * @typedef {{ tree: any, comments: any[] }} Parsed
- * @typedef {(text: string, mediaType: string) => Parsed} Parse throws a SyntaxError or a SourceFault
+ * @typedef {(text: string, mediaType: string) => Parsed} Parse throws a SyntaxError
  *
  * @typedef {object} Parser
  * @property {string} name
@@ -98,14 +98,22 @@ const TYPESCRIPT = ["TypeScript", "Mts", "Cts", "Dts", "Dmts", "Dcts", "Tsx"];
 export const noBabel = !babel && "@babel/parser isn't installed";
 const noEspree = !espree && "espree isn't installed, or finds no acorn";
 
+/**
+ * With import attributes, as both keywords have them.
+ * @type {Parser}
+ */
+export const ACORN = {
+  name: "acorn with nodes for parentheses and attributes", mediaTypes: JAVASCRIPT, parse: parseWithAcorn, skip: false,
+};
+
+/** @type {Parser} */
+export const TYPESCRIPT_PARSER = {
+  name: "TypeScript", mediaTypes: [...JAVASCRIPT, ...TYPESCRIPT], parse: parseWithTypeScript, skip: false,
+};
+
 /** @type {Parser[]} */
 export const PARSERS = [
-  {
-    name: "acorn as the adapter runs it",
-    mediaTypes: JAVASCRIPT,
-    parse: (text, mediaType) => parseWithAcorn(new Source(text), mediaType),
-    skip: false,
-  },
+  ACORN,
   { name: "acorn without nodes for parentheses", mediaTypes: JAVASCRIPT, parse: withAcorn, skip: false },
   { name: "espree", mediaTypes: JAVASCRIPT, parse: withEspree, skip: noEspree },
   {
@@ -142,7 +150,7 @@ export function parsed({ mediaTypes, parse, skip }, text, mediaType) {
   try {
     return parse(text, mediaType);
   } catch (error) {
-    if (error instanceof SyntaxError || error instanceof SourceFault) {
+    if (error instanceof SyntaxError) {
       return undefined;
     }
     throw error;

@@ -1,10 +1,10 @@
 /**
- * Makes the module document of a parser's tree, as plainly as can be: a second adapter, for tests alone, that shares
- * nothing with the one in tests/equipment/estree.
+ * Makes the module document of a parser's tree, as plainly as can be, for tests alone: it shares nothing with the program's
+ * own reading of trees.
  *
  * Every node becomes one node of the document, except a method of Babel, which becomes two, and an expression in
  * parentheses, which is inside an `Other`. Nothing is left out, so that the document may be too deep for the program.
- * Comments have a shorter rule than in the adapter; the texts where that shows are listed in estree_texts.mjs.
+ * Comments have a shorter rule than in the program; the texts where that shows are listed in estree_texts.mjs.
  *
  * Names of nodes and members are those of the ESTree specification (JavaScript), of typescript-estree's AST
  * specification (names with `TS`), and of Babel's AST specification (`File`, `Import`, `directives`, literals,

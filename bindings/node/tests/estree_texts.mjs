@@ -1,5 +1,5 @@
 /**
- * Texts of modules for the test of the ESTree adapter against the direct reading: what decides which comment, which
+ * Texts of modules for the test of `analyze --estree` against the direct reading: what decides which comment, which
  * parenthesis, which clause and which node is read.
  */
 
@@ -359,58 +359,26 @@ export const TEXTS = {
 };
 
 /**
- * Texts whose results differ, in one value and in nothing else.
- * @typedef {object} Difference
- * @property {string} why
- * @property {string} mediaType
- * @property {(string | number)[]} path of the value in the result
- * @property {unknown} adapter the value by the adapter, or its `text`
- * @property {unknown} reading the value by the direct reading, or its `text`
- * @property {string[]} texts
+ * Texts whose comments the direct reading files otherwise than the program, which files them by the token before.
+ * @type {{ mediaType: string, texts: string[] }[]}
  */
-
-/** @type {Difference[]} */
 export const DIFFERENCES = [
   {
-    why: "The adapter doesn't write a sum of more than 59 operands, since the document would be too deep for the program.",
     mediaType: "JavaScript",
-    path: ["dependencies", 0, "argument"],
-    adapter: undefined,
-    reading: Array.from({ length: 60 }, () => ({ type: "string", value: "a" })),
-    texts: [`require("a"${' + "a"'.repeat(59)})`],
-  },
-  {
-    why: "A line comment on the line of a binary operator leads the next token by the adapter. The reading has one rule for all tokens.",
-    mediaType: "JavaScript",
-    path: ["dependencies", 0, "typesSpecifier"],
-    adapter: "./b.d.ts",
-    reading: undefined,
     texts: [
+      // After a binary operator
       `a + // @deno-types="./b.d.ts"\n require("b");`,
       `a && // @deno-types="./b.d.ts"\n require("b");`,
       `a || // @deno-types="./b.d.ts"\nrequire("b")`,
-    ],
-  },
-  {
-    why: "A block comment after a literal or a name trails it by the adapter. The reading distinguishes no words.",
-    mediaType: "JavaScript",
-    path: ["dependencies", 0, "typesSpecifier"],
-    adapter: undefined,
-    reading: "./b.d.ts",
-    texts: [
+      // After a literal or a name
       `/a/ /* @deno-types="./b.d.ts" */\nrequire("b")`,
       `for (const a of /* @deno-types="./b.d.ts" */ require("b"));`,
       `a /* @deno-types="./b.d.ts" */\nrequire("b")`,
       `"a" /* @deno-types="./b.d.ts" */\nrequire("b")`,
       `1 /* @deno-types="./b.d.ts" */\nrequire("b")`,
+      // A sum that nests deep in the direct reading
+      `require("a"${' + "a"'.repeat(59)})`,
     ],
   },
-  {
-    why: "A block comment directly before `;` trails the last token by the adapter, here the `#!` line.",
-    mediaType: "Jsx",
-    path: ["jsxImportSource"],
-    adapter: undefined,
-    reading: "a",
-    texts: [`#!/a\n/* @jsxImportSource a */;`],
-  },
+  { mediaType: "Jsx", texts: [`#!/a\n/* @jsxImportSource a */;`] },
 ];

@@ -3,7 +3,7 @@
 import { existsSync, readFileSync, readdirSync, statSync } from "node:fs";
 import { join } from "node:path";
 
-import { mediaTypeOf } from "../equipment/document/media_types.mjs";
+import { mediaTypeOf } from "../equipment/media_types.mjs";
 
 /** @typedef {import("./program.mjs").Module} Module */
 

@@ -8,7 +8,7 @@
 import assert from "node:assert/strict";
 import { test } from "node:test";
 
-import { PARSERS, parsed } from "./adapters.mjs";
+import { PARSERS, parsed } from "../estree_parsers.mjs";
 import { Oracle } from "./oracle.mjs";
 import { linesOfTexts, linesOfTrees } from "./program.mjs";
 

@@ -13,8 +13,8 @@ import { readFileSync, readdirSync } from "node:fs";
 import { join } from "node:path";
 import { test } from "node:test";
 
-import { mediaTypeOf } from "../equipment/document/media_types.mjs";
-import { PARSERS } from "./adapters.mjs";
+import { mediaTypeOf } from "../equipment/media_types.mjs";
+import { PARSERS } from "../estree_parsers.mjs";
 import { KNOWN } from "./known.mjs";
 import { Oracle } from "./oracle.mjs";
 import { SYNTAX, linesOfFiles } from "./program.mjs";

@@ -11,7 +11,7 @@ import assert from "node:assert/strict";
 import { writeFileSync } from "node:fs";
 import { test } from "node:test";
 
-import { PARSERS, SourceFault, fromTypeScript, parsed } from "./adapters.mjs";
+import { PARSERS, TYPESCRIPT_PARSER, parsed } from "../estree_parsers.mjs";
 import { changedTexts, skip } from "./changed_texts.mjs";
 import { Oracle } from "./oracle.mjs";
 import { SYNTAX, linesOfTexts } from "./program.mjs";
@@ -24,7 +24,9 @@ const MOST_REFUSED = 3;
 const MOST_READ = 4;
 
 /** The parsers of ESTree without those that differ from another one only by their trees. */
-const READERS = PARSERS.filter(({ name, skip: why }) => !why && !/without nodes|with nodes|its own nodes/.test(name));
+const READERS = [
+  ...PARSERS.filter(({ name, skip: why }) => !why && !/^acorn without|^Babel with nodes|its own nodes/.test(name)), TYPESCRIPT_PARSER,
+];
 
 /** @typedef {import("./program.mjs").Module} Module */
 
@@ -33,20 +35,7 @@ const READERS = PARSERS.filter(({ name, skip: why }) => !why && !/without nodes|
  * @param {Module} module
  */
 function isRead({ text, mediaType }) {
-  if (READERS.some((parser) => parsed(parser, text, mediaType))) {
-    return true;
-  }
-  try {
-    /** @type {any} */
-    const module = { specifier: "file:///a", mediaType };
-    fromTypeScript(text, module);
-    return true;
-  } catch (error) {
-    if (error instanceof SourceFault) {
-      return false;
-    }
-    throw error;
-  }
+  return READERS.some((parser) => parsed(parser, text, mediaType));
 }
 
 test(`changed files, seed ${SEED}`, { skip }, async () => {

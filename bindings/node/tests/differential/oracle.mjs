@@ -1,17 +1,17 @@
 /** What other parsers say of a text: the information of the module that their trees have. */
 
-import { Analyzer } from "../equipment/analyzer.mjs";
+import { estreeDocument } from "../../modinfo/dist/index.js";
+import { Pool } from "../../modinfo-graph/dist/runtime/pool.js";
+import { documentCommand, lineOf } from "../equipment/document_command.mjs";
+import { ACORN, PARSERS, TYPESCRIPT_PARSER, parsed } from "../estree_parsers.mjs";
 import { MODINFO } from "../run_commands.mjs";
 import { unchecked } from "../unchecked.mjs";
-import { PARSERS, SourceFault, fromEstree, fromTypeScript, parsed } from "./adapters.mjs";
 import { SYNTAX } from "./program.mjs";
 
 /** @typedef {import("./program.mjs").Module} Module */
 
-const ACORN = new Set(["JavaScript", "Mjs", "Cjs"]);
-
 export class Oracle {
-  #analyzer = new Analyzer(MODINFO);
+  #pool = new Pool(documentCommand(MODINFO, "analyze --estree"), 1);
 
   /**
    * By acorn, where it doesn't read a text or its media type by TypeScript.
@@ -19,8 +19,7 @@ export class Oracle {
    * @returns {Promise<string>} JSON, or `Syntax` where neither reads it
    */
   async lineOf(module) {
-    const byAcorn = ACORN.has(module.mediaType) ? await this.#line(fromEstree, module) : SYNTAX;
-    return byAcorn === SYNTAX ? this.#line(fromTypeScript, module) : byAcorn;
+    return await this.#line(ACORN, module) ?? await this.#line(TYPESCRIPT_PARSER, module) ?? SYNTAX;
   }
 
   /**
@@ -28,36 +27,34 @@ export class Oracle {
    * @param {Module} module
    * @returns {Promise<Map<string, string>>}
    */
-  async linesOf({ text, mediaType }) {
+  async linesOf(module) {
     const lines = new Map();
     for (const parser of PARSERS) {
-      const input = parsed(parser, text, mediaType);
-      if (input) {
-        const toDocument = (/** @type {string} */ source, /** @type {object} */ options) =>
-          fromEstree(source, unchecked({ ...options, ...input }));
-        lines.set(parser.name, await this.#line(toDocument, { text, mediaType }));
+      const line = await this.#line(parser, module);
+      if (line !== undefined) {
+        lines.set(parser.name, line);
       }
     }
     return lines;
   }
 
+  /** @returns {Promise<void>} */
   close() {
-    return this.#analyzer.close();
+    return this.#pool.close();
   }
 
   /**
-   * @param {(text: string, options: any) => object} toDocument
+   * @param {import("../estree_parsers.mjs").Parser} parser
    * @param {Module} module
+   * @returns {Promise<string | undefined>} nothing where the parser doesn't read it
    */
-  async #line(toDocument, { text, mediaType }) {
-    try {
-      const document = toDocument(text, { specifier: "file:///a", mediaType });
-      return (await this.#analyzer.analyze(JSON.stringify(document))).toString();
-    } catch (error) {
-      if (error instanceof SourceFault) {
-        return SYNTAX;
-      }
-      throw error;
+  async #line(parser, { text, mediaType }) {
+    const input = parsed(parser, text, mediaType);
+    if (!input) {
+      return undefined;
     }
+    const { tree, comments } = input;
+    const document = estreeDocument(tree, text, "file:///a", unchecked(mediaType), { comments });
+    return String(await this.#pool.run(lineOf(document)));
   }
 }

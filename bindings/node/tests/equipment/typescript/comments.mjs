@@ -1,68 +1,77 @@
 /**
  * Finds the comments of a text by TypeScript's tree, which has none.
  *
- * @typedef {import("../document/comments.mjs").Comment} Comment
  * @typedef {import("./parse.mjs").Node} Node
  * @typedef {import("./parse.mjs").Compiler} Compiler
  */
 
-import { kindsOf } from "./kinds.mjs";
-
-const SLASH = 0x2f;
+/** Tokens of free text, in which what looks like a comment is none. */
+const TEXTS = [
+  "StringLiteral", "NoSubstitutionTemplateLiteral", "TemplateHead", "TemplateMiddle", "TemplateTail", "JsxText",
+  "RegularExpressionLiteral",
+];
 const STAR = 0x2a;
+const OPENING = /\/[/*]/g;
 const LINE_BREAK = /[\n\r\u2028\u2029]/g;
-
-/**
- * Where something looks like the beginning of a comment.
- * @param {string} text
- * @returns {number[]} offsets in UTF-16 units, ascending
- */
-export function commentOpenings(text) {
-  const found = [];
-  for (let at = text.indexOf("/"); at >= 0; at = text.indexOf("/", at + 1)) {
-    const next = text.charCodeAt(at + 1);
-    if (next === SLASH || next === STAR) {
-      found.push(at);
-    }
-  }
-  return found;
-}
 
 /**
  * The comments: what looks like one, but for what is in another, or in a token of free text.
  * @param {Compiler} compiler
  * @param {Node} file
  * @param {string} text
- * @param {number[]} openings
- * @param {Node[]} tokens those of free text, in the order of the source
  * @param {number} from
- * @returns {Comment[]} in the order of the source
+ * @returns {{ start: number, end: number }[]} in the order of the source
  */
-export function findComments(compiler, file, text, openings, tokens, from) {
-  const { JsxText } = kindsOf(compiler);
-  /** @type {(token: Node) => number} */
-  const startOf = (token) => (token.kind === JsxText ? token.pos : token.getStart(file, false));
-  /** @type {Comment[]} */
+export function findComments(compiler, file, text, from) {
+  const tokens = textsOf(compiler, file);
   const found = [];
-  let [end, at] = [from, 0];
-  for (const opening of openings) {
-    while (at < tokens.length && tokens[at].end <= opening) {
+  let at = 0;
+  for (let start = nextSlash(text, from); start >= 0;) {
+    while (at < tokens.length && tokens[at].end <= start) {
       at++;
     }
-    if (opening < end) {
-      continue;
+    const isInText = at < tokens.length && tokens[at].start <= start;
+    const end = isInText ? tokens[at].end : commentEnd(text, start);
+    if (!isInText && end >= 0) {
+      found.push({ start, end });
     }
-    if (at < tokens.length && startOf(tokens[at]) <= opening) {
-      end = tokens[at].end;
-      continue;
-    }
-    const close = commentEnd(text, opening);
-    if (close >= 0) {
-      end = close;
-      found.push({ kind: isBlock(text, opening) ? "block" : "line", start: opening, end });
-    }
+    start = nextSlash(text, Math.max(end, start + 1));
   }
   return found;
+}
+
+/**
+ * The ranges of the tokens of free text, in the order of the source.
+ * @param {Compiler} compiler
+ * @param {Node} file
+ */
+function textsOf(compiler, file) {
+  const kinds = new Set(TEXTS.map((name) => compiler.SyntaxKind[name]));
+  const todo = [file];
+  const push = (/** @type {Node} */ child) => {
+    todo.push(child);
+  };
+  const found = [];
+  while (todo.length > 0) {
+    const node = todo.pop();
+    if (kinds.has(node.kind)) {
+      const isFromWhiteSpaceOn = node.kind === compiler.SyntaxKind.JsxText;
+      found.push({ start: isFromWhiteSpaceOn ? node.pos : node.getStart(file, false), end: node.end });
+    }
+    compiler.forEachChild(node, push);
+  }
+  return found.sort((one, other) => one.start - other.start);
+}
+
+/**
+ * Where something next looks like the beginning of a comment.
+ * @param {string} text
+ * @param {number} from
+ * @returns {number} below 0 where nothing does
+ */
+function nextSlash(text, from) {
+  OPENING.lastIndex = from;
+  return OPENING.exec(text)?.index ?? -1;
 }
 
 /**

@@ -1,16 +1,12 @@
 /** Runs TypeScript's parser. */
 
-import { MEDIA_TYPES, endingOf } from "../document/media_types.mjs";
-import { isAtLeast } from "../installed_parsers.mjs";
+import { endingOf } from "../media_types.mjs";
+import { withoutShebang } from "../shebang.mjs";
 
 /**
- * @typedef {import("../document/source.mjs").Source} Source
  * @typedef {any} Node a node of TypeScript's; its members differ from version to version
  * @typedef {any} Compiler the module `typescript`
  */
-
-/** The media types that TypeScript's parser reads: those of a file's name. */
-export const TYPESCRIPT_MEDIA_TYPES = MEDIA_TYPES.filter(endingOf);
 
 /**
  * The parser's errors about comments that begin with `///`: an invalid reference, a resolution mode
@@ -20,31 +16,25 @@ const OF_COMMENTS = new Set([1084, 1453, 2458]);
 
 /**
  * @param {Compiler} compiler
- * @param {Source} source
+ * @param {string} source
  * @param {string} mediaType
  * @returns {Node} the `SourceFile`
+ * @throws {SyntaxError} the first error
  */
-export function parseWithTypeScript(compiler, source, mediaType) {
-  const text = source.withoutShebang;
+export function parseFile(compiler, source, mediaType) {
+  const text = withoutShebang(source);
   const file = parseText(compiler, text, mediaType);
-  if (isSound(file) || isAtLeast(compiler, 5, 3)) {
+  const errors = syntaxErrors(file);
+  if (errors.length === 0) {
     return file;
   }
-  const older = withOlderKeyword(text, syntaxErrors(file));
-  return older === text ? file : parseText(compiler, older, mediaType);
-}
-
-/**
- * @param {Compiler} compiler
- * @param {Node} file
- * @param {Source} source
- * @throws {import("../document/source.mjs").SourceFault} the first syntax error
- */
-export function refuseErrors(compiler, file, source) {
-  const [first] = syntaxErrors(file);
+  const older = withOlderKeyword(text, errors);
+  const again = older === text ? file : parseText(compiler, older, mediaType);
+  const [first] = syntaxErrors(again);
   if (first) {
-    throw source.fault(first.start, compiler.flattenDiagnosticMessageText(first.messageText, " "));
+    throw new SyntaxError(compiler.flattenDiagnosticMessageText(first.messageText, " "));
   }
+  return again;
 }
 
 /**
@@ -99,7 +89,7 @@ function scriptKindOf(ending) {
  * @param {Node} file
  * @returns {Node} the file, where it is so, with all after the first `await` parsed twice
  */
-export function withoutRemains(compiler, file) {
+function withoutRemains(compiler, file) {
   if (firstRemain(file) < 0) {
     return file;
   }

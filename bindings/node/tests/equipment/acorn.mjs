@@ -1,11 +1,9 @@
 /** Runs acorn. */
 
-import { loadParser } from "../installed_parsers.mjs";
+import { loadParser } from "./installed_parsers.mjs";
+import { withoutShebang } from "./shebang.mjs";
 
-/**
- * @typedef {import("../document/source.mjs").Source} Source
- * @typedef {{ tree: object, comments: { start: number, end: number }[] }} Parsed
- */
+/** @typedef {{ tree: object, comments: { start: number, end: number }[] }} Parsed */
 
 /**
  * The ways of parsing that are tried in turn.
@@ -18,44 +16,26 @@ const SOURCE_TYPES = {
   Cjs: ["script"],
 };
 
-const LONGEST_WORD = "import".length;
-const MODULE_WORD = /^(?:import|export|await)(?![\p{ID_Continue}$])/u;
-/** In a script `await` is a name, after which there is no operand. */
-const AWAIT_BEFORE = new RegExp(
-  String.raw`(?<![\p{ID_Continue}$.#])await(?:\s|/\*(?:(?!\*/)[^])*\*/|//.*[\n\r\u2028\u2029])+$`,
-  "u",
-);
-/** How much of the text before an offset is looked at. */
-const BEFORE = 100;
-
-/** The media types that acorn reads; of Jsx only what has no JSX in it. */
-export const ACORN_MEDIA_TYPES = Object.keys(SOURCE_TYPES);
-
 /** @type {any} */
 let extended;
 
 /**
- * @param {Source} source
+ * @param {string} text
  * @param {string} mediaType
  * @returns {Parsed}
- * @throws {import("../document/source.mjs").SourceFault} a syntax error
+ * @throws {SyntaxError}
  */
-export function parseWithAcorn(source, mediaType) {
+export function parseWithAcorn(text, mediaType) {
   const parser = loadAcorn();
-  /** @type {any[]} */
-  const errors = [];
-  for (const sourceType of SOURCE_TYPES[mediaType]) {
-    try {
-      return parseAs(parser, source.withoutShebang, sourceType);
-    } catch (error) {
-      if (!(error instanceof SyntaxError)) {
-        throw error;
-      }
-      errors.push(error);
+  const [first, ...others] = SOURCE_TYPES[mediaType];
+  try {
+    return parseAs(parser, withoutShebang(text), first);
+  } catch (error) {
+    if (!(error instanceof SyntaxError) || others.length === 0) {
+      throw error;
     }
+    return parseAs(parser, withoutShebang(text), others[0]);
   }
-  const { pos, message } = errorToShow(source.text, errors);
-  throw source.fault(pos, message.replace(/ \(\d+:\d+\)$/, ""));
 }
 
 /** @returns {any} acorn's parser, with import attributes */
@@ -67,29 +47,6 @@ function loadAcorn() {
     (/** @type {any} */ Parser) => withOptions(Parser, acorn),
   );
   return extended;
-}
-
-/**
- * Of the errors in the order of the ways: the module's where the script's is that it has the syntax
- * of a module, else the one that is last in the text.
- * @param {string} text
- * @param {{ pos: number, message: string }[]} errors
- */
-function errorToShow(text, [first, ...others]) {
-  if (others.some(({ pos }) => isModuleSyntax(text, pos))) {
-    return first;
-  }
-  return others.reduce((one, other) => (other.pos > one.pos ? other : one), first);
-}
-
-/**
- * Whether a script ends at an offset since a module goes on there.
- * @param {string} text
- * @param {number} offset
- */
-function isModuleSyntax(text, offset) {
-  return MODULE_WORD.test(text.slice(offset, offset + LONGEST_WORD + 2)) ||
-    AWAIT_BEFORE.test(text.slice(Math.max(0, offset - BEFORE), offset));
 }
 
 /**
