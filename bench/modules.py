@@ -7,8 +7,8 @@ example: tools/setup bench && ./modinfo --prove && bench/modules.py --files 500
   --files N   files of Debian's node packages, evenly spread over all in the order of their paths; else all
   --sample N  how many modules of each class of sizes are measured; else 1000
 
-Makes a document of ESTree of each file by TypeScript's parser (bindings/node/tests/equipment). Prints a table of
-means, with a row for each class of sizes and one for the mix. Needs valgrind, /usr/bin/time and Python 3.11.
+Makes a document of ESTree of each file by TypeScript's parser (bindings/node/tests/equipment). Prints a table
+of means, with a row for each class of sizes and one for the mix. Needs valgrind, /usr/bin/time, Python 3.11.
 
   instructions  of `modinfo analyze --estree --lines` by callgrind, less those for no lines
   analysis      its processor time, the fastest of five runs
