@@ -7,7 +7,8 @@
  *
  * FILES is how many files of /usr/share/nodejs are taken, evenly among those of at most 60 kB; else 3200. Each of the
  * ROUNDS, else 8, is a pass over all texts by each engine in turn, so that other work slows them alike; the fastest
- * pass of each counts. `call` calls the module alone, and `modinfo` the package's function, which reads the JSON too.
+ * pass of each counts. Beside much other work, few files in many rounds, as 24 and 200, have the steadiest figures.
+ * `call` calls the module alone, and `modinfo` the package's function, which reads the JSON too.
  */
 
 import { execFileSync } from "node:child_process";
@@ -27,6 +28,8 @@ import { Core } from "../bindings/node/modinfo/dist/core/instance.cjs";
 const FOLDER = "/usr/share/nodejs";
 const LARGEST = 60_000;
 const CALLS = 2000;
+/** How many are printed of each engine: the first ones, and the fastest. */
+const PASSES = 5;
 /** Most times the time of the library, and of acorn; microseconds of a call; bytes. */
 const AIMS = { library: 1.4, acorn: 0.33, call: 60, raw: 1_150_000, brotli: 290_000 };
 
@@ -52,7 +55,8 @@ function readTexts() {
 function cost(run) {
   const before = process.cpuUsage();
   run();
-  return process.cpuUsage(before).user / 1000;
+  const { user, system } = process.cpuUsage(before);
+  return (user + system) / 1000;
 }
 
 /** @param {Text[]} texts @returns {Engine} */
@@ -109,14 +113,15 @@ const engines = [
 
 const megabytes = texts.reduce((sum, [text]) => sum + Buffer.byteLength(text), 0) / 1e6;
 const load = loadavg()[0].toFixed(0);
-console.log(`${texts.length} files, ${megabytes.toFixed(1)} MB, load ${load}; MB a second of processor time, in each of ${rounds} rounds`);
+console.log(`${texts.length} files, ${megabytes.toFixed(1)} MB, load ${load}; MB a second of processor time, in the first rounds and the fastest of ${rounds}`);
 /** @type {Map<string, number[]>} */
 const passes = new Map(engines.map(({ name }) => [name, []]));
 for (let round = 0; round < Number(rounds); round++) {
   engines.forEach(({ name, pass }) => passes.get(name)?.push(pass()));
 }
 for (const [name, took] of passes) {
-  console.log(name.padEnd(16), ...took.map((each) => (megabytes * 1000 / each).toFixed(1).padStart(6)));
+  const shown = took.slice(0, PASSES - 1).concat(Math.min(...took));
+  console.log(name.padEnd(16), ...shown.map((each) => (megabytes * 1000 / each).toFixed(1).padStart(6)));
 }
 
 /** @param {string} name */

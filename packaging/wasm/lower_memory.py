@@ -19,6 +19,7 @@ SEGMENT = re.compile(r"^(  \(data [^\"]*)\(i64\.const", re.MULTILINE)
 # Each function gets a local of each type for the value on top of an address, and one for a size on top of that.
 LOCALS = "".join(f"(local ${name} {name})" for name in ("i32", "i64", "f32", "f64", "v128")) + "(local $size i32)\n"
 WRAP = "i32.wrap_i64"
+SUM = re.compile(r"i64\.const (-?\d+)\n +i64\.add\n +i32\.wrap_i64$", re.MULTILINE)
 BELOW_SIZE = f"{WRAP} local.set $size %s local.set $i32 {WRAP} local.get $i32 local.get $size"
 OF_MEMORY = {
     "memory.size": "memory.size i64.extend_i32_u",
@@ -48,3 +49,10 @@ def lower(wide: Path, narrow: Path) -> None:
     lowered = narrow.with_suffix(".wat")
     lowered.write_text(SEGMENT.sub(r"\1(i32.const", text).replace("(memory (;0;) i64 ", "(memory (;0;) "))
     run("wat2wasm", lowered, "-o", narrow)
+
+
+def narrow_sums(module: Path, narrow: Path) -> None:
+    """Reads the new module, and writes one that wraps addresses before it adds constants, which may become offsets."""
+    text = SUM.sub(lambda found: f"{WRAP} i32.const {int(found[1]) % 2**32} i32.add", printed("wasm2wat", str(module)))
+    narrow.with_suffix(".wat").write_text(text)
+    run("wat2wasm", narrow.with_suffix(".wat"), "-o", narrow)
