@@ -26,6 +26,6 @@ int main(void)
             at += sizeof lengths + lengths[0] + lengths[1];
         }
     }
-    printf("%.1f\n", (clock() - start) * 1000.0 / CLOCKS_PER_SEC);
+    printf("%.3f\n", (clock() - start) * 1000.0 / CLOCKS_PER_SEC);
     return 0;
 }
