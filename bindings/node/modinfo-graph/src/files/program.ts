@@ -42,9 +42,9 @@ export function programName(): string {
   }
 }
 
-/** @returns whether it is the WebAssembly module */
+/** @returns whether it is the WebAssembly module, or the file of `modinfo` that has it as text */
 export function isWasm(program: string): boolean {
-  return program.endsWith(".wasm");
+  return /\.wasm$|[\\/]module\.js$/.test(program);
 }
 
 function installedPath() {
