@@ -33,9 +33,6 @@ printHelp(import.meta.url);
 const FILES = fileURLToPath(new URL("../bindings/node/modinfo-graph/dist/cli/files.js", import.meta.url));
 const TOOLS = fileURLToPath(new URL("adapters_tools.mjs", import.meta.url));
 const THREADS = [1, 2, 4];
-/** One that isn't there before a run, and one of an earlier run. */
-const [COLD, WARM] = ["cold", "warm"];
-const CACHES = [COLD, WARM];
 
 /**
  * @typedef {{ kind: string, offset: number, specifier?: unknown }} Dependency `offset` is that of
@@ -71,10 +68,6 @@ function commandsOf(list, folder, forEsbuild) {
   return [
     ...THREADS.map((n) => [`TypeScript's parser alone, ${threads(n)}`, tool("typescript", n)]),
     ...THREADS.map((n) => [`files.mjs, ${threads(n)}`, node(FILES, "--jobs", String(n), "-")]),
-    ...CACHES.map((name) => [
-      `files.mjs with a ${name} cache, ${threads(2)}`,
-      node(FILES, "--jobs", "2", "--cache", join(folder, name), "-"),
-    ]),
     ["`ts.preProcessFile`", tool("ts.preProcessFile", 1)],
     ["`es-module-lexer`", tool("es-module-lexer", 1)],
     ["`esbuild`, its own threads", esbuildWords(forEsbuild, folder)],
@@ -125,15 +118,13 @@ function run(words, list, environment = {}) {
  * @param {[string, string[]][]} commands
  * @param {string} list
  * @param {object} options
- * @param {string} options.folder that of the caches
  * @param {number} options.rounds the fastest counts
  * @param {number} options.files
  */
-function timeTable(commands, list, { folder, rounds, files }) {
+function timeTable(commands, list, { rounds, files }) {
   const best = new Map();
   for (let round = 0; round < rounds; round++) {
     for (const [name, words] of commands) {
-      rmSync(join(folder, COLD), { force: true });
       const { wall, processor } = run(words, list);
       if (!best.has(name) || wall < best.get(name).wall) {
         best.set(name, { wall, processor });
@@ -333,9 +324,8 @@ function main() {
   console.log(`${paths.length} files of ${values.folder}, ${(bytes / 1e6).toFixed(1)} MB`);
   const refused = refusedByEsbuild(paths, list, folder);
   const forEsbuild = paths.filter((path) => !refused.has(path));
-  run([process.execPath, FILES, "--cache", join(folder, WARM), "-"], list);
   const commands = commandsOf(list, folder, forEsbuild);
-  timeTable(commands, list, { folder, rounds: Number(values.rounds), files: paths.length });
+  timeTable(commands, list, { rounds: Number(values.rounds), files: paths.length });
   const esbuild = foundByEsbuild(forEsbuild, folder);
   refused.forEach((path) => esbuild.set(path, undefined));
   dependencyTable(ownDependencies(list), {
