@@ -151,10 +151,7 @@ function listsFor(
   return { entries, lists, outside: outsideOf(modules, links), gaps };
 }
 
-/**
- * Reports the libraries that are absent, and what isn't drawn without them.
- * @returns whether a library is absent
- */
+/** Reports the libraries that are absent, and what isn't drawn without them; returns whether one is. */
 function reportAbsent(libraries: Library[]): boolean {
   const absent = libraries.filter(({ fault }) => fault !== undefined);
   for (const { draws, fault } of absent) {

@@ -50,10 +50,7 @@ export class Links {
     this.#indexes = new Map(modules.map(({ key }, index) => [key, index]));
   }
 
-  /**
-   * Nothing if the row's name is unknown or partly known, or names no module.
-   * @param user the path of its module
-   */
+  /** Nothing if the name of the row, of the module `user`, is unknown or partly known, or names no module. */
   target(row: Row, user: string): Target | undefined {
     return this.#targets(row, user).name;
   }

@@ -31,10 +31,7 @@ const ANSWERS: Record<string, (context: Context) => Answer> = {
   mermaid: (context) => drawn(mermaidText, context), graph: whole,
 };
 
-/**
- * The questions that words ask.
- * @throws {UsageFault} one of several can only be asked alone
- */
+/** The questions of words. @throws {UsageFault} one of several can only be asked alone */
 export function questionsOf(values: FilesValues): string[] {
   const asked = QUESTIONS.filter((each) => values[each] !== undefined);
   const alone = asked.find((each) => ALONE.includes(each));

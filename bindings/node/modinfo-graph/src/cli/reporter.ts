@@ -32,10 +32,7 @@ export class FileReporter {
   #faults = 0;
   #noticed = new Set<string>();
 
-  /**
-   * @param name the program's
-   * @param isShown whether the stream, where it is a terminal, gets a line of progress
-   */
+  /** @param isShown whether the stream, where it is a terminal, gets a line of progress */
   constructor(
     name: string, isShown: boolean, stream: { write(text: string): unknown, isTTY?: boolean } = process.stderr,
   ) {
@@ -49,10 +46,7 @@ export class FileReporter {
     this.#found++;
   }
 
-  /**
-   * @param paths those that were named
-   * @throws {UsageFault} there was nothing to read
-   */
+  /** @throws {UsageFault} there was nothing to read at the paths that were named */
   end(paths: string[]) {
     this.#clear();
     if (this.#done === 0 && !paths.includes("-")) {

@@ -115,10 +115,7 @@ export function resolverOptions({ types = false, tsconfig, conditions }: Values)
   return { types, tsconfig: tsconfig === undefined ? undefined : absolute(tsconfig), conditions };
 }
 
-/**
- * The same files, looked up long before they are read where the progress is shown, which then knows how many they
- * are.
- */
+/** The same files, looked up long before they are read where the progress, which counts them, is shown. */
 function ahead(files: AsyncIterable<Found>, reporter: FileReporter): AsyncIterable<Found> {
   const counted = async function* () {
     for await (const file of files) {

@@ -45,10 +45,7 @@ export async function exclusionsOf(
   };
 }
 
-/**
- * @returns whether one of them matches a path, or a folder around it
- * @throws {GlobFault}
- */
+/** Whether one of some globs matches a path, or a folder around it. @throws {GlobFault} */
 export function pathMatcher(globs: string[]): IsOut {
   const matchers = globs.map(globMatcher);
   return withFolders((path) => {
@@ -57,10 +54,7 @@ export function pathMatcher(globs: string[]): IsOut {
   }, matchers.length > 0);
 }
 
-/**
- * @param isAny whether any path is
- * @returns true for what is in such a folder too
- */
+/** True for what is in such a folder too. `isAny` is whether any path is out. */
 function withFolders(isNamed: IsOut, isAny: boolean): IsOut {
   const known = new Map<string, boolean>();
   const isOut: IsOut = (path) => {

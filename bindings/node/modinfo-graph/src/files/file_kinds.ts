@@ -87,10 +87,7 @@ function testOf(pattern: RegExp) {
   return (path: string) => pattern.test(path);
 }
 
-/**
- * The media type of JavaScript or TypeScript.
- * @param language of a component's script: an ending, or a word that a MIME type has
- */
+/** The media type of code, by the language of a component's script: an ending, or a word of a MIME type. */
 export function mediaTypeOfLanguage(language: string): MediaType | undefined {
   return MEDIA_TYPES.get(language.toLowerCase()) ?? mediaTypeOfMime(`text/${language}`);
 }
