@@ -1,24 +1,25 @@
 /**
- * Writes the files of the package `modinfo` that are made of others: the module beside the code; `web.js`, which
- * fetches it; and `inline.js`, which has it as text.
+ * Writes the files of the package `modinfo` that are made of others: `module.js`, which has the module as text, and
+ * `inline.js`, which imports that.
  *
  *     node bindings/node/bundle.mjs build/modinfo.wasm FOLDER VERSION
  *
  * FOLDER has the package. Exits with status 1 where the module has another version.
  */
 
-import { copyFileSync, mkdirSync, readFileSync, writeFileSync } from "node:fs";
+import { mkdirSync, readFileSync, writeFileSync } from "node:fs";
 import { createRequire } from "node:module";
 import { join } from "node:path";
 import { fileURLToPath } from "node:url";
 
 /** What runs in browsers too, each file after those that it requires. */
-const PARTS = ["webassembly", "errors", "estree_document", "input", "instance", "plans", "functions"];
+const PARTS = ["webassembly", "errors", "estree_document", "input", "instance", "plans", "functions", "module_text"];
 const DECLARED = /^(?:const|let|class|function) (?:\{ \w+: )?(\w+)/gm;
 /** Imports, which the parts before have, and exports of types. */
 const IMPORTS = /^import \{[^}]*\} from .*;\n|^export \* from .*;\n|^export \{\};\n/gm;
 
 const require = createRequire(import.meta.url);
+const { CHARACTERS, SINGLES } = require("./modinfo/dist/core/module_text.cjs");
 
 /** @returns {any} the compiler */
 function loadTypeScript() {
@@ -51,9 +52,27 @@ function partsOfAll() {
   return code;
 }
 
-/** @param {Buffer} module */
-function moduleText(module) {
-  return `const MODULE = "${module.toString("base64")}";\n`;
+/** @param {number} number of a character, as core/module_text.cts has them */
+const characterOf = (number) => String.fromCharCode(number + 0x23).replace("\\", "!");
+
+/**
+ * The module as a literal of the text that core/module_text.cts reads.
+ * @param {Buffer} module
+ */
+export function literalOf(module) {
+  const counts = Array(256).fill(0);
+  module.forEach((byte) => {
+    counts[byte]++;
+  });
+  const order = [...counts.keys()].sort((one, other) => counts[other] - counts[one]);
+  const texts = order.map((_, at) => {
+    const pairs = at - SINGLES;
+    const first = SINGLES + Math.floor(pairs / CHARACTERS);
+    return pairs < 0 ? characterOf(at) : characterOf(first) + characterOf(pairs % CHARACTERS);
+  });
+  const byBytes = new Map(order.map((byte, at) => [byte, texts[at]]));
+  const text = Array.from(module, (byte) => byBytes.get(byte)).join("");
+  return `"${Buffer.from(order).toString("hex")}${text}"`;
 }
 
 /**
@@ -70,7 +89,7 @@ function bundleOf(entry) {
  */
 export function scriptOf(module) {
   const loader = codeOf("inline.ts").replace(/^export [^;]*;\n/gm, "");
-  return `${partsOfAll()}${moduleText(module)}${loader}const functions = functionsOf(loader);\n`;
+  return `${partsOfAll()}const MODULE = ${literalOf(module)};\n${loader}const functions = functionsOf(read);\n`;
 }
 
 function main() {
@@ -84,9 +103,8 @@ function main() {
     return;
   }
   mkdirSync(join(folder, "dist"), { recursive: true });
-  copyFileSync(path, join(folder, "dist/modinfo.wasm"));
-  writeFileSync(join(folder, "dist/web.js"), bundleOf("web"));
-  writeFileSync(join(folder, "dist/inline.js"), moduleText(module) + bundleOf("inline"));
+  writeFileSync(join(folder, "dist/module.js"), `export default ${literalOf(module)};\n`);
+  writeFileSync(join(folder, "dist/inline.js"), `import MODULE from "./module.js";\n${bundleOf("inline")}`);
 }
 
 if (process.argv[1] === fileURLToPath(import.meta.url)) {

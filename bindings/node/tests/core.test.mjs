@@ -8,6 +8,7 @@ import { test } from "node:test";
 
 import { Core } from "../modinfo/dist/core/instance.cjs";
 import { functionsOf } from "../modinfo/dist/core/functions.cjs";
+import { bytesOfText } from "../modinfo/dist/core/module_text.cjs";
 import { MEDIA_TYPES, NUMBERS } from "../modinfo/dist/core/plans.cjs";
 import { MODULE } from "./run_commands.mjs";
 import { readSchema } from "./schema.mjs";
@@ -24,7 +25,7 @@ const SPECIFIERS = ["./b.js"];
  * The functions with a module of their own.
  * @param {Uint8Array} [module]
  */
-const functionsWith = (module = bytes) => functionsOf({ load: async () => module });
+const functionsWith = (module = bytes) => functionsOf(() => module);
 
 /** @param {any} info */
 const specifiersOf = (info) => info.dependencies.map((/** @type {any} */ each) => each.specifier);
@@ -88,7 +89,6 @@ test("functions without a promise need the module before", { skip }, async () =>
     const count = /Source|Info|Estree/.test(name) ? words.length : 1;
     assert.throws(() => /** @type {any} */ (own)[name](...words.slice(0, count)), { name: "Error", message: "the module isn't loaded yet: call initSync, or wait for init" }, name);
   }
-  assert.throws(() => own.initSync(), { name: "TypeError", message: "initSync needs the module, or its bytes" });
   await own.init();
   assert.deepEqual(specifiersOf(own.moduleInfoSync(TEXT, URL_OF_TEXT)), SPECIFIERS);
   assert.deepEqual(own.moduleInfoSync(TEXT, URL_OF_TEXT), await own.moduleInfo(TEXT, URL_OF_TEXT));
@@ -97,7 +97,7 @@ test("functions without a promise need the module before", { skip }, async () =>
 
 test("the module is handed over, as bytes too", { skip }, () => {
   for (const source of [bytes, new WebAssembly.Module(bytes), Uint8Array.from(bytes).buffer]) {
-    const own = functionsOf({ load: () => Promise.reject(new Error("not asked")) });
+    const own = functionsOf(() => assert.fail("not asked"));
     own.initSync(source);
     assert.deepEqual(specifiersOf(own.moduleInfoSync(TEXT, URL_OF_TEXT)), SPECIFIERS);
   }
@@ -106,14 +106,12 @@ test("the module is handed over, as bytes too", { skip }, () => {
 
 test("a module that can't be loaded is asked for again", { skip }, async () => {
   let asked = 0;
-  const own = functionsOf({
-    load: async () => {
-      asked += 1;
-      return asked === 1 ? Promise.reject(new Error("no network")) : bytes;
-    },
+  const own = functionsOf(() => {
+    asked += 1;
+    return asked === 1 ? assert.fail("not there") : bytes;
   });
   const first = await Promise.allSettled([own.moduleInfo(TEXT, URL_OF_TEXT), own.init()]);
-  assert.deepEqual(first.map((/** @type {any} */ { status, reason }) => [status, reason?.message]), Array(2).fill(["rejected", "no network"]));
+  assert.deepEqual(first.map((/** @type {any} */ { status, reason }) => [status, reason?.message]), Array(2).fill(["rejected", "not there"]));
   assert.deepEqual(specifiersOf(await own.moduleInfo(TEXT, URL_OF_TEXT)), SPECIFIERS);
   assert.equal(asked, 2);
 });
@@ -126,6 +124,16 @@ test("by require too, with initSync before", { skip }, () => {
     moduleInfo('import "./c.js";', "file:///a.js").then((info) => console.log(info.dependencies[0].specifier));`;
   const { stdout, stderr } = spawnSync(process.execPath, ["--eval", script], { env: { ...process.env, MODINFO_WASM: MODULE } });
   assert.deepEqual([String(stdout), String(stderr)], ["./b.js\n./c.js\n", ""]);
+});
+
+test("the text of the module has all bytes, however frequent they are", async () => {
+  const { literalOf } = await import("../bundle.mjs");
+  const every = Array.from({ length: 256 }, (_, byte) => byte);
+  for (const some of [[], [0], every, [...every.slice(200), ...every, ...every.slice(200), 255]]) {
+    const literal = literalOf(Buffer.from(some));
+    assert.match(literal, /^"[!#-[\]-~]*"$/);
+    assert.deepEqual([...bytesOfText(literal.slice(1, -1))], some);
+  }
 });
 
 test("the arguments are read at the call", { skip }, async () => {

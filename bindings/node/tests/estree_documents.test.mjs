@@ -14,6 +14,7 @@ import { Modinfo } from "../modinfo-graph/dist/index.js";
 import { estreeDocument } from "../modinfo/dist/index.js";
 import { documentCommand, lineOf } from "./equipment/document_command.mjs";
 import { Pool } from "../modinfo-graph/dist/runtime/pool.js";
+import { processesOf } from "../modinfo-graph/dist/runtime/processes.js";
 import { mediaTypeOf } from "./equipment/media_types.mjs";
 import { readEstree } from "./estree_reading.mjs";
 import { PARSERS, parsed } from "./estree_parsers.mjs";
@@ -46,9 +47,9 @@ const ALL_TEXTS = [
  * @returns {Promise<string[]>}
  */
 async function answers(command, documents) {
-  const pool = new Pool(documentCommand(MODINFO, command), 2);
+  const pool = new Pool(processesOf(documentCommand(MODINFO, command)), 2);
   const found = await settled(documents.map((each) => pool.run(lineOf(each))));
-  await pool.close();
+  pool.kill();
   return found.map(({ value, reason }) => (reason ? reason.fault ?? String(reason) : String(value)));
 }
 

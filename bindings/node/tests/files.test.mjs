@@ -9,7 +9,7 @@ import { createInterface } from "node:readline";
 import { test } from "node:test";
 import { pathToFileURL } from "node:url";
 
-import { readJobs } from "../modinfo-graph/dist/cli/common/command_line.js";
+import { readJobs } from "../modinfo-graph/dist/cli/command_line.js";
 import { MODINFO, MODULE, folderOf, linesOf, programOf, run, shell, urlOf } from "./run_commands.mjs";
 import { fault, readSchema } from "./schema.mjs";
 

@@ -127,12 +127,11 @@ test("a link leads each graph where it leads when that is read, and later questi
   assert.deepEqual(graphs.map((graph) => graph.why(join(link, "main.js")).map(({ module }) => module)), expected.map(([entry]) => [entry]));
 });
 
-test("a cache keeps what is found, and a graph takes globs, packages and pages", async () => {
+test("a graph takes globs and packages", async () => {
   const folder = folderOf({ "package.json": `{"main":"./a.js"}`, "a.js": `import "./x/b.js";`, "x/b.js": `import "../c.js";`, "c.js": "" });
-  const cache = join(folder, "cache");
-  const graph = await modinfo.graph({ entries: [folder], exclude: ["x"], cache });
+  const graph = await modinfo.graph({ entries: [folder], exclude: ["x"] });
   assert.deepEqual(graph.modules.map(({ specifier }) => specifier), [urlOf(folder, "a.js"), urlOf(folder, "c.js")]);
-  const ignoring = await modinfo.graph({ entries: [folder], ignore: ["x"], cache });
+  const ignoring = await modinfo.graph({ entries: [folder], ignore: ["x"] });
   assert.deepEqual(ignoring.modules.map(({ specifier }) => specifier), [urlOf(folder, "a.js")]);
   await assert.rejects(modinfo.graph({ paths: [folder], exclude: ["!x"] }), {
     message: /^invalid glob: !x: a glob that begins with "!"/,
@@ -238,7 +237,6 @@ test("options that there aren't, and values that they can't have, are refused", 
     [() => modinfo.graph(unchecked({ paths: ["."], types: "no" })), /^gitignore, all, types and dynamic must be true or false$/],
     [() => modinfo.graph({ paths: ["."], jobs: 0 }), /^jobs must be a whole number/],
     [() => modinfo.graph(unchecked({ paths: ["."], resolve: "x" })), /^resolve must be a function, not x$/],
-    [() => modinfo.graph(unchecked({ paths: ["."], cache: 1 })), /^cache must be a path or the URL of a file, not 1$/],
     [() => modinfo.resolve({}, { specifier: "a.ts" }), /^specifier must be the URL of a file, not a\.ts$/],
     [() => modinfo.resolve(unchecked(null), { specifier }), /^a ModuleInfo must be an object, not null$/],
     [() => modinfo.resolve({}, { specifier, conditions: ["a b"] }), /^conditions must be an array of names$/],

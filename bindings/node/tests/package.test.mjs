@@ -165,7 +165,7 @@ describe("the packages", { skip: noNpm && "npm isn't there" }, () => {
 
   /** What a package has besides its modules. */
   const OTHERS = {
-    modinfo: ["dist/modinfo.wasm", ...["ADAPTERS", "ESTREE", "FORMATS", "PROVED"].map((name) => `docs/${name}.md`)],
+    modinfo: ["dist/module.js", ...["ADAPTERS", "ESTREE", "FORMATS", "PROVED"].map((name) => `docs/${name}.md`)],
     "modinfo-graph": ["docs/FORMATS.md"],
     "modinfo-report": [
       "docs/SECURITY.md", "report.png", "style.css",
@@ -196,7 +196,11 @@ describe("the packages", { skip: noNpm && "npm isn't there" }, () => {
   }
 
   test("the module is that of the build", () => {
-    assert.deepEqual(readFileSync(join(folder, "node_modules/modinfo/dist/modinfo.wasm")), readFileSync(MODULE));
+    for (const load of [`await import("modinfo")`, `await import("modinfo/inline")`, `require("modinfo")`]) {
+      const script = `(async () => require("fs").writeFileSync("copy.wasm", (${load}).moduleBytes()))();`;
+      outputOf(process.execPath, ["--eval", script], { cwd: folder }, NOTHING);
+      assert.deepEqual(readFileSync(join(folder, "copy.wasm")), readFileSync(MODULE), load);
+    }
   });
 
   test("modinfo-report draws where Debian's dagre and d3-hierarchy aren't there", async () => {
@@ -313,9 +317,9 @@ describe("the packages", { skip: noNpm && "npm isn't there" }, () => {
     const alone = folderOf({ "bundle.mjs": readFileSync(join(bundles, "bundle.mjs")) });
     const run = (/** @type {NodeJS.ProcessEnv} */ variables) => outputOf(process.execPath, ["bundle.mjs"], { cwd: alone }, variables);
     const remedy = "copy it from the package, or import modinfo/inline, or set MODINFO_WASM";
-    assert.match(run(NOTHING), new RegExp(`^.*/modinfo\\.wasm not found: ${remedy}\\n$`));
+    assert.match(run(NOTHING), new RegExp(`^.*/module\\.js not found: ${remedy}\\n$`));
     assert.equal(run({ ...NOTHING, MODINFO_WASM: MODULE }), "{ script: true }\n");
-    writeFileSync(join(alone, "modinfo.wasm"), readFileSync(MODULE));
+    writeFileSync(join(alone, "module.js"), readFileSync(join(folder, "node_modules/modinfo/dist/module.js")));
     assert.equal(run(NOTHING), "{ script: true }\n");
   });
 
@@ -337,7 +341,7 @@ describe("the packages", { skip: noNpm && "npm isn't there" }, () => {
       assert.deepEqual(own, native, words.join(" "));
     }
     const version = spawnSync(command, ["--version"], { cwd: folder, env: { ...process.env, ...variables } });
-    assert.match(String(version.stdout), /\(WebAssembly: .*\/node_modules\/modinfo\/dist\/modinfo\.wasm\)\n$/);
+    assert.match(String(version.stdout), /\(WebAssembly: .*\/node_modules\/modinfo\/dist\/module\.js\)\n$/);
   });
 
   test("the programs run by npx and by their links", () => {

@@ -11,6 +11,7 @@ import { ModinfoFault, ProgramEnd } from "../modinfo/dist/index.js";
 import { documentCommand, lineOf } from "./equipment/document_command.mjs";
 import { inOrder } from "../modinfo-graph/dist/runtime/in_order.js";
 import { Pool } from "../modinfo-graph/dist/runtime/pool.js";
+import { processesOf } from "../modinfo-graph/dist/runtime/processes.js";
 import { all, settled } from "./promises.mjs";
 import { MODINFO, folderOf } from "./run_commands.mjs";
 
@@ -35,20 +36,15 @@ class Service {
    * @param {number} [jobs]
    */
   constructor(program, jobs = 1) {
-    this.#pool = new Pool(documentCommand(program, "analyze"), jobs);
+    this.#pool = new Pool(processesOf(documentCommand(program, "analyze")), jobs);
   }
 
   /**
    * @param {string | Uint8Array} document
-   * @param {AbortSignal} [signal]
    * @returns {Promise<any>}
    */
-  answer(document, signal) {
-    return this.#pool.run(lineOf(document), signal);
-  }
-
-  close() {
-    return this.#pool.close();
+  answer(document) {
+    return this.#pool.run(lineOf(document));
   }
 
   kill() {
@@ -98,7 +94,7 @@ test("each of many documents gets its answer", async () => {
   const names = Array.from({ length: 2000 }, (_, at) => `./${at}${"x".repeat(at % 700)}.js`);
   const answers = await Promise.all(names.map((name) => service.answer(document(name))));
   assert.deepEqual(answers.map(specifierOf), names);
-  await service.close();
+  service.kill();
 });
 
 test("a document is text or bytes, and may have line feeds", async () => {
@@ -109,7 +105,7 @@ test("a document is text or bytes, and may have line feeds", async () => {
     assert.equal(specifierOf(await service.answer(each)), "./é.js");
     assert.equal(each.toString(), before);
   }
-  await service.close();
+  service.kill();
 });
 
 test("a fault rejects its own document alone", async () => {
@@ -121,7 +117,7 @@ test("a fault rejects its own document alone", async () => {
   assert.ok(wrong.reason instanceof ModinfoFault);
   assert.equal(wrong.reason.fault, "Json");
   assert.equal(specifierOf(last.value), "b");
-  await service.close();
+  service.kill();
 });
 
 test("answers may come in pieces of any length", async () => {
@@ -134,7 +130,7 @@ test("answers may come in pieces of any length", async () => {
   const service = new Service(program);
   const documents = ['"é"', '"日本"', "{}", '""'];
   assert.deepEqual(await outcomes(documents.map((each) => service.answer(each))), documents);
-  await service.close();
+  service.kill();
 });
 
 /** Ends with status 1 over each document that begins with `"end`. */
@@ -158,7 +154,7 @@ test("a document over which the process ends twice is the only one that is rejec
     assert.ok(ended.reason instanceof ProgramEnd);
     assert.match(ended.reason.message, /modinfo\.mjs ended with status 1: modinfo: Output$/);
     assert.deepEqual(await outcomes([service.answer('"b"')]), ['"b"']);
-    await service.close();
+    service.kill();
   }
 });
 
@@ -176,7 +172,7 @@ test("where the process is killed, what it held goes to another one", async () =
   const numbers = Array.from({ length: 3000 }, (_, at) => String(at));
   assert.deepEqual(await outcomes(numbers.map((each) => service.answer(each))), numbers);
   assert.equal(starts(), 2);
-  await service.close();
+  service.kill();
 });
 
 /** Has no answer to a document that begins with `"wait`. */
@@ -198,22 +194,6 @@ test("a small document doesn't wait for a large one", async () => {
   assert.deepEqual(await outcomes(held), Array(3).fill("ProgramEnd"));
 });
 
-test("a document that is aborted loses its process, the others of the process get their answers", async () => {
-  const { program, starts } = programOf(WAITING);
-  const service = new Service(program);
-  assert.equal(String(await service.answer('"a"')), '"a"');
-  const controller = new AbortController();
-  const aborted = service.answer('"wait"', controller.signal);
-  const others = ["1", "2"].map((each) => service.answer(each));
-  const waiting = service.answer(`"${"x".repeat(1 << 17)}"`, controller.signal);
-  controller.abort(new Error("enough"));
-  await assert.rejects(aborted, { message: "enough" });
-  await assert.rejects(waiting, { message: "enough" });
-  assert.deepEqual(await outcomes(others), ["1", "2"]);
-  assert.equal(starts(), 2);
-  await service.close();
-});
-
 test("a pool that is ended rejects what has no answer, and takes nothing more", async () => {
   const service = new Service(programOf(WAITING).program, 2);
   const held = ['"wait1"', '"wait2"', `"wait${"x".repeat(1 << 17)}"`].map((each) => service.answer(each));
@@ -226,15 +206,13 @@ test("a program that can't be started is an error of each document", async () =>
   const documents = [service.answer("1"), service.answer("2")];
   assert.deepEqual(await outcomes(documents), ["ProgramEnd", "ProgramEnd"]);
   await assert.rejects(service.answer("3"), /^ProgramEnd: \/none\/modinfo can't be started: spawn .*ENOENT/);
-  const last = service.answer("4");
-  const closed = service.close();
-  assert.deepEqual(await outcomes([last, closed]), ["ProgramEnd", "undefined"]);
+  service.kill();
 });
 
 test("a name that no program can have is an error of each document", async () => {
   const service = new Service("a\0b");
   assert.deepEqual(await outcomes([service.answer("1"), service.answer("2")]), ["ProgramEnd", "ProgramEnd"]);
-  await service.close();
+  service.kill();
 });
 
 test("where no more files can be opened, each document is rejected", () => {
@@ -242,10 +220,11 @@ test("where no more files can be opened, each document is rejected", () => {
     import { openSync } from "node:fs";
     import { documentCommand } from ${JSON.stringify(new URL("./equipment/document_command.mjs", import.meta.url).href)};
     import { Pool } from ${JSON.stringify(new URL("../modinfo-graph/dist/runtime/pool.js", import.meta.url).href)};
+    import { processesOf } from ${JSON.stringify(new URL("../modinfo-graph/dist/runtime/processes.js", import.meta.url).href)};
     try { for (;;) openSync("/dev/null"); } catch {}
-    const service = new Pool(documentCommand("cat", "analyze"), 2);
+    const service = new Pool(processesOf(documentCommand("cat", "analyze")), 2);
     const settled = await Promise.allSettled([service.run("1\\n"), service.run("2\\n")]);
-    await service.close();
+    service.kill();
     settled.forEach(({ reason }) => process.stdout.write(reason + "\\n"));`;
   const line = 'ulimit -n 60; exec "$0" --input-type=module';
   const { stdout, stderr, status } = spawnSync("bash", ["-c", line, process.execPath], { input: script });
@@ -267,17 +246,7 @@ test("after what is no answer nothing that the process prints is one", async () 
   assert.equal(String(await service.answer("3")), "3");
   assert.equal(String(await service.answer("5")), "5");
   assert.ok(starts() > 4);
-  await service.close();
-});
-
-test("closing waits for the answers, and takes no more documents", async () => {
-  const service = new Service(MODINFO);
-  const answers = ["a", "b"].map((name) => service.answer(document(name)));
-  const closed = service.close();
-  await assert.rejects(service.answer(document("c")), ProgramEnd);
-  await closed;
-  assert.deepEqual((await Promise.all(answers)).map(specifierOf), ["a", "b"]);
-  await new Service(MODINFO).close();
+  service.kill();
 });
 
 /** @param {number} end */

@@ -4,7 +4,7 @@ import assert from "node:assert/strict";
 import { spawnSync } from "node:child_process";
 import { test } from "node:test";
 
-import { Progress } from "../modinfo-graph/dist/cli/common/progress.js";
+import { FileReporter } from "../modinfo-graph/dist/cli/reporter.js";
 import { MODINFO, folderOf, programOf } from "./run_commands.mjs";
 
 /**
@@ -16,34 +16,37 @@ function stream(isTTY) {
   return { isTTY, write: (/** @type {string} */ more) => (text += more), get text() { return text; } };
 }
 
+const WRONG = { path: "a.js", fault: { fault: "Input", message: "wrong" } };
+
 test("on a terminal it prints the files done of all, and the faults", () => {
   const terminal = stream(true);
-  const progress = new Progress(terminal, true);
-  [1, 2, 3].forEach(() => progress.find());
-  progress.pass(true);
-  progress.print("a.js: wrong");
-  progress.pass(false);
-  progress.clear();
-  progress.clear();
+  const reporter = new FileReporter("modinfo-files", true, terminal);
+  [1, 2, 3].forEach(() => reporter.find());
+  reporter.report({ path: "b.js" });
+  reporter.warn("wrong");
+  reporter.report(WRONG);
+  reporter.end([]);
+  reporter.end([]);
+  process.exitCode = 0;
+  const lines = "modinfo-files: warning: wrong\nmodinfo-files: a.js: wrong\n";
   assert.equal(
-    terminal.text,
-    "\r\x1b[K1 of 3 files, 1 fault\r\x1b[Ka.js: wrong\n\r\x1b[K2 of 3 files, 1 fault\r\x1b[K",
+    terminal.text, `\r\x1b[K1 of 3 files, 0 faults\r\x1b[K${lines}\r\x1b[K2 of 3 files, 1 fault\r\x1b[K`,
   );
 });
 
 test("elsewhere it prints what stays alone", () => {
   for (const isShown of [true, false]) {
     const file = stream(false);
-    const progress = new Progress(file, isShown);
-    progress.find();
-    progress.pass(true);
-    progress.print("a.js: wrong");
-    progress.clear();
-    assert.equal(file.text, "a.js: wrong\n");
+    const reporter = new FileReporter("modinfo-files", isShown, file);
+    reporter.find();
+    reporter.report(WRONG);
+    reporter.end([]);
+    assert.deepEqual([file.text, reporter.status], ["modinfo-files: a.js: wrong\n", 1]);
   }
   const terminal = stream(true);
-  new Progress(terminal, false).pass(true);
+  new FileReporter("modinfo-files", false, terminal).report({ path: "a.js" });
   assert.equal(terminal.text, "");
+  process.exitCode = 0;
 });
 
 const hasScript = spawnSync("script", ["--version"]).status === 0;

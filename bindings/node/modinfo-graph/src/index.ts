@@ -9,52 +9,42 @@ import { modinfoPath } from "./files/program.js";
 import { graphOf, readGraphOptions } from "./graph/graph_service.js";
 import { readResolveOptions, resolveInfo } from "./graph/resolve_service.js";
 import { checkKnown, readJobs, readSignal, unlessAborted } from "./runtime/call_options.js";
-import type { Calls, ModinfoOptions } from "./options.cjs";
+import type { Calls, ModinfoOptions, OfTexts } from "./options.cjs";
 
 export * from "modinfo";
 export * from "./options.cjs";
 
-type Words<Name extends Exclude<keyof Calls, symbol>> = Parameters<Calls[Name]>;
+const OF_TEXTS = { analyze, analyzeEstree, check, checkSource, convert, moduleInfo, reach };
+
+type Words<Name extends "resolve" | "graph"> = Parameters<Calls[Name]>;
+type Call = (...words: unknown[]) => Promise<unknown>;
+
+export interface Modinfo extends OfTexts {}
 
 export class Modinfo implements Calls {
   #program;
   #jobs;
-  #underWay: Set<Promise<unknown>> = new Set();
+  #underWay = new Set<Promise<unknown>>();
   #isClosed = false;
+
+  static {
+    const calls = this.prototype as unknown as Record<string, Call>;
+    for (const [name, call] of Object.entries(OF_TEXTS as Record<string, Call>)) {
+      calls[name] = function (this: Modinfo, ...words) {
+        return this.#track(() => call(...words));
+      };
+    }
+  }
 
   /** @throws {TypeError} an option isn't what it has to be */
   constructor(options: ModinfoOptions = {}) {
     checkKnown(options, ["program", "jobs"]);
     this.#jobs = readJobs(options.jobs);
-    this.#program = options.program === undefined ? undefined : pathOf(options.program);
-  }
-
-  moduleInfo(...words: Words<"moduleInfo">) {
-    return this.#track(() => moduleInfo(...words));
-  }
-
-  checkSource(...words: Words<"checkSource">) {
-    return this.#track(() => checkSource(...words));
-  }
-
-  analyze(...words: Words<"analyze">) {
-    return this.#track(() => analyze(...words));
-  }
-
-  analyzeEstree(...words: Words<"analyzeEstree">) {
-    return this.#track(() => analyzeEstree(...words));
-  }
-
-  convert(...words: Words<"convert">) {
-    return this.#track(() => convert(...words));
-  }
-
-  reach(...words: Words<"reach">) {
-    return this.#track(() => reach(...words));
-  }
-
-  check(...words: Words<"check">) {
-    return this.#track(() => check(...words));
+    const { program } = options;
+    if (program !== undefined && (typeof program !== "string" || program === "")) {
+      throw new TypeError(`program must be a path, not ${String(program)}`);
+    }
+    this.#program = program === undefined ? undefined : absolute(program);
   }
 
   async resolve(...[information, options]: Words<"resolve">) {
@@ -85,21 +75,6 @@ export class Modinfo implements Calls {
     }
     const result = call();
     this.#underWay.add(result);
-    try {
-      return await result;
-    } finally {
-      this.#underWay.delete(result);
-    }
+    return result.finally(() => this.#underWay.delete(result));
   }
-}
-
-/**
- * @param program what the caller names
- * @returns an absolute path
- */
-function pathOf(program: unknown): string {
-  if (typeof program !== "string" || program === "") {
-    throw new TypeError(`program must be a path, not ${String(program)}`);
-  }
-  return absolute(program);
 }

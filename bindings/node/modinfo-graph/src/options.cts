@@ -3,7 +3,7 @@ import type { Graph, ResolvedModuleInfo, ResolveHook } from "./graph/graph.cjs";
 
 export * from "./graph/graph.cjs";
 
-type OfTexts = Pick<
+export type OfTexts = Pick<
   Functions, "moduleInfo" | "checkSource" | "analyze" | "analyzeEstree" | "convert" | "reach" | "check"
 >;
 
@@ -37,8 +37,7 @@ export interface Calls extends OfTexts {
    * module that can't be read or parsed has a `fault`.
    * @throws {ProgramEnd} the program can't be started, there is no module, or `close` was called before
    * @throws {TypeError} an option isn't what it has to be
-   * @throws {Error} a folder or a page names no entry, a glob can't be read, or git lists nothing. The
-   *   cache can't be read or written
+   * @throws {Error} a folder or a page names no entry, a glob can't be read, or git lists nothing
    */
   graph(options: GraphOptions): Promise<Graph>;
 
@@ -89,8 +88,6 @@ export interface GraphOptions extends CallOptions, ResolverOptions {
   types?: boolean;
   /** Whether `import(..)` counts; true where it is missing. */
   dynamic?: boolean;
-  /** A file that keeps results: only files that have changed are read. */
-  cache?: string | Url;
   /** Is asked first what a name leads to. */
   resolve?: ResolveHook;
   /** The most processes or threads; else as many as the `Modinfo` has. */

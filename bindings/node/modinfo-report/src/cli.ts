@@ -7,13 +7,10 @@
 
 import { basename } from "node:path";
 
-import { UsageFault, readJobs, runProgram, usageOf } from "modinfo-graph/internal/cli/common/command_line.js";
-import { gapsNote } from "modinfo-graph/internal/cli/common/graph_output.js";
-import {
-  CACHE_HELP, ENTRY_HELP, GRAPH_OPTIONS, RESOLUTION_HELP, readRun,
-} from "modinfo-graph/internal/cli/common/graph_run.js";
-import { withProjectOptions } from "modinfo-graph/internal/cli/common/project_options.js";
-import { LINE_HELP, LINE_OPTIONS } from "modinfo-graph/internal/cli/common/read_files.js";
+import { UsageFault, readJobs, runProgram, usageOf } from "modinfo-graph/internal/cli/command_line.js";
+import { gapsNote } from "modinfo-graph/internal/cli/graph_output.js";
+import { withProjectOptions } from "modinfo-graph/internal/cli/project_options.js";
+import { ENTRY_HELP, RESOLUTION_HELP, RUN_OPTIONS, readRun } from "modinfo-graph/internal/cli/run.js";
 import { PROGRAM_HELP, checkProgram, modinfoPath } from "modinfo-graph/internal/files/program.js";
 import { isReplaceable, placeOf, replaceFile } from "modinfo-graph/internal/files/replace_file.js";
 import { isReport } from "modinfo-graph/internal/files/report_pages.js";
@@ -28,8 +25,8 @@ import { listsOf, shownCycles, shownUnreached } from "./lists.js";
 import { outsideOf } from "./outside.js";
 import { pageOf } from "./page.js";
 import { Project } from "./project.js";
-import type { Values, Words } from "modinfo-graph/internal/cli/common/command_line.js";
-import type { GraphRun } from "modinfo-graph/internal/cli/common/graph_run.js";
+import type { Values, Words } from "modinfo-graph/internal/cli/command_line.js";
+import type { GraphRun } from "modinfo-graph/internal/cli/run.js";
 import type { ReadFile } from "modinfo-graph/internal/graph/read_graph.js";
 import type { Library } from "./libraries.js";
 import type { Edge } from "./links.js";
@@ -37,10 +34,7 @@ import type { Lists } from "./lists.js";
 import type { Classes } from "./outside.js";
 import type { Module } from "./project.js";
 
-interface ReportValues extends Values {
-  output?: string;
-  dot?: string;
-}
+type ReportValues = Values & { output?: string, dot?: string };
 
 const NAME = "modinfo-report";
 
@@ -54,8 +48,8 @@ specifiers marked, and what is unresolved, unknown, unreached or in a cycle. Exa
                      that is named twice appears once
   -o, --output FILE  the page; else report.html
   --dot FILE         also writes the graph of all modules for Graphviz
-${ENTRY_HELP}${LINE_HELP}  -0, --null         paths from the standard input end with zero bytes
-${CACHE_HELP}${RESOLUTION_HELP}  -h, --help, --version
+${ENTRY_HELP}  -0, --null         paths from the standard input end with zero bytes
+${RESOLUTION_HELP}  -h, --help, --version
 
 Without --entry the page lists the modules that no other one names, in comments either. The graph
 is laid out in the browser by dagre, and the picture of sizes by d3-hierarchy, which are in the page.
@@ -157,10 +151,7 @@ function listsFor(
   return { entries, lists, outside: outsideOf(modules, links), gaps };
 }
 
-/**
- * Reports the libraries that are absent, and what isn't drawn without them.
- * @returns whether a library is absent
- */
+/** Reports the libraries that are absent, and what isn't drawn without them; returns whether one is. */
 function reportAbsent(libraries: Library[]): boolean {
   const absent = libraries.filter(({ fault }) => fault !== undefined);
   for (const { draws, fault } of absent) {
@@ -180,11 +171,6 @@ async function write(path: string, text: string) {
 await runProgram({
   name: NAME,
   help: HELP,
-  options: {
-    ...LINE_OPTIONS,
-    ...GRAPH_OPTIONS,
-    output: { type: "string", short: "o" },
-    dot: { type: "string" },
-  },
+  options: { ...RUN_OPTIONS, output: { type: "string", short: "o" }, dot: { type: "string" } },
   main,
 });

@@ -34,10 +34,7 @@ interface Part {
 /** The bytes of text in a part, about. */
 const PART = 400_000;
 
-/**
- * @param starts the first module of each part
- * @returns the index, which can be written as JSON
- */
+/** The index, which can be written as JSON. `starts` has the first module of each part. */
 export function indexOf(
   { title, modules, edges, entries, lists, outside }: Report, starts: number[],
 ): Omit<Index, "absent"> {
@@ -57,11 +54,7 @@ export function indexOf(
   };
 }
 
-/**
- * Returns for each module the numbers of its edges: of each the target, the kind's index, the row and
- * its line.
- * @param count of the modules
- */
+/** For each of the modules the numbers of its edges: the target, the kind's index, the row and its line. */
 function flatEdges(count: number, edges: Edge[]): number[][] {
   const kinds = KINDS.map(({ kind }) => kind);
   const flat: number[][] = Array.from({ length: count }, () => []);

@@ -65,12 +65,7 @@ export function excerptOf(source: string, marks: Mark[]): Text {
   return { source: texts.join(""), marks: moved, pieces, lines: starts.length };
 }
 
-/**
- * Returns the ranges of lines around the marks; ranges that touch are one.
- * @param starts of the lines
- * @param marks sorted
- * @returns first and last lines
- */
+/** The first and last lines around sorted marks; ranges that touch are one. `starts` are the lines'. */
 function rangesOf(starts: number[], marks: Mark[]): [number, number][] {
   const ranges: [number, number][] = [];
   let line = 0;

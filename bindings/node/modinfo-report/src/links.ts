@@ -50,18 +50,12 @@ export class Links {
     this.#indexes = new Map(modules.map(({ key }, index) => [key, index]));
   }
 
-  /**
-   * @param user the path of its module
-   * @returns nothing if its name is unknown or partly known, or names no module
-   */
+  /** Nothing if the name of the row, of the module `user`, is unknown or partly known, or names no module. */
   target(row: Row, user: string): Target | undefined {
     return this.#targets(row, user).name;
   }
 
-  /**
-   * @param user the path of its module
-   * @returns the target of the types that the comment before it names
-   */
+  /** The target of the types that the comment before a row names. */
   typesTarget(row: Row, user: string): Target | undefined {
     return this.#targets(row, user).types;
   }
@@ -107,9 +101,8 @@ export class Links {
 }
 
 /**
- * Returns the edges of a report's graph. A row that runs has an edge to the file that runs, and a
- * second one, of types, if another module has its types.
- * @returns in the order of the modules and their rows
+ * The edges of a report's graph, in the order of the modules and their rows. A row that runs has an edge to the
+ * file that runs, and a second one, of types, if another module has its types.
  */
 export function edgesOf(modules: Module[], links: Links): Edge[] {
   return modules.flatMap((module, from) => module.rows.flatMap((row, at) => {

@@ -87,10 +87,7 @@ export function listsOf(
   };
 }
 
-/**
- * The cycles of a graph, by the indexes of the report's modules.
- * @returns by their first modules, those that run before others
- */
+/** The cycles of a graph, by the indexes of the report's modules: by their first modules, those that run first. */
 export function shownCycles(graph: ModuleGraph, indexOf: (key: string) => number): Cycle[] {
   const { cycles, typeCycles } = graph.withTypes().cycles();
   const shown = (isRun: boolean) => (cycle: FoundCycle): Cycle => ({
@@ -107,17 +104,17 @@ export function shownUnreached(
   { folder, links }: { folder: string, links: Links },
 ): Unreached {
   const indexOf = (key: string) => links.moduleAt(key) as number;
+  const sourceOf = (key: string) => {
+    const by = links.moduleAt(key);
+    return { by, file: by === undefined ? relative(folder, fileURLToPath(key)) : undefined };
+  };
   return {
     unreached: unreached.map(indexOf),
     mayBeReached: mayBeReached.map(({ module, reason: { kind, module: from, position, text } }) => {
-      const by = links.moduleAt(from);
-      const file = by === undefined ? relative(folder, fileURLToPath(from)) : undefined;
-      return { module: indexOf(module), kind, by, file, line: position?.[0], text };
+      return { module: indexOf(module), kind, ...sourceOf(from), line: position?.[0], text };
     }),
     byTypes: byTypes.map(({ module, by: { module: from, reference: { range: [[line]], specifier } } }) => {
-      const by = links.moduleAt(from);
-      const file = by === undefined ? relative(folder, fileURLToPath(from)) : undefined;
-      return { module: indexOf(module), by, file, line, text: specifier };
+      return { module: indexOf(module), ...sourceOf(from), line, text: specifier };
     }),
   };
 }
@@ -127,10 +124,7 @@ function foundRow(modules: Module[], { module, row }: { module: number, row: num
   return { module, row, line: range[0][0], kind, name };
 }
 
-/**
- * Returns the rows that make a cycle's path. Of several rows between two modules, one that runs is
- * preferred.
- */
+/** The rows that make a cycle's path: of several between two modules one that runs, where there is one. */
 function rowsOn({ path }: Cycle, edges: Edge[]): { module: number, row: number }[] {
   const next = new Map(path.map((from, at) => [from, path[(at + 1) % path.length]]));
   const chosen: Map<number, Edge> = new Map();

@@ -20,10 +20,9 @@ export class Manifests {
   }
 
   /**
-   * @param name of a package
-   * @param found one of its files, where it is installed, and a
-   *   file that names it
-   * @returns its version, else the range in the user's package.json
+   * The version of a package, else the range in the user's package.json.
+   * @param file one of the package's, where it is installed
+   * @param user a file that names the package
    */
   version(name: string, { file, user }: { file?: string, user: string }): string | undefined {
     const installed = file && textIn(this.#of(dirname(file)), "version");
@@ -34,10 +33,7 @@ export class Manifests {
     return MEMBERS.map((member) => textIn(memberOf(manifest, member), name)).find((each) => each !== undefined);
   }
 
-  /**
-   * Returns the members of the nearest package.json of a folder that has a name.
-   * @returns an empty object if there is none
-   */
+  /** The members of the nearest package.json of a folder that has a name; none where there is none. */
   #of(folder: string): Record<string, unknown> {
     const manifest = this.#manifests.of(folder);
     const parent = dirname(folder);
@@ -45,18 +41,10 @@ export class Manifests {
   }
 }
 
-/**
- * @param value of JSON
- * @returns its member of this name, if it is an object that has one
- */
 function memberOf(value: unknown, name: string): unknown {
   return isObject(value) && Object.hasOwn(value, name) ? value[name] : undefined;
 }
 
-/**
- * @param value of JSON
- * @returns its member of this name, if that is a text
- */
 function textIn(value: unknown, name: string): string | undefined {
   const member = memberOf(value, name);
   return typeof member === "string" ? member : undefined;

@@ -47,10 +47,7 @@ export class Project {
     this.#read(module, info, fault);
   }
 
-  /**
-   * @param paths those of the words
-   * @returns the folder is the deepest one around all modules
-   */
+  /** The modules that are listed, and the deepest folder around these and the paths of the words. */
   finish(paths: string[], isListed: (key: string) => boolean): { folder: string, modules: Module[] } {
     const modules = this.#modules.filter(({ key }) => isListed(key));
     const folders = paths.filter(isFolder).map((path) => absolute(path));
@@ -83,10 +80,7 @@ function changed(error: unknown) {
   return error instanceof RangeError ? { fault: "Input", message } : faultOf(error);
 }
 
-/**
- * @param folders absolute
- * @returns the deepest folder around them; the current one if there are none
- */
+/** The deepest folder around absolute folders; the current one if there are none. */
 function commonFolder(folders: string[]): string {
   const [first = process.cwd(), ...others] = folders;
   let common = first;

@@ -34,10 +34,7 @@ const PRAGMAS = [
 ] as const;
 // end of pragmas
 
-/**
- * @param info a `ModuleInfo`; each object that names a module has `resolved`
- * @returns in the order of the source
- */
+/** The rows of a `ModuleInfo` in the order of the source; each object that names a module has `resolved`. */
 export function rowsOf(info: ResolvedModuleInfo): Row[] {
   const { dependencies = [], tsReferences = [], jsdocImports = [] } = info;
   const pragmas: Row[] = PRAGMAS.flatMap((name) => {

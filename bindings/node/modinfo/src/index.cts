@@ -9,8 +9,8 @@ import { wasmFiles } from "./wasm_files.cjs";
 export * from "./types/calls.cjs";
 export { ModinfoFault, ProgramEnd } from "./core/errors.cjs";
 export { estreeDocument } from "./core/estree_document.cjs";
-const { loader } = wasmFiles({ existsSync, readFileSync, own: join(__dirname, "modinfo.wasm") });
+const { read } = wasmFiles({ existsSync, readFileSync, own: join(__dirname, "module.js") });
 export const {
   analyze, analyzeEstree, analyzeEstreeSync, analyzeSync, check, checkSource, checkSourceSync, checkSync, convert,
-  convertSync, init, initSync, moduleInfo, moduleInfoSync, reach, reachSync,
-} = functionsOf(loader);
+  convertSync, init, initSync, moduleBytes, moduleInfo, moduleInfoSync, reach, reachSync,
+} = functionsOf(read);

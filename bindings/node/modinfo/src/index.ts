@@ -5,12 +5,12 @@
  */
 
 import { functionsOf } from "./core/functions.cjs";
-import { loader } from "./wasm_module.js";
+import { read } from "./wasm_module.js";
 
 export * from "./types/calls.cjs";
 export { ModinfoFault, ProgramEnd } from "./core/errors.cjs";
 export { estreeDocument } from "./core/estree_document.cjs";
 export const {
   analyze, analyzeEstree, analyzeEstreeSync, analyzeSync, check, checkSource, checkSourceSync, checkSync, convert,
-  convertSync, init, initSync, moduleInfo, moduleInfoSync, reach, reachSync,
-} = /* #__PURE__ */ functionsOf(loader);
+  convertSync, init, initSync, moduleBytes, moduleInfo, moduleInfoSync, reach, reachSync,
+} = /* #__PURE__ */ functionsOf(read);

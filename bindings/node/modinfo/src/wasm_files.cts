@@ -1,25 +1,25 @@
 /** Finds and reads the WebAssembly module, for `import` and for `require`. */
 
 import { ProgramEnd } from "./core/errors.cjs";
+import { bytesOfText } from "./core/module_text.cjs";
 import { engine } from "./core/webassembly.cjs";
-import type { Loader } from "./core/functions.cjs";
 
 /** The module beside the code, where this package is a part of the repository. */
-const IN_REPOSITORY = /^(.*[\\/])bindings[\\/]node[\\/]modinfo[\\/]dist[\\/]modinfo\.wasm$/;
+const IN_REPOSITORY = /^(.*[\\/])bindings[\\/]node[\\/]modinfo[\\/]dist[\\/]module\.js$/;
 
 /** Node's functions: a bundle as an ES module can require none of them. */
 interface System {
   existsSync: typeof import("node:fs").existsSync;
   readFileSync: typeof import("node:fs").readFileSync;
-  /** The path of the module beside the code. */
+  /** The path of the file beside the code that has the module as text. */
   own: string;
 }
 
 /** @param system node's, and where the module is */
 export function wasmFiles({ existsSync, readFileSync, own }: System) {
   /**
-   * The path of the module beside the code; else that which the environment variable MODINFO_WASM names; else, in
-   * the repository, that of the proved module.
+   * The path of the text of the module beside the code; else what the environment variable MODINFO_WASM names;
+   * else, in the repository, the proved module.
    * @throws {ProgramEnd} there is none of them
    */
   const modulePath = (): string => {
@@ -34,20 +34,23 @@ export function wasmFiles({ existsSync, readFileSync, own }: System) {
     return found;
   };
 
+  const bytesOf = (path: string) => {
+    const isText = path.endsWith(".js");
+    return isText ? bytesOfText(readFileSync(path, "latin1").split('"')[1] ?? "") : readFileSync(path);
+  };
+
   /**
    * @returns a `WebAssembly.Module`
    * @throws {ProgramEnd} it can't be read, or is none
    */
   const compiledModule = (path: string): object => {
     try {
-      return new engine.Module(readFileSync(path));
+      return new engine.Module(bytesOf(path));
     } catch (error) {
       const { message } = error as Error;
       throw new ProgramEnd(`${path} can't be run here: ${message} (node from 18.19 on runs it)`);
     }
   };
 
-  const read = () => readFileSync(modulePath());
-  const loader: Loader = { read, load: async () => read() };
-  return { compiledModule, loader, modulePath };
+  return { compiledModule, modulePath, read: () => bytesOf(modulePath()) };
 }

@@ -5,6 +5,6 @@ import { fileURLToPath } from "node:url";
 
 import { wasmFiles } from "./wasm_files.cjs";
 
-const own = fileURLToPath(new URL("./modinfo.wasm", import.meta.url));
+const own = fileURLToPath(new URL("./module.js", import.meta.url));
 
-export const { compiledModule, loader, modulePath } = wasmFiles({ existsSync, readFileSync, own });
+export const { compiledModule, modulePath, read } = wasmFiles({ existsSync, readFileSync, own });

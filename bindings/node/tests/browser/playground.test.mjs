@@ -131,7 +131,7 @@ test("every control has a name for those who can't see it", { skip }, async () =
 async function serve(root) {
   const javascript = "text/javascript";
   const types = /** @type {Record<string, string>} */ ({
-    ".html": "text/html", ".js": javascript, ".mjs": javascript, ".wasm": "application/wasm",
+    ".html": "text/html", ".js": javascript, ".mjs": javascript,
   });
   const server = createServer(({ url = "/" }, response) => {
     response.setHeader("Content-Type", types[extname(url)] ?? "text/plain");
@@ -148,22 +148,20 @@ const CALL = `const info = await moduleInfo('import "./b.js";', "file:///a.js");
   const { fault, line } = await moduleInfo("(", "file:///a.js").catch((error) => error);
   const result = JSON.stringify([info.dependencies[0].specifier, fault, line]);`;
 
-for (const name of ["web", "inline"]) {
-  test(`${name}.js works in a page and in a worker, with the policy wasm-unsafe-eval`, { skip }, async () => {
-    const root = folderOf();
-    const { version } = JSON.parse(readFileSync(new URL("bindings/node/modinfo/package.json", ROOT), "utf8"));
-    make("bindings/node/bundle.mjs", [MODULE, root, version]);
-    const policy = "script-src 'self' 'wasm-unsafe-eval'; worker-src 'self'";
-    writeFileSync(join(root, "page.html"), `<!DOCTYPE html><meta http-equiv="Content-Security-Policy" content="${policy}">
-      <script type="module" src="page.mjs"></script>`);
-    writeFileSync(join(root, "page.mjs"), `import { moduleInfo } from "./dist/${name}.js"; ${CALL}
-      document.title = result;
-      new Worker("worker.mjs", { type: "module" }).onmessage = ({ data }) => { document.body.textContent = data; };`);
-    writeFileSync(join(root, "worker.mjs"), `import { moduleInfo } from "./dist/${name}.js"; ${CALL} postMessage(result);`);
-    const { address, close } = await serve(root);
-    await browser.open(`${address}/page.html`);
-    await browser.until("return document.body?.textContent.length > 2");
-    assert.deepEqual(await browser.run("return [document.title, document.body.textContent]"), Array(2).fill('["./b.js","Syntax",1]'));
-    close();
-  });
-}
+test("inline.js works in a page and in a worker, with the policy wasm-unsafe-eval", { skip }, async () => {
+  const root = folderOf();
+  const { version } = JSON.parse(readFileSync(new URL("bindings/node/modinfo/package.json", ROOT), "utf8"));
+  make("bindings/node/bundle.mjs", [MODULE, root, version]);
+  const policy = "script-src 'self' 'wasm-unsafe-eval'; worker-src 'self'";
+  writeFileSync(join(root, "page.html"), `<!DOCTYPE html><meta http-equiv="Content-Security-Policy" content="${policy}">
+    <script type="module" src="page.mjs"></script>`);
+  writeFileSync(join(root, "page.mjs"), `import { moduleInfo } from "./dist/inline.js"; ${CALL}
+    document.title = result;
+    new Worker("worker.mjs", { type: "module" }).onmessage = ({ data }) => { document.body.textContent = data; };`);
+  writeFileSync(join(root, "worker.mjs"), `import { moduleInfo } from "./dist/inline.js"; ${CALL} postMessage(result);`);
+  const { address, close } = await serve(root);
+  await browser.open(`${address}/page.html`);
+  await browser.until("return document.body?.textContent.length > 2");
+  assert.deepEqual(await browser.run("return [document.title, document.body.textContent]"), Array(2).fill('["./b.js","Syntax",1]'));
+  close();
+});

@@ -4,7 +4,7 @@ import { ModinfoFault } from "../../modinfo/dist/core/errors.cjs";
 import { unchecked } from "../unchecked.mjs";
 
 /**
- * @typedef {import("../../modinfo-graph/dist/runtime/lane.js").Answer} Answer
+ * @typedef {import("../../modinfo-graph/dist/runtime/pool.js").Answer} Answer
  * @typedef {"analyze" | "analyze --estree" | "analyze --source" | "convert" | "reach"} CommandName
  */
 

@@ -11,17 +11,17 @@ import { pathToFileURL } from "node:url";
 
 import { PROGRAM_HELP, checkProgram, modinfoPath } from "../files/program.js";
 import { Resolver } from "../graph/resolver.js";
-import { UsageFault, runProgram, usageOf } from "./common/command_line.js";
-import { CHECKS } from "./common/graph_checks.js";
-import { answerQuestions, questionsOf } from "./common/graph_questions.js";
-import { CACHE_HELP, ENTRY_HELP, GRAPH_OPTIONS, RESOLUTION_HELP, resolverOptions } from "./common/graph_run.js";
-import { withProjectOptions } from "./common/project_options.js";
-import { LINE_HELP, LINE_OPTIONS, runLines } from "./common/read_files.js";
-import { OutputLines } from "./common/standard_output.js";
+import { UsageFault, flags, runProgram, usageOf } from "./command_line.js";
+import { CHECKS } from "./graph_checks.js";
+import { answerQuestions, questionsOf } from "./graph_questions.js";
+import { withProjectOptions } from "./project_options.js";
+import { ENTRY_HELP, RESOLUTION_HELP, RUN_OPTIONS, resolverOptions, runLines } from "./run.js";
+import { OutputLines } from "./standard_output.js";
 import type { FileResult } from "../files/read_files.js";
-import type { Words } from "./common/command_line.js";
-import type { FilesValues } from "./common/graph_checks.js";
-import type { FileReporter, Run } from "./common/read_files.js";
+import type { Words } from "./command_line.js";
+import type { FilesValues } from "./graph_checks.js";
+import type { FileReporter } from "./reporter.js";
+import type { Run } from "./run.js";
 
 type FilesWords = Words<FilesValues>;
 
@@ -45,8 +45,8 @@ Without one: the files that the entries reach; without an entry: a line of JSON 
   ${NAME} --entry src/main.ts --unreached src
 
   PATH               a file, a folder, or - for paths from the standard input, one a line
-${ENTRY_HELP}${LINE_HELP}  -0, --null         paths that are read and printed end with zero bytes
-${CACHE_HELP}  --json, --known    answers as JSON; findings as "known" in package.json has them
+${ENTRY_HELP}  -0, --null         paths that are read and printed end with zero bytes
+  --json, --known    answers as JSON; findings as "known" in package.json has them
 ${RESOLUTION_HELP}  --resolve          adds "resolved" to all that names a module in lines of JSON
   -h, --help, --version
 
@@ -67,7 +67,7 @@ async function main(words: FilesWords): Promise<number> {
   return answerQuestions(questions, await runOf(all), known);
 }
 
-/** @returns whether they ask for the files' lines, and for no graph */
+/** Whether words ask for the files' lines, and for no graph. */
 function isOfLines({ values, positionals }: FilesWords): boolean {
   const isOfGraph = values.entry || values.json || values.known || questionsOf(values).length > 0;
   if (values.resolve && isOfGraph) {
@@ -93,23 +93,22 @@ async function printLines(run: Run<FilesValues>): Promise<number> {
 
 function checkWords({ values, positionals: paths }: FilesWords, questions: string[]) {
   const { entry: entries = [], json, known } = values;
-  if (paths.length + entries.length === 0) {
-    throw new UsageFault(usageOf(HELP));
-  }
-  const needy = questions.find((each) => ["unreached", "why"].includes(each));
-  if (entries.length === 0 && needy !== undefined) {
-    throw new UsageFault(`--${needy} needs --entry`);
-  }
-  const broad = questions.find((each) => ["unreached", "packages"].includes(each));
-  if (paths.length === 0 && broad !== undefined) {
-    throw new UsageFault(`--${broad} needs a PATH`);
-  }
-  const picture = questions.find((each) => ["dot", "mermaid"].includes(each));
-  if (json && picture !== undefined) {
-    throw new UsageFault(`--json and --${picture} are two forms of the graph: ask for one`);
-  }
-  if (known && !questions.every((each) => Object.hasOwn(CHECKS, each))) {
-    throw new UsageFault("--known is for --cycles, --missing, --unreached, --packages and --forbid");
+  const asked = (...names: string[]) => questions.find((each) => names.includes(each));
+  const [needy, broad] = [asked("unreached", "why"), asked("unreached", "packages")];
+  const picture = asked("dot", "mermaid");
+  const rules: [isBroken: unknown, message: string][] = [
+    [paths.length + entries.length === 0, usageOf(HELP)],
+    [needy && entries.length === 0, `--${needy} needs --entry`],
+    [broad && paths.length === 0, `--${broad} needs a PATH`],
+    [picture && json, `--json and --${picture} are two forms of the graph: ask for one`],
+    [
+      known && !questions.every((each) => Object.hasOwn(CHECKS, each)),
+      "--known is for --cycles, --missing, --unreached, --packages and --forbid",
+    ],
+  ];
+  const broken = rules.find(([isBroken]) => isBroken);
+  if (broken) {
+    throw new UsageFault(broken[1]);
   }
 }
 
@@ -132,21 +131,10 @@ await runProgram({
   name: NAME,
   help: HELP,
   options: {
-    ...LINE_OPTIONS,
-    ...GRAPH_OPTIONS,
-    resolve: { type: "boolean" },
-    unreached: { type: "boolean" },
-    cycles: { type: "boolean" },
-    missing: { type: "boolean" },
-    packages: { type: "boolean" },
-    forbid: { type: "string", multiple: true },
-    known: { type: "boolean" },
-    why: { type: "string" },
-    dependents: { type: "string" },
-    dot: { type: "boolean" },
-    mermaid: { type: "boolean" },
-    json: { type: "boolean" },
+    ...RUN_OPTIONS,
+    ...flags("resolve", "unreached", "cycles", "missing", "packages", "known", "dot", "mermaid", "json"),
+    forbid: { type: "string", multiple: true }, why: { type: "string" }, dependents: { type: "string" },
   },
-  choices: { cycles: ["runs"] },
+  choices: ["--cycles=runs"],
   main,
 });

@@ -24,19 +24,17 @@ interface Exclusions {
   isLeftOut: IsOut;
 }
 
+/** Globs as `globMatcher` takes them, and whether git decides what isn't listed. */
+type Words = { exclude?: string[], ignore?: string[], gitignore?: boolean };
+
 /**
- * @param options.exclude globs of files that aren't listed, as `globMatcher` takes them
- * @param options.ignore globs of files that aren't read
- * @param options.gitignore whether git decides what isn't listed
  * @param paths in whose repositories git decides
  * @returns rejected with a `GlobFault` or a `GitFault`
  */
 export async function exclusionsOf(
-  { exclude = [], ignore = [], gitignore = false }: { exclude?: string[], ignore?: string[], gitignore?: boolean },
-  paths: string[],
+  { exclude = [], ignore = [], gitignore = false }: Words, paths: string[],
 ): Promise<Exclusions> {
-  const ignoredIn = gitignore ? foldersOf(paths) : [];
-  const byGit = new Set((await Promise.all(ignoredIn.map(ignoredBelow))).flat());
+  const byGit = new Set((await Promise.all((gitignore ? foldersOf(paths) : []).map(ignoredBelow))).flat());
   const isOfGit = withFolders((path) => byGit.has(path), byGit.size > 0);
   const [isNamed, isIgnored] = [exclude, ignore].map(pathMatcher);
   const isExcluded = (path: string) => isNamed(path) || isOfGit(path);
@@ -47,10 +45,7 @@ export async function exclusionsOf(
   };
 }
 
-/**
- * @returns whether one of them matches a path, or a folder around it
- * @throws {GlobFault}
- */
+/** Whether one of some globs matches a path, or a folder around it. @throws {GlobFault} */
 export function pathMatcher(globs: string[]): IsOut {
   const matchers = globs.map(globMatcher);
   return withFolders((path) => {
@@ -59,28 +54,19 @@ export function pathMatcher(globs: string[]): IsOut {
   }, matchers.length > 0);
 }
 
-/**
- * @param isAny whether any path is
- * @returns true for what is in such a folder too
- */
+/** True for what is in such a folder too. `isAny` is whether any path is out. */
 function withFolders(isNamed: IsOut, isAny: boolean): IsOut {
-  const known = new Map();
+  const known = new Map<string, boolean>();
   const isOut: IsOut = (path) => {
-    let found = known.get(path);
-    if (found === undefined) {
-      const folder = dirname(path);
-      found = isNamed(path) || (folder !== path && isOut(folder));
-      known.set(path, found);
-    }
+    const folder = dirname(path);
+    const found = known.get(path) ?? (isNamed(path) || (folder !== path && isOut(folder)));
+    known.set(path, found);
     return found;
   };
   return isAny ? (path) => isOut(absolute(path)) : () => false;
 }
 
-/**
- * The files that git ignores in the repository of a folder, and the folders of which it ignores all.
- * @returns absolute paths
- */
+/** The absolute paths that git ignores in the repository of a folder, of folders of which it ignores all too. */
 async function ignoredBelow(folder: string): Promise<string[]> {
   const root = (await git(folder, ["rev-parse", "--show-toplevel"])).replace(/\n$/, "");
   const words = ["ls-files", "-z", "--others", "--ignored", "--exclude-standard", "--directory"];
@@ -90,11 +76,9 @@ async function ignoredBelow(folder: string): Promise<string[]> {
 
 async function git(folder: string, words: string[]): Promise<string> {
   try {
-    const { stdout } = await promisify(execFile)("git", words, { cwd: folder, maxBuffer: 1 << 30 });
-    return stdout;
+    return (await promisify(execFile)("git", words, { cwd: folder, maxBuffer: 1 << 30 })).stdout;
   } catch (error) {
     const { stderr, message } = error as Error & { stderr?: string };
-    const why = stderr?.trim() || message;
-    throw new GitFault(`can't find what git ignores in ${folder}: ${why}`);
+    throw new GitFault(`can't find what git ignores in ${folder}: ${stderr?.trim() || message}`);
   }
 }

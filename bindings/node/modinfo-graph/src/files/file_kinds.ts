@@ -58,10 +58,6 @@ const OF_TYPESCRIPT = ALL.filter((each) => TYPESCRIPT_TYPES.has(MEDIA_TYPES.get(
 /** The endings of modules, TypeScript's first. */
 export const MODULE_ENDINGS = [...new Set([...OF_TYPESCRIPT, ...ALL])].map((each) => `.${each}`);
 
-const MODULE = ofEndings("[^/]", ALL);
-const TYPESCRIPT = ofEndings("", OF_TYPESCRIPT);
-const COMPONENT = ofEndings("[^/]", COMPONENTS);
-const PAGE = ofEndings("[^/]", PAGES);
 /** That of TypeScript may have another file's ending before it, as `a.d.css.ts` has. */
 const DECLARATION = /\.d(?:\.[cm]ts|(?:\.[^./]*)?\.ts)$/i;
 const ENDING = new RegExp(`${DECLARATION.source}|${ofEndings("", [...ALL, ...COMPONENTS]).source}`, "i");
@@ -72,50 +68,34 @@ const LOADED = new Set(["", ...[...ALL, ...COMPONENTS, "json", "node", "wasm"].m
 /** Folders of packages for all projects: those of NODE_PATH, and what this node is built with. */
 export const globalFolders: string[] = (Module as { globalPaths?: string[] }).globalPaths ?? [];
 
+/** Whether a file is JavaScript or TypeScript, by its name. */
+export const isModule = testOf(ofEndings("[^/]", ALL));
+/** Whether a file is a component, whose scripts are a module. */
+export const isComponent = testOf(ofEndings("[^/]", COMPONENTS));
+/** Whether a file is a page, whose scripts are modules that the page begins with. */
+export const isPage = testOf(ofEndings("[^/]", PAGES));
+export const isDeclaration = testOf(DECLARATION);
+/** True for a declaration file too. */
+export const isTypeScript = testOf(ofEndings("", OF_TYPESCRIPT));
+
 /** @param before an expression */
 function ofEndings(before: string, endings: string[]) {
   return new RegExp(`${before}\\.(?:${endings.join("|")})$`, "i");
 }
 
-/**
- * @param language of a component's script: an ending, or a word that a MIME type has
- * @returns its media type; nothing where it isn't JavaScript or TypeScript
- */
+function testOf(pattern: RegExp) {
+  return (path: string) => pattern.test(path);
+}
+
+/** The media type of code, by the language of a component's script: an ending, or a word of a MIME type. */
 export function mediaTypeOfLanguage(language: string): MediaType | undefined {
   return MEDIA_TYPES.get(language.toLowerCase()) ?? mediaTypeOfMime(`text/${language}`);
 }
 
-/**
- * @param type of a script
- * @returns its media type; nothing where it isn't JavaScript or TypeScript
- */
+/** The media type of JavaScript or TypeScript, by the type of a script. */
 export function mediaTypeOfMime(type: string): MediaType | undefined {
   const name = type.split(";")[0].trim().toLowerCase();
   return name === "text/babel" ? "Jsx" : MIME_TYPES.get(name);
-}
-
-/** Whether a file is JavaScript or TypeScript, by its name. */
-export function isModule(path: string): boolean {
-  return MODULE.test(path);
-}
-
-/** Whether a file is a component, whose scripts are a module. */
-export function isComponent(path: string): boolean {
-  return COMPONENT.test(path);
-}
-
-/** Whether a file is a page, whose scripts are modules that the page begins with. */
-export function isPage(path: string): boolean {
-  return PAGE.test(path);
-}
-
-export function isDeclaration(path: string): boolean {
-  return DECLARATION.test(path);
-}
-
-/** @returns true for a declaration file too */
-export function isTypeScript(path: string): boolean {
-  return TYPESCRIPT.test(path);
 }
 
 /** @returns the path without the ending of a module, a declaration file or a component */
@@ -123,19 +103,13 @@ export function withoutEnding(path: string): string {
   return path.replace(ENDING, "");
 }
 
-/**
- * @param path of a TypeScript file
- * @returns the path of the JavaScript that a compiler makes of it
- */
+/** The path of the JavaScript that a compiler makes of a TypeScript file. */
 export function compiledPath(path: string): string | undefined {
   const [ending, kind] = /(?<!\.d)\.([cm]?)tsx?$/i.exec(path) ?? [];
   return ending && `${path.slice(0, -ending.length)}.${kind}js`;
 }
 
-/**
- * What a declaration file has the types of.
- * @returns the paths of what may be beside it; none for another file
- */
+/** The paths of what may be beside a declaration file, which has the types of it. */
 export function describedBeside(path: string): string[] {
   const [ending, other, kind = ""] = /\.d(?:\.([^./]*))?\.([cm]?)ts$/i.exec(path) ?? [];
   if (ending === undefined) {
@@ -146,7 +120,7 @@ export function describedBeside(path: string): string[] {
   return other === undefined ? scripts : [`${base}.${other}`];
 }
 
-/** @returns the path of the declaration file that may be beside JavaScript */
+/** The path of the declaration file that may be beside JavaScript. */
 export function declarationOf(path: string): string | undefined {
   const [ending, kind] = /\.([cm]?)jsx?$/.exec(path) ?? [];
   return ending && `${path.slice(0, -ending.length)}.d.${kind}ts`;
@@ -157,11 +131,7 @@ export function isAsset(path: string): boolean {
   return !LOADED.has(extname(path).toLowerCase());
 }
 
-/**
- * Whether a file is that of a package which is installed, and not one of a project.
- * @param path without symbolic links
- */
+/** Whether a file, by its path without links, is that of an installed package, and not one of a project. */
 export function isInstalled(path: string): boolean {
-  return path.includes("/node_modules/") ||
-    globalFolders.some((folder) => path.startsWith(`${folder}/`));
+  return path.includes("/node_modules/") || globalFolders.some((folder) => path.startsWith(`${folder}/`));
 }

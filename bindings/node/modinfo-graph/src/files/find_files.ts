@@ -46,15 +46,10 @@ export async function* findFiles(
 ): AsyncGenerator<Found, void> {
   const roots = realPaths(options.roots ?? []);
   for await (const path of paths) {
-    const status = statusOf(path);
-    if (status?.isDirectory()) {
-      for (const found of filesBelow(path, options, [...realPaths([path]), ...roots])) {
-        yield found;
-      }
-    } else if (status || isThere(path)) {
-      yield { path };
+    if (isFolder(path)) {
+      yield* filesBelow(path, options, [...realPaths([path]), ...roots]);
     } else {
-      yield { path, error: new FileFault("Input", "no such file or folder") };
+      yield isThere(path) ? { path } : { path, error: new FileFault("Input", "no such file or folder") };
     }
   }
 }
@@ -70,10 +65,7 @@ export async function* readPaths(
     begun = paths.pop() ?? "";
     yield* paths.filter((path) => path !== "");
   }
-  const last = begun + decoder.decode();
-  if (last !== "") {
-    yield last;
-  }
+  yield* [begun + decoder.decode()].filter((path) => path !== "");
 }
 
 /** @param roots their real paths */
@@ -94,57 +86,44 @@ function* filesBelow(folder: string, options: Options, roots: string[]): Generat
   }
 }
 
-/**
- * What is taken of a folder, the last first.
- * @returns files, and the paths of folders
- */
+/** The files and the paths of folders that are taken of a folder, the last first. */
 function entriesOf(folder: string, options: Options, roots: string[]): (Found | string)[] {
   const { all, follow, isExcluded = () => false, isKept = () => false, components } = options;
-  const isTaken = (name: string) => {
-    return isModule(name) || (components && (isComponent(name) || isPage(name)));
-  };
+  const isTaken = (name: string) => isModule(name) || (components && (isComponent(name) || isPage(name)));
   const entries = readdirSync(folder, { withFileTypes: true });
   entries.sort((one, other) => (one.name < other.name ? 1 : -1));
   const realFolder = realPath(folder);
   const [before, beforeReal] = [folder, realFolder ?? ""].map((each) => join(each, "_").slice(0, -1));
-  const taken = [];
-  for (const entry of entries) {
-    const path = before + entry.name;
+  const takenOf = (entry: Dirent): (Found | string)[] => {
+    const { name } = entry;
+    const path = before + name;
     const isOut = isExcluded(path);
     if (isOut && !isKept(path)) {
-      continue;
+      return [];
     }
     if (entry.isDirectory()) {
-      if (all || !(entry.name === "node_modules" || entry.name.startsWith("."))) {
-        taken.push(path);
-      }
-    } else if (isTaken(entry.name) && isRegular(entry, path)) {
-      const isLink = entry.isSymbolicLink();
-      const isLeft = isLink && !follow && leadsOut(path, roots);
-      const real = isLink || realFolder === undefined ? undefined : beforeReal + entry.name;
-      taken.push({ path, real, ...(isLeft && { isLeft }), ...(isOut && { isExcluded: true }) });
+      return all || !(name === "node_modules" || name.startsWith(".")) ? [path] : [];
     }
-  }
-  return taken;
+    if (!isTaken(name) || !isRegular(entry, path)) {
+      return [];
+    }
+    const isLink = entry.isSymbolicLink();
+    const isLeft = isLink && !follow && leadsOut(path, roots);
+    const real = isLink || realFolder === undefined ? undefined : beforeReal + name;
+    return [{ path, real, ...(isLeft && { isLeft }), ...(isOut && { isExcluded: true }) }];
+  };
+  return entries.flatMap(takenOf);
 }
 
-/**
- * Whether an entry is a regular file, or a link to one. A link to nothing counts as well: it is an
- * error when it is read.
- */
+/** Whether an entry is a regular file, or a link to one or to nothing, which is an error when it is read. */
 function isRegular(entry: Dirent, path: string) {
   return entry.isFile() || (entry.isSymbolicLink() && (statusOf(path)?.isFile() ?? true));
 }
 
-/**
- * Whether a link leads to a file that is below none of the roots.
- * @param roots their real paths
- */
+/** Whether a link leads to a file that is below none of the roots, which are real paths. */
 function leadsOut(path: string, roots: string[]) {
   const real = realPath(path);
-  const isIn = (root: string) => {
-    return real === root || real?.startsWith(root.endsWith(sep) ? root : root + sep);
-  };
+  const isIn = (root: string) => real === root || real?.startsWith(root.endsWith(sep) ? root : root + sep);
   return real !== undefined && !roots.some(isIn);
 }
 
@@ -181,10 +160,7 @@ export function isFile(path: string): boolean {
   return statusOf(path)?.isFile() ?? false;
 }
 
-/**
- * The folders of some paths: a folder itself, and the folder of a file.
- * @returns each once
- */
+/** The folders of some paths, each once: a folder itself, and the folder of a file. */
 export function foldersOf(paths: string[]): string[] {
   return [...new Set(paths.map((path) => (isFolder(path) ? path : dirname(path))))];
 }

@@ -30,10 +30,7 @@ export function globMatcher(glob: string): (path: string) => boolean {
   return (candidate) => alternatives.some((each) => matchesPath(each, candidate));
 }
 
-/**
- * @param glob for the message of an error
- * @returns the globs without braces that a glob stands for
- */
+/** The globs without braces that a glob stands for, which is for the message of an error. */
 function spelledOut(path: string, glob: string): string[] {
   let found = [""];
   for (const [part, inside] of path.matchAll(/\{([^{}]*)\}|[^{]+|\{/g)) {

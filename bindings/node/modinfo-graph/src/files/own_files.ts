@@ -9,10 +9,7 @@ export const DEBIAN_MODULES = "/usr/share/nodejs";
 /** What node loads from this package, or from the bundle with it: never a module of a project that is read. */
 export const ownRequire = createRequire(import.meta.url ?? __filename);
 
-/**
- * @returns the module `typescript`
- * @throws {Error} it isn't installed
- */
+/** @throws {Error} it isn't installed */
 export function loadTypeScript(): unknown {
   for (const path of ["typescript", `${DEBIAN_MODULES}/typescript`]) {
     try {
@@ -26,11 +23,7 @@ export function loadTypeScript(): unknown {
   throw new Error("types need TypeScript: npm install typescript, or Debian's node-typescript");
 }
 
-/**
- * @param path of a file of this package, or of one that is installed for it
- * @returns its text
- * @throws {Error} the system's, where it can't be read
- */
+/** The text of a file of this package, or of one that is installed for it. */
 export function readOwnFile(path: string | URL): string {
   return readFileSync(path, "utf8");
 }

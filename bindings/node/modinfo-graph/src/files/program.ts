@@ -22,10 +22,9 @@ names; else, in the repository, the proved one; else WebAssembly, in threads: --
 `;
 
 /**
- * The program of the package that npm installs beside this one; else what the environment variable
- * MODINFO names; else, in the repository, the proved program; else the WebAssembly module. What is called
+ * The absolute path of the program of the package that npm installs beside this one; else what the environment
+ * variable MODINFO names; else, in the repository, the proved program; else the WebAssembly module. What is called
  * `modinfo` on the PATH is another program on most systems, and is not looked for.
- * @returns an absolute path
  * @throws {ProgramEnd} there is none of them
  */
 export function modinfoPath(): string {
@@ -42,9 +41,9 @@ export function programName(): string {
   }
 }
 
-/** @returns whether it is the WebAssembly module */
+/** Whether it is the WebAssembly module, or the file of `modinfo` that has it as text. */
 export function isWasm(program: string): boolean {
-  return program.endsWith(".wasm");
+  return /\.wasm$|[\\/]module\.js$/.test(program);
 }
 
 function installedPath() {
@@ -78,10 +77,7 @@ export async function checkProgram(program: string): Promise<void> {
   }
 }
 
-/**
- * How the program ends that is handed no document.
- * @returns as `status 0` or `SIGTERM`; rejected where it can't be started
- */
+/** How the program ends that is handed no document, as `status 0` or `SIGTERM`. */
 async function endOf(program: string): Promise<string> {
   const child = spawn(program, ["files", "--null"], { stdio: ["ignore", "ignore", "inherit"] });
   const [status, signal] = await once(child, "close");

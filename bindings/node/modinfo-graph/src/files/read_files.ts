@@ -1,18 +1,18 @@
 /** Reads many files at once, by `modinfo files` or by the WebAssembly module. */
 
 import { onAbort } from "../runtime/abort_signals.js";
-import { filesCommand } from "../runtime/commands.js";
 import { FileFault, faultOf } from "../runtime/faults.js";
 import { inOrder } from "../runtime/in_order.js";
 import { Pool } from "../runtime/pool.js";
+import { processesOf } from "../runtime/processes.js";
 import { isModule } from "./file_kinds.js";
 import { isWasm } from "./program.js";
 import { Texts } from "./texts.js";
+import { threadsOf } from "./threads.js";
 import { realPath } from "./urls.js";
-import { WorkerPool } from "./worker_pool.js";
 import type { ModuleInfo, Signal } from "modinfo";
 import type { Fault } from "../runtime/faults.js";
-import type { AnalysisCache, State } from "./analysis_cache.js";
+import type { Answer } from "../runtime/pool.js";
 import type { Found } from "./find_files.js";
 
 export interface ReadOptions {
@@ -20,7 +20,6 @@ export interface ReadOptions {
   program: string;
   /** The most processes or threads at once */
   jobs: number;
-  cache?: AnalysisCache;
   /** Ends the processes */
   signal?: Signal;
   /** Reads a file that isn't a module as a whole; nothing for other files */
@@ -37,7 +36,7 @@ export interface FileResult {
   isLeft?: boolean;
   /** The JSON of its `ModuleInfo` */
   info?: string | Buffer;
-  /** The `ModuleInfo`, where it was read from the JSON already, or is of several texts */
+  /** The `ModuleInfo`, where it is of several texts */
   value?: ModuleInfo;
   fault?: Fault;
 }
@@ -48,44 +47,37 @@ const ENDLESS = /^\/(?:proc|sys)\//;
 /** How many files are under way for each process: so many are done while an early one takes long. */
 const UNDER_WAY = 256;
 
+const INFO = ',"info":';
+
 /** What is in each file, in the order of the files. */
 export function readFiles(
-  files: AsyncIterable<Found>, { program, jobs, cache, signal, readOther = () => undefined }: ReadOptions,
+  files: AsyncIterable<Found>, { program, jobs, signal, readOther = () => undefined }: ReadOptions,
 ): AsyncGenerator<FileResult, void> {
-  const pool = isWasm(program) ? new WorkerPool(program, jobs) : new Pool(filesCommand(program), jobs);
+  const kind = isWasm(program)
+    ? threadsOf(program)
+    : processesOf({ program, words: ["files", "--null"], read: readAnswer });
+  const pool = new Pool(kind, jobs);
   const texts = new Texts(program);
-  const end = () => pool.kill();
-  const takeBack = onAbort(signal, end);
-  const read: (file: Found) => Promise<FileResult> | FileResult = (file) => {
+  const takeBack = onAbort(signal, () => pool.kill());
+  const read = (file: Found): Promise<FileResult> | FileResult => {
     const { path, real, error, isLeft } = file;
     const other = error || isLeft ? undefined : readOther(path, texts);
-    return other ? other.then((result) => ({ path, real, ...result })) : readFile(file, pool, cache);
+    return other ? other.then((result) => ({ path, real, ...result })) : readFile(file, pool);
   };
   return inOrder(files, jobs * UNDER_WAY, read, () => {
     takeBack();
-    end();
+    pool.kill();
   });
 }
 
-function readFile(
-  { path, real, error, isLeft }: Found, pool: Pool | WorkerPool, cache?: AnalysisCache,
-): Promise<FileResult> | FileResult {
+async function readFile({ path, real, error, isLeft }: Found, pool: Pool): Promise<FileResult> {
   if (isLeft) {
     return { path, isLeft };
   }
-  if (error || !isModule(path)) {
-    return { path, fault: faultOf(error ?? new FileFault("MediaType", "files with this ending are not read")) };
-  }
-  const { state, info, value } = cache?.find(path) ?? {};
-  return info === undefined ? analyzed({ path, real }, state, pool, cache) : { path, real, info, value };
-}
-
-/** @param state before the file is read */
-async function analyzed(
-  { path, real }: Pick<Found, "path" | "real">, state: State | undefined, pool: Pool | WorkerPool,
-  cache?: AnalysisCache,
-): Promise<FileResult> {
   try {
+    if (error || !isModule(path)) {
+      throw error ?? new FileFault("MediaType", "files with this ending are not read");
+    }
     const own = real ?? realPath(path) ?? path;
     if (own.includes("\0")) {
       throw new FileFault("Input", "no such file: the path has a zero byte");
@@ -93,10 +85,22 @@ async function analyzed(
     if (ENDLESS.test(own)) {
       throw new FileFault("Input", "a file of the system");
     }
-    const info = await pool.run(`${own}\0`);
-    cache?.add(path, state, info);
-    return { path, real, info };
+    return { path, real, info: await pool.run(`${own}\0`) };
   } catch (fault) {
     return { path, fault: faultOf(fault) };
+  }
+}
+
+/** @param line `{"specifier":URL,"info":..}` or `{"specifier":URL,"fault":{..}}`; no URL has a quote */
+function readAnswer(line: Buffer): Answer | undefined {
+  const at = line.indexOf(INFO);
+  if (at >= 0) {
+    return { value: line.subarray(at + INFO.length, -1) };
+  }
+  try {
+    const { name, message, position } = JSON.parse(String(line)).fault;
+    return typeof name === "string" ? { error: new FileFault(name, message, position) } : undefined;
+  } catch {
+    return undefined;
   }
 }

@@ -3,18 +3,17 @@
  * configurations. Nothing else is opened, and of these regular files alone: a device or a FIFO that
  * has such a name never is.
  *
- * Links are followed here, one by one, so that it is known where each path leads before anything is
- * opened. What is found is kept: a path is looked at once.
+ * Where each path leads is known before anything is opened. What is found is kept: a path is looked at once.
  */
 
 import fs from "node:fs";
-import { dirname, isAbsolute, join } from "node:path";
+import { dirname, join } from "node:path";
 import type { Stats } from "node:fs";
 
 import { FileFault } from "../runtime/faults.js";
 import { readOpened } from "./regular_file.js";
 
-export type System = Pick<typeof fs, "lstatSync" | "readlinkSync" | "readdirSync" | "openSync" | "fstatSync" |
+export type System = Pick<typeof fs, "lstatSync" | "realpathSync" | "readdirSync" | "openSync" | "fstatSync" |
   "readSync" | "closeSync">;
 
 /** What a path leads to */
@@ -23,12 +22,9 @@ export interface Entry {
   kind: "file" | "folder" | "other" | "none";
   /** Without links; empty where nothing is there */
   path: string;
-  /** How many were followed */
-  links: number;
+  /** Whether there is a link on the way */
+  isLinked: boolean;
 }
-
-/** The most links on the way to a file, as Linux has it. */
-const MAX_LINKS = 40;
 
 /** The most bytes of a package.json or a configuration: 4 MiB. */
 const MAX_BYTES = 4 * 2 ** 20;
@@ -39,12 +35,10 @@ const MAX_NAME = 256;
 /** How many paths are kept: names without number must not take memory without end. */
 const MAX_ENTRIES = 500_000;
 
-const ROOT: Entry = { kind: "folder", path: "/", links: 0 };
+const ROOT: Entry = { kind: "folder", path: "/", isLinked: false };
+const NONE: Entry = { kind: "none", path: "", isLinked: false };
 
-const NONE: Entry = { kind: "none", path: "", links: 0 };
-
-const READ_HERE = fs.constants.O_RDONLY | fs.constants.O_NONBLOCK | fs.constants.O_NOCTTY |
-  (fs.constants.O_NOFOLLOW ?? 0);
+const NO_LINK = fs.constants.O_NOFOLLOW ?? 0;
 
 export class RegularFiles {
   #system;
@@ -53,9 +47,6 @@ export class RegularFiles {
   /** Whether a folder is a root, or is in one. */
   #inside: Map<string, boolean> = new Map();
   #hasAll = false;
-  /** How many links are being followed, each on the way of the one before, and whether these are too many. */
-  #following = 0;
-  #isTooFar = false;
   /** Folders above a root: their own package.json and configurations count. */
   #above: Set<string> = new Set();
 
@@ -64,10 +55,7 @@ export class RegularFiles {
     this.#system = system;
   }
 
-  /**
-   * Adds a folder in which files may be, together with each `node_modules` above it.
-   * @param path absolute
-   */
+  /** Adds a folder in which files may be, together with each `node_modules` above it. */
   addProject(path: string) {
     const { path: root } = this.at(path);
     if (root === "" || this.#roots.has(root)) {
@@ -81,10 +69,7 @@ export class RegularFiles {
     }
   }
 
-  /**
-   * Adds a folder in which files may be.
-   * @param path absolute
-   */
+  /** Adds a folder in which files may be. */
   addFolder(path: string) {
     const { kind, path: root } = this.at(path);
     if (kind === "folder") {
@@ -92,16 +77,12 @@ export class RegularFiles {
     }
   }
 
-  /** @param root a path without links */
   #addRoot(root: string) {
     this.#roots.add(root);
     this.#inside.clear();
   }
 
-  /**
-   * Looks at what a path leads to.
-   * @param path absolute and normal
-   */
+  /** Looks at what a path leads to, which is absolute and normal, as those below. */
   at(path: string): Entry {
     const known = this.#entries.get(path);
     if (known) {
@@ -127,10 +108,7 @@ export class RegularFiles {
     return entry;
   }
 
-  /**
-   * Looks at what is in a folder under a name.
-   * @param folder absolute and normal
-   */
+  /** Looks at what is in a folder under a name. */
   in(folder: string, name: string): Entry {
     return this.at(folder === "/" ? `/${name}` : `${folder}/${name}`);
   }
@@ -141,8 +119,8 @@ export class RegularFiles {
   }
 
   /** Whether what a path leads to is in no folder that was added. */
-  isOutside({ path, links }: Entry): boolean {
-    return !((this.#hasAll && links === 0) || this.#roots.has(path) || this.#isInside(dirname(path)));
+  isOutside({ path, isLinked }: Entry): boolean {
+    return !((this.#hasAll && !isLinked) || this.#roots.has(path) || this.#isInside(dirname(path)));
   }
 
   #isInside(folder: string): boolean {
@@ -155,9 +133,7 @@ export class RegularFiles {
   }
 
   /**
-   * The text of a package.json or a configuration.
-   * @param path absolute and normal
-   * @returns without a byte order mark
+   * The text of a package.json or a configuration, without a byte order mark.
    * @throws {FileFault} nothing is there, or no regular file; the file is in no folder that was
    *   added, or has more than 4 MiB
    * @throws {Error} the system's, where it can't be read
@@ -171,39 +147,25 @@ export class RegularFiles {
     if (this.isOutside(entry) && !this.#above.has(dirname(real))) {
       throw new FileFault("Input", `outside the project, in ${dirname(real)}`);
     }
-    const file = this.#system.openSync(real, READ_HERE);
-    try {
-      return textOf(readOpened(file, MAX_BYTES, this.#system));
-    } finally {
-      this.#system.closeSync(file);
-    }
+    return textOf(readOpened(real, MAX_BYTES, NO_LINK, this.#system));
   }
 
-  /**
-   * The folders in a folder of a project, without links to folders.
-   * @param path absolute and normal
-   * @returns their names, sorted; none where the folder can't be read
-   */
+  /** The sorted names of the folders in a folder of a project, without links; none where it can't be read. */
   foldersIn(path: string): string[] {
-    return this.#itemsIn(path).filter((item) => item.isDirectory()).map(({ name }) => name).sort();
+    return this.#namesIn(path, (item) => item.isDirectory());
   }
 
-  /**
-   * The regular files in a folder of a project, without links to files.
-   * @param path absolute and normal
-   * @returns their names, sorted; none where the folder can't be read
-   */
+  /** The sorted names of the regular files there, without links. */
   filesIn(path: string): string[] {
-    return this.#itemsIn(path).filter((item) => item.isFile()).map(({ name }) => name).sort();
+    return this.#namesIn(path, (item) => item.isFile());
   }
 
-  #itemsIn(path: string): fs.Dirent[] {
+  #namesIn(path: string, isTaken: (item: fs.Dirent) => boolean): string[] {
     const entry = this.at(path);
-    if (entry.kind !== "folder" || this.isOutside(entry)) {
-      return [];
-    }
     try {
-      return this.#system.readdirSync(entry.path, { withFileTypes: true });
+      const items = entry.kind !== "folder" || this.isOutside(entry) ? []
+        : this.#system.readdirSync(entry.path, { withFileTypes: true });
+      return items.filter(isTaken).map(({ name }) => name).sort();
     } catch {
       return [];
     }
@@ -214,85 +176,40 @@ export class RegularFiles {
     if (this.#entries.size > MAX_ENTRIES) {
       this.#entries.clear();
     }
-    const real = parent.links === 0 ? path
-      : (parent.path === "/" ? "" : parent.path) + path.slice(path.lastIndexOf("/"));
-    const status = real === path ? this.#statusOf(path) : undefined;
-    if (real === path && !status?.isSymbolicLink()) {
-      const entry = status ? { kind: kindOf(status), path, links: 0 } : NONE;
-      this.#entries.set(path, entry);
-      return entry;
-    }
-    // A link that leads to itself leads to nothing.
-    this.#entries.set(path, NONE);
-    const entry = real === path ? this.#followLink(path) : withLinks(parent.links, this.at(real));
-    if (this.#isTooFar && this.#following > 0) {
-      // It may be there for another path, with fewer links before it.
-      this.#entries.delete(path);
-      return NONE;
-    }
-    this.#isTooFar = false;
+    const entry = parent.isLinked
+      ? this.#lookBehind(join(parent.path, path.slice(path.lastIndexOf("/"))), path)
+      : this.#entryAt(path);
     this.#entries.set(path, entry);
     return entry;
   }
 
-  /**
-   * Returns the entry that a link leads to, `NONE` after too many links.
-   * @param path of a link, in a folder whose path has none
-   */
-  #followLink(path: string): Entry {
-    if (this.#following === MAX_LINKS) {
-      this.#isTooFar = true;
+  /** @param real the path, in the folder that a link leads to */
+  #lookBehind(real: string, path: string): Entry {
+    const entry = this.at(real);
+    // Too many links may lead to one that leads on.
+    return entry.isLinked ? this.#followed(path) : { ...entry, isLinked: entry.kind !== "none" };
+  }
+
+  #entryAt(path: string): Entry {
+    try {
+      const status = this.#system.lstatSync(path, { throwIfNoEntry: false });
+      if (status?.isSymbolicLink()) {
+        return this.#followed(path);
+      }
+      return status ? { kind: kindOf(status), path, isLinked: false } : NONE;
+    } catch {
       return NONE;
     }
-    this.#following++;
-    try {
-      return this.#entryOfTarget(path);
-    } finally {
-      this.#following--;
-    }
   }
 
-  /**
-   * Returns the entry that the target of a link names, part by part.
-   * @param path of a link, in a folder whose path has none
-   */
-  #entryOfTarget(path: string): Entry {
-    const target = this.#targetOf(path);
-    let entry = withLinks(1, this.at(isAbsolute(target) ? "/" : dirname(path)));
-    for (const part of target.split("/")) {
-      if (entry.kind !== "folder") {
-        return NONE;
-      }
-      if (part === "..") {
-        entry = withLinks(entry.links, this.at(dirname(entry.path)));
-      } else if (part !== "" && part !== ".") {
-        entry = withLinks(entry.links, this.at(join(entry.path, part)));
-      }
-    }
-    return entry;
-  }
-
-  #statusOf(path: string) {
+  #followed(path: string): Entry {
     try {
-      return this.#system.lstatSync(path, { throwIfNoEntry: false });
+      const real = this.#system.realpathSync.native(path);
+      return { kind: kindOf(this.#system.lstatSync(real)), path: real, isLinked: true };
     } catch {
-      return undefined;
+      return NONE;
     }
   }
-
-  #targetOf(path: string) {
-    try {
-      return this.#system.readlinkSync(path);
-    } catch {
-      return ".";
-    }
-  }
-}
-
-/** Returns an entry with more links on the way to it. */
-function withLinks(links: number, entry: Entry): Entry {
-  const all = links + entry.links;
-  return entry.kind === "none" || all > MAX_LINKS ? NONE : { ...entry, links: all };
 }
 
 function kindOf(status: Stats): Entry["kind"] {

@@ -1,9 +1,14 @@
 /** Writes files that are there as a whole or not at all. */
 
 import { randomBytes } from "node:crypto";
-import { closeSync, constants, openSync, readSync, realpathSync, statSync } from "node:fs";
+import { constants, realpathSync, statSync } from "node:fs";
 import { open, rename, rm, writeFile } from "node:fs/promises";
 import { basename, dirname, join, resolve as absolute } from "node:path";
+
+import { readBeginning } from "./regular_file.js";
+
+/** The bytes by which a file is known for an earlier output. */
+const BEGINNING = 4096;
 
 /**
  * Writes a file under another name in its folder, and renames it. A link stays, and the file that it
@@ -14,7 +19,9 @@ import { basename, dirname, join, resolve as absolute } from "node:path";
 export async function replaceFile(path: string, text: string): Promise<void> {
   const status = statSync(path, { throwIfNoEntry: false });
   if (status && !status.isFile()) {
-    await (status.isFIFO() ? writeToReader(path, text) : writeFile(path, text));
+    // Opened so, a FIFO isn't waited for: without a reader there is an error.
+    const probe = status.isFIFO() ? await open(path, constants.O_WRONLY | constants.O_NONBLOCK) : undefined;
+    await writeFile(path, text).finally(() => probe?.close());
     return;
   }
   const place = placeOf(path);
@@ -28,20 +35,6 @@ export async function replaceFile(path: string, text: string): Promise<void> {
   }
 }
 
-/** @param path of a FIFO */
-async function writeToReader(path: string, text: string) {
-  // Opened so, it doesn't wait for a reader: without one there is an error.
-  const probe = await open(path, constants.O_WRONLY | constants.O_NONBLOCK);
-  try {
-    await writeFile(path, text);
-  } finally {
-    await probe.close();
-  }
-}
-
-/** The bytes by which a file is known for an earlier output. */
-const BEGINNING = 4096;
-
 /**
  * Whether an output may replace what is at a path: nothing, an empty file, what is no regular file, or an earlier
  * output.
@@ -49,23 +42,10 @@ const BEGINNING = 4096;
  */
 export function isReplaceable(path: string, isOutput: (text: string) => boolean): boolean {
   const status = statSync(path, { throwIfNoEntry: false });
-  return !status?.isFile() || status.size === 0 || isOutput(beginningOf(path));
+  return !status?.isFile() || status.size === 0 || isOutput(readBeginning(path, BEGINNING));
 }
 
-function beginningOf(path: string): string {
-  const file = openSync(path, constants.O_RDONLY | constants.O_NONBLOCK | constants.O_NOCTTY);
-  try {
-    const bytes = Buffer.alloc(BEGINNING);
-    return bytes.toString("utf8", 0, readSync(file, bytes, 0, BEGINNING, 0));
-  } finally {
-    closeSync(file);
-  }
-}
-
-/**
- * The place that a path leads to, without links in it.
- * @param path whose folder need not exist
- */
+/** The path without links, of which the last folders need not exist. */
 export function placeOf(path: string): string {
   try {
     return realpathSync.native(path);
@@ -75,10 +55,7 @@ export function placeOf(path: string): string {
   }
 }
 
-/**
- * Writes a file that isn't there yet.
- * @param mode that of the file which is replaced
- */
+/** @param mode that of the file which is replaced */
 async function writeNew(path: string, text: string, mode?: number) {
   const file = await open(path, "wx");
   try {

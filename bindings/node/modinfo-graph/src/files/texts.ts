@@ -18,10 +18,7 @@ export class Texts {
     this.#program = program;
   }
 
-  /**
-   * @param specifier a URL
-   * @returns its `ModuleInfo`; rejected with a `FileFault` that has the position of a syntax error
-   */
+  /** @returns rejected with a `FileFault` that has the position of a syntax error */
   async info(text: string, specifier: string, mediaType: MediaType): Promise<ModuleInfo> {
     try {
       this.#core ??= new Core(compiledModule(isWasm(this.#program) ? this.#program : modulePath()));

@@ -9,12 +9,9 @@ const PLAIN = /^[\w./@+~-]*$/;
 /** How many URLs are kept: paths without number must not take memory without end. */
 const MAX_KEPT = 100_000;
 
-const urls: Map<string, string> = new Map();
+const urls = new Map<string, string>();
 
-/**
- * @param path absolute and normal
- * @returns the URL of its file
- */
+/** @param path absolute and normal */
 export function urlOfPath(path: string): string {
   let url = urls.get(path);
   if (url === undefined) {
@@ -33,30 +30,24 @@ export function urlFrom(text: string, base?: URL): URL | undefined {
   return canParse(text, base) ? new URL(text, base) : undefined;
 }
 
-/**
- * @param folder its absolute path
- * @returns with a slash at the end
- */
+/** @returns with a slash at the end */
 export function urlOfFolder(folder: string): URL {
   return pathToFileURL(`${folder}/`);
 }
 
-/**
- * @param url of a file
- * @returns its path; nothing where the URL can't have one
- */
+/** @returns nothing where the URL can't have a path */
 export function pathOfUrl(url: URL): string | undefined {
-  try {
-    return fileURLToPath(url);
-  } catch {
-    return undefined;
-  }
+  return unlessThrown(() => fileURLToPath(url));
 }
 
 /** @returns the path without links in it; nothing where it leads to nothing */
 export function realPath(path: string): string | undefined {
+  return unlessThrown(() => realpathSync.native(path));
+}
+
+function unlessThrown<T>(call: () => T): T | undefined {
   try {
-    return realpathSync.native(path);
+    return call();
   } catch {
     return undefined;
   }

@@ -1,7 +1,6 @@
 /** Reads files into a graph, for the service. */
 
 import { ProgramEnd } from "modinfo/internal/core/errors.cjs";
-import { AnalysisCache } from "../files/analysis_cache.js";
 import { checkProgram } from "../files/program.js";
 import { checkKnown, readJobs } from "../runtime/call_options.js";
 import { readProject } from "./project_graph.js";
@@ -29,8 +28,6 @@ interface GraphTask {
   types: boolean;
   dynamic: boolean;
   jobs: number;
-  /** Its path */
-  cache?: string;
   resolver: ResolverOptions;
   resolve?: ResolveHook;
   /** The path of `modinfo` */
@@ -38,7 +35,7 @@ interface GraphTask {
 }
 
 const OPTIONS = [
-  "paths", "entries", "exclude", "ignore", "gitignore", "all", "types", "dynamic", "jobs", "cache", "resolve",
+  "paths", "entries", "exclude", "ignore", "gitignore", "all", "types", "dynamic", "jobs", "resolve",
   ...RESOLVER_OPTIONS, "signal",
 ];
 
@@ -48,7 +45,7 @@ export function readGraphOptions(
 ): GraphTask {
   checkKnown(options, OPTIONS);
   const { gitignore = false, all = false, types = false, dynamic = true } = options ?? {};
-  const { cache, resolve } = options ?? {};
+  const { resolve } = options ?? {};
   const jobs = readJobs(options?.jobs ?? standard.jobs);
   const { paths = [], entries = [], exclude = [], ignore = [] } = options ?? {};
   if (![paths, entries, exclude, ignore].every(Array.isArray) || paths.length + entries.length === 0) {
@@ -64,7 +61,6 @@ export function readGraphOptions(
     paths: paths.map((path) => pathOf(path, "a path")),
     entries: entries.map((path) => pathOf(path, "an entry")),
     exclude: exclude.map(String), ignore: ignore.map(String), gitignore, all, types, dynamic, jobs, resolve,
-    ...(cache !== undefined && { cache: pathOf(cache, "cache") }),
     resolver: { types, ...readResolverOptions(options ?? {}) },
     program: standard.program,
   };
@@ -74,16 +70,14 @@ export function readGraphOptions(
  * @param signal ends the reading
  * @returns rejected with an `EntryFault`, a `GlobFault` or a `GitFault`
  */
-export async function graphOf({ cache: place, ...task }: GraphTask, signal?: Signal): Promise<Graph> {
+export async function graphOf(task: GraphTask, signal?: Signal): Promise<Graph> {
   const { paths, program } = task;
   await checkProgram(program).catch(({ message }) => {
     throw new ProgramEnd(message);
   });
-  const cache = place === undefined ? undefined : new AnalysisCache(place, program);
   const { graph, named, ...project } = await readProject({
-    ...task, roots: paths, excluded: true, cache, signal, onRead: () => signal?.throwIfAborted(),
+    ...task, roots: paths, excluded: true, signal, onRead: () => signal?.throwIfAborted(),
   });
-  await cache?.save();
   return new FileGraph(graph, named, project);
 }
 

@@ -8,8 +8,7 @@ import type { Signal } from "modinfo/internal/types/calls.cjs";
 export { checkKnown, readSignal } from "modinfo/internal/core/input.cjs";
 
 /**
- * @param jobs how many processes run at once
- * @returns one for each processor, where it is missing
+ * How many processes run at once: one for each processor, where the number is missing.
  * @throws {TypeError} it is no whole number from 1 on
  */
 export function readJobs(jobs: unknown = os.availableParallelism?.() ?? os.cpus().length): number {

@@ -46,21 +46,12 @@ export function faultOf(error: unknown): Fault {
   throw error;
 }
 
-/**
- * The message of a system call, without the path, which the caller prints before it.
- * @returns as `ENOENT: no such file or directory`
- */
+/** The message of a system call without the path, which the caller prints: `ENOENT: no such file or directory`. */
 export function systemMessage(error: unknown): string {
   return (error as Error).message.replace(/, [a-z]+(?: '.*')?$/s, "");
 }
 
-/**
- * @param fault or a warning
- * @returns as `FILE:LINE:COLUMN: MESSAGE`, without characters that a terminal obeys
- */
-export function describeFault(
-  file: string, { message, line, column }: { message: string, line?: number, column?: number },
-): string {
-  const position = line ? `:${line}:${column}` : "";
-  return `${printable(file)}${position}: ${printable(message)}`;
+/** A fault or a warning, as `FILE:LINE:COLUMN: MESSAGE`, without characters that a terminal obeys. */
+export function describeFault(file: string, { message, line, column }: Omit<Fault, "fault">): string {
+  return `${printable(file)}${line ? `:${line}:${column}` : ""}: ${printable(message)}`;
 }

@@ -1,13 +1,15 @@
 /** Tasks, of which some run at once. */
 
+/** What a promise ends with, once that is known: `end` returns its value, or throws its error */
+type Settling<T> = { end?: () => T };
+
 /**
  * The results of tasks in the order of the tasks, of which some run at once.
  * @param most how many run, or wait for the result of an earlier one, at most
  * @param finish is called after the last result, or where no more are taken
  */
 export async function* inOrder<Task, Result>(
-  tasks: AsyncIterable<Task>, most: number, run: (task: Task) => Promise<Result> | Result,
-  finish: () => void = () => {},
+  tasks: AsyncIterable<Task>, most: number, run: (task: Task) => Promise<Result> | Result, finish = () => {},
 ): AsyncGenerator<Result, void> {
   const iterator = tasks[Symbol.asyncIterator]();
   let wake = () => {};
@@ -26,8 +28,8 @@ export async function* inOrder<Task, Result>(
           results.push(settling(run(next.value), onSettled));
         }
       } else {
-        await new Promise((resolve) => {
-          wake = () => resolve(undefined);
+        await new Promise<void>((resolve) => {
+          wake = resolve;
         });
       }
     }
@@ -35,9 +37,6 @@ export async function* inOrder<Task, Result>(
     finish();
   }
 }
-
-/** What a promise ends with, once that is known: `end` returns its value, or throws its error */
-type Settling<T> = { end?: () => T };
 
 function settling<T>(result: Promise<T> | T, onSettled: () => void): Settling<T> {
   if (!(result instanceof Promise)) {

@@ -1,161 +1,179 @@
-/** Processes of `modinfo` for one command, and the requests that wait for one. */
+/** Requests, and the processes or threads that answer them. */
 
 import { ProgramEnd } from "modinfo/internal/core/errors.cjs";
-import { onAbort } from "./abort_signals.js";
-import { Lane } from "./lane.js";
-import { Queue } from "./queue.js";
-import type { Signal } from "modinfo/internal/types/calls.cjs";
-import type { LaneOptions, Request } from "./lane.js";
 
-type Command = Pick<LaneOptions, "program" | "words" | "read">;
+export type Answer = { value: Buffer | string, error?: undefined } | { value?: undefined, error: Error };
+
+/** A process or a thread, which answers requests in their order. */
+export interface Lane {
+  /** @param text of a request, with its end */
+  send(text: string | Uint8Array): void;
+  /** @param isHeld whether the lane keeps node from ending */
+  hold(isHeld: boolean): void;
+  /** Ends the lane at once. */
+  kill(): void;
+}
+
+export interface Events {
+  /** Takes the answer to the next request. Returns false where there is none. */
+  onAnswer(answer: Answer): boolean;
+  /** The lane has ended or, with `isUnstarted`, couldn't be started. Later calls do nothing. */
+  onEnd(why: string, isUnstarted?: boolean): void;
+}
+
+export interface Kind {
+  /** As messages begin */
+  name: string;
+  /** How many characters a lane is handed ahead: a request that waits for more waits in the pool */
+  room: number;
+  /** @throws {Error} the system refuses a lane */
+  start(events: Events): Lane;
+}
+
+interface Request {
+  text: string | Uint8Array;
+  /** Whether a lane ended that held the request */
+  isSuspect?: boolean;
+  resolve: (value: Buffer | string) => void;
+  reject: (error: Error) => void;
+}
+
+type Place = { lane?: Lane, held: Request[], length: number };
+
+const HINT = "the option program or the environment variable MODINFO names another";
 
 /**
- * Processes are started as requests come. Where one ends, the requests that it held are tried once more, each
- * alone in a process. While nothing is waited for, no process keeps node from ending.
+ * Lanes are started as requests come. Where one ends, the requests that it held are tried once more, each alone in
+ * a lane. While nothing is waited for, no lane keeps node from ending.
  */
 export class Pool {
-  #command;
+  #kind;
   #most;
-  #lanes: Lane[] = [];
-  #waiting: Queue<Request> = new Queue();
-  /** Requests whose process ended, which are the next. */
-  #again: Queue<Request> = new Queue();
-  /** Those that aren't gone yet, whether they are heard or not. */
-  #processes: Set<Lane> = new Set();
-  #isClosed = false;
+  #waiting: Request[] = [];
+  /** Requests whose lane ended, which are the next. */
+  #again: Request[] = [];
+  #places: Place[] = [];
   #isKilled = false;
-  #onDone = () => {};
 
-  /** @param jobs the most processes at once */
-  constructor(command: Command, jobs: number) {
-    this.#command = command;
-    this.#most = jobs;
+  /** @param most the most lanes at once */
+  constructor(kind: Kind, most: number) {
+    this.#kind = kind;
+    this.#most = most;
   }
 
   /**
-   * @param text of a request, with its end
-   * @param signal when it is aborted, the process that has the request is ended
-   * @returns the value of the answer; rejected with its error, with the reason of the signal, or
-   *   with a `ProgramEnd` where the process ends twice over the request or can't be started
+   * @returns the value of the answer; rejected with its error, or with a `ProgramEnd` where a lane ends twice over
+   *   the request or can't be started
    */
-  run(text: string | Uint8Array, signal?: Signal): Promise<Buffer> {
-    if (this.#isClosed) {
-      return Promise.reject(new ProgramEnd("modinfo is closed"));
-    }
+  run(text: string | Uint8Array): Promise<Buffer | string> {
     return new Promise((resolve, reject) => {
-      const once = <Value>(settle: (value: Value) => void) => (value: Value) => {
-        request.isSettled = true;
-        takeBack();
-        settle(value);
-      };
-      const request: Request = { text, resolve: once(resolve), reject: once(reject) };
-      const abort = () => {
-        request.reject(signal?.reason as Error);
-        request.lane?.kill();
-      };
-      const takeBack = onAbort(signal, abort);
-      this.#waiting.push(request);
+      this.#waiting.push({ text, resolve, reject });
+      if (this.#isKilled) {
+        this.#refuse("was ended");
+      }
       this.#deal();
     });
   }
 
-  /** Waits for all answers, and ends the processes. */
-  async close(): Promise<void> {
-    this.#isClosed = true;
-    await new Promise((resolve) => {
-      this.#onDone = () => resolve(undefined);
-      this.#deal();
-    });
-    await Promise.all([...this.#processes].map(({ gone }) => gone));
-  }
-
-  /** Ends the processes at once. Requests without an answer are rejected. */
+  /** Ends the lanes at once. Requests without an answer are rejected. */
   kill() {
-    this.#isClosed = true;
     this.#isKilled = true;
     this.#refuse("was ended");
-    this.#lanes.forEach((lane) => lane.kill());
+    for (const place of this.#places) {
+      place.lane?.kill();
+      this.#onEnd(place, "was ended");
+    }
   }
 
-  /** Hands requests to processes as long as there is room. */
   #deal() {
-    for (let queue = this.#next(); queue?.first; queue = this.#next()) {
-      const lane = this.#laneFor(queue.first);
-      if (!lane) {
-        break;
+    for (;;) {
+      const queue = this.#again.length > 0 ? this.#again : this.#waiting;
+      const [request] = queue;
+      const place = request && this.#placeFor(request);
+      if (!place) {
+        return;
       }
-      lane.take(queue.shift() as Request);
+      queue.shift();
+      place.held.push(request);
+      place.length += request.text.length;
+      place.lane?.hold(true);
+      place.lane?.send(request.text);
     }
-    if (this.#isClosed && !this.#next()) {
-      this.#lanes.forEach((lane) => lane.close());
-      if (this.#lanes.length === 0) {
-        this.#onDone();
-      }
-    }
   }
 
-  /** The queue whose first request is the next; nothing where none waits. */
-  #next() {
-    return [this.#again, this.#waiting].find((queue) => {
-      while (queue.first?.isSettled) {
-        queue.shift();
-      }
-      return queue.first;
-    });
+  /** @returns nothing where the request has to wait, or is rejected */
+  #placeFor({ text, isSuspect }: Request): Place | undefined {
+    const [freest] = this.#places.filter(({ held: [first], length }) => {
+      return !first || (!isSuspect && !first.isSuspect && length + text.length <= this.#kind.room);
+    }).sort((one, other) => one.length - other.length);
+    return freest?.length !== 0 && this.#places.length < this.#most ? this.#start() ?? freest : freest;
   }
 
-  /** @returns nothing where it has to wait, or is rejected */
-  #laneFor(request: Request): Lane | undefined {
-    const open = this.#lanes.filter((lane) => lane.hasRoomFor(request));
-    const [freest] = open.sort((one, other) => one.bytes - other.bytes);
-    return freest?.bytes !== 0 && this.#lanes.length < this.#most ? this.#start() ?? freest : freest;
-  }
-
-  /** @returns nothing where the system refuses a process */
-  #start(): Lane | undefined {
+  #start(): Place | undefined {
+    const place: Place = { held: [], length: 0 };
     try {
-      const onEnd = (lane: Lane, why: string) => this.#onEnd(lane, why);
-      const lane = new Lane({ ...this.#command, onRoom: () => this.#deal(), onEnd });
-      this.#lanes.push(lane);
-      this.#processes.add(lane);
-      lane.gone.then(() => this.#processes.delete(lane));
-      return lane;
+      place.lane = this.#kind.start({
+        onAnswer: (answer) => this.#onAnswer(place, answer),
+        onEnd: (why, isUnstarted) => this.#onEnd(place, why, isUnstarted),
+      });
+      this.#places.push(place);
+      return place;
     } catch (error) {
       this.#onUnstarted((error as Error).message);
       return undefined;
     }
   }
 
-  #onEnd(lane: Lane, why: string) {
-    this.#lanes = this.#lanes.filter((each) => each !== lane);
-    for (const request of lane.requests.takeAll()) {
+  #onAnswer(place: Place, { value, error }: Answer) {
+    const request = this.#places.includes(place) ? place.held.shift() : undefined;
+    if (!request) {
+      return false;
+    }
+    place.length -= request.text.length;
+    if (error) {
+      request.reject(error);
+    } else {
+      request.resolve(value);
+    }
+    this.#deal();
+    place.lane?.hold(place.held.length > 0);
+    return true;
+  }
+
+  #onEnd(place: Place, why: string, isUnstarted = false) {
+    if (!this.#places.includes(place)) {
+      return;
+    }
+    this.#places = this.#places.filter((each) => each !== place);
+    for (const request of place.held) {
       if (request.isSuspect || this.#isKilled) {
-        request.reject(new ProgramEnd(`${this.#command.program} ${why}`));
+        request.reject(this.#endOf(why));
       } else {
-        // Who ends a process knows why; a process that couldn't be started has begun nothing.
-        request.isSuspect = lane.isStarted && !lane.isKilled;
+        request.isSuspect = !isUnstarted;
         this.#again.push(request);
       }
     }
-    if (!lane.isStarted) {
+    if (isUnstarted) {
       this.#onUnstarted(why);
     }
     this.#deal();
   }
 
-  /** Where a process can't be started, those that there are have to do; without any, nothing can be done. */
+  /** Where a lane can't be started, those that there are have to do; without any, nothing can be done. */
   #onUnstarted(why: string) {
-    if (this.#lanes.length > 0) {
-      this.#most = this.#lanes.length;
+    if (this.#places.length > 0) {
+      this.#most = this.#places.length;
     } else {
-      const hint = "the option program or the environment variable MODINFO names another";
-      this.#refuse(`can't be started: ${why} (${hint})`);
+      this.#refuse(`can't be started: ${why} (${HINT})`);
     }
   }
 
   /** Rejects all that waits. */
   #refuse(why: string) {
-    const end = new ProgramEnd(`${this.#command.program} ${why}`);
-    [...this.#again.takeAll(), ...this.#waiting.takeAll()].forEach(({ reject }) => reject(end));
+    [...this.#again.splice(0), ...this.#waiting.splice(0)].forEach(({ reject }) => reject(this.#endOf(why)));
+  }
+
+  #endOf(why: string) {
+    return new ProgramEnd(`${this.#kind.name} ${why}`);
   }
 }

@@ -8,11 +8,6 @@ export class Queue<T> {
     return this.#entering.length + this.#leaving.length;
   }
 
-  /** @returns the next to leave; nothing where the queue is empty */
-  get first(): T | undefined {
-    return this.#leaving.at(-1) ?? this.#entering[0];
-  }
-
   push(item: T) {
     this.#entering.push(item);
   }
@@ -24,13 +19,5 @@ export class Queue<T> {
       this.#entering = [];
     }
     return this.#leaving.pop();
-  }
-
-  /** @returns all that were in it, in order */
-  takeAll(): T[] {
-    const items = [...this.#leaving.reverse(), ...this.#entering];
-    this.#leaving = [];
-    this.#entering = [];
-    return items;
   }
 }

@@ -20,10 +20,7 @@ export function withControls(text: string): { text: string, name?: string }[] {
   return partsWith(text, IN_TEXT);
 }
 
-/**
- * @param name of a file or a folder
- * @returns like `withControls`, but tabs and line feeds have names
- */
+/** Like `withControls`, but tabs and line feeds in the name of a file or a folder have names. */
 export function nameParts(name: string): { text: string, name?: string }[] {
   return partsWith(name, IN_NAME);
 }

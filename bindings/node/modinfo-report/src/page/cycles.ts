@@ -19,10 +19,7 @@ export function cycleOf(module: number): CycleKind | undefined {
   return CYCLES.find((each) => numbers[each].has(module));
 }
 
-/**
- * @param kind the index of the edge's kind
- * @returns the cycle that an edge is a part of
- */
+/** The cycle that an edge is a part of, by the index of the edge's kind. */
 export function cycleOfEdge(from: number, to: number, kind: number): CycleKind | undefined {
   const isIn = (each: CycleKind) => numbers[each].has(from) && numbers[each].get(from) === numbers[each].get(to);
   return CYCLES.find((each) => isIn(each) && (each === "types" || kindRuns[kind]));

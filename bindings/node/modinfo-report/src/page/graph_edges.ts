@@ -24,10 +24,7 @@ export interface DrawnEdge {
   isMarked?: boolean;
 }
 
-/**
- * Returns for each module the innermost item that shows it.
- * @returns nothing for modules that aren't drawn
- */
+/** For each module the innermost item that shows it; nothing for modules that aren't drawn. */
 export function leavesOf(top: Item): (Item | undefined)[] {
   const leaves: (Item | undefined)[] = new Array(report.modules.length);
   const visit = (item: Item) => {
@@ -41,10 +38,7 @@ export function leavesOf(top: Item): (Item | undefined)[] {
   return leaves;
 }
 
-/**
- * Returns the edges between the items of each box.
- * @returns by boxes
- */
+/** The edges between the items of each box, by boxes. */
 export function edgesIn(leaves: (Item | undefined)[]): Map<Item, DrawnEdge[]> {
   const byBox: Map<Item, Map<string, DrawnEdge>> = new Map();
   for (let module = 0; module < leaves.length; module++) {
@@ -104,10 +98,7 @@ export function drawnEdge(
   return edge;
 }
 
-/**
- * The items between which the edge of two items is drawn.
- * @returns the items themselves, or boxes around them that are side by side
- */
+/** The items between which the edge of two items is drawn: themselves, or boxes around them side by side. */
 export function drawnEnds(from: Item, to: Item): [Item, Item] {
   const [, first = from, second = to] = siblings(from, to) ?? [];
   return [first, second];

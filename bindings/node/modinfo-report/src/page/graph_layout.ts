@@ -26,10 +26,7 @@ let worker: Worker | undefined;
 const waiting = new Map<number, { resolve: (layout: Layout) => void, reject: (error: Error) => void }>();
 let requests = 0;
 
-/**
- * @param enough the scale at which the first layout that fits the room is taken
- * @returns rejected if there is no layout
- */
+/** Rejected if there is no layout. `enough` is the scale at which the first layout that fits the room is taken. */
 export function askLayout(
   top: Given, room: { width: number, height: number }, enough: number = 1,
 ): Promise<Layout> {
@@ -85,10 +82,7 @@ export function sizeOfLabel(label: string): [number, number] {
   return [widthOf(label) + MARGIN, NODE_HEIGHT];
 }
 
-/**
- * Shortens a label that is too long to its start and its end.
- * @param most characters
- */
+/** Shortens a label of more characters than `most` to its start and its end. */
 export function shortLabel(label: string, most: number = LONGEST): string {
   const characters = [...label];
   const half = (most - 1) / 2;

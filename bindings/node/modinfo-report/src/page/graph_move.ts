@@ -198,11 +198,7 @@ export class Mover {
   }
 }
 
-/**
- * @param size of a drawing
- * @param room of its box
- * @returns the scale at which all of it is seen
- */
+/** The scale at which all of a drawing of a size is seen in the room of its box. */
 export function fitScale(size: Size, room: Size): number {
   const across = (room.width - 2 * AROUND) / Math.max(1, size.width);
   const down = (room.height - 2 * AROUND) / Math.max(1, size.height);

@@ -23,10 +23,7 @@ export interface Scene {
   edges: Map<Item, DrawnEdge[]>;
 }
 
-/**
- * Returns the boxes with which a folder can be drawn.
- * @returns different boxes, with more and more items
- */
+/** The different boxes with which a folder can be drawn, with more and more items. */
 export function boxesOf(scope: Folder): Item[] {
   const found = new Map<string, { box: Item, count: number }>();
   for (const items of MOST_ITEMS) {
@@ -89,10 +86,7 @@ function withNeighbours(all: Item, box: Item, edges: DrawnEdge[]) {
   return boxWith([box, ...near.slice(0, MOST_AROUND), ...more]);
 }
 
-/**
- * The scene of some modules, with all edges between them, and of items that stand for more.
- * @param more whose edges to each other aren't drawn
- */
+/** The scene of modules with all edges between them, and of more items, whose own edges aren't drawn. */
 export function sceneWith(modules: number[], lookOf: (module: number) => Look, more: Item[] = []): Scene {
   const items = modules.map((module): Item => {
     return { id: `m${module}`, type: "module", module, count: 1, look: lookOf(module) };

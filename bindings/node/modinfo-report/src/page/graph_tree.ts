@@ -125,10 +125,7 @@ export function boxWith(items: Item[]): Item {
   return top;
 }
 
-/**
- * @param item no box
- * @param act is called with each module that it stands for
- */
+/** Calls `act` with each module that an item, which is no box, stands for. */
 export function eachModuleOf(item: Item, act: (module: number) => void) {
   const { type, module, folders = [], modules = [] } = item;
   if (type === "module") {

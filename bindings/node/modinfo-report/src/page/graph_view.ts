@@ -115,11 +115,7 @@ export function crumbs(folder: Folder): HTMLElement {
   return element("span", { class: "crumbs" }, ...links.flatMap((link) => [link, "/"]));
 }
 
-/**
- * The graph of a folder.
- * @param instead makes the view if the
- *   modules are too many for one drawing
- */
+/** The graph of a folder; if the modules are too many for one drawing, the view that `instead` makes. */
 export function graphView(folder: Folder, instead: (folder: Folder) => HTMLElement): HTMLElement {
   const frame = graphFrame([crumbs(folder)]);
   requestAnimationFrame(() => drawFolder(frame, folder, instead).catch((error) => showFault(frame, error)));

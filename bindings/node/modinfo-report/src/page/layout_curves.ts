@@ -37,10 +37,7 @@ export function pointsOnCurve(points: Point[], near: Point): Point[] {
   return nearest ? PLACES.map((part) => alongBend(nearest, part)) : [near];
 }
 
-/**
- * Returns a point of a quadratic curve.
- * @param part from 0 at the start to 1 at the end
- */
+/** The point of a quadratic curve at a part from 0 at the start to 1 at the end. */
 function alongBend({ start, bend, end }: { start: Point, bend: Point, end: Point }, part: number): Point {
   const rest = 1 - part;
   const at = (axis: "x" | "y") => {
@@ -52,10 +49,7 @@ function alongBend({ start, bend, end }: { start: Point, bend: Point, end: Point
 /** The size of a count, as it is drawn: of its border, and of a digit. */
 const DRAWN = { border: 8, digit: 7, height: 16 };
 
-/**
- * Returns the first point at which a count overlaps no other one, else the first point.
- * @param counts to which it is added
- */
+/** The first point at which a count, which is added to the counts, overlaps none of them, else the first. */
 export function placeOfCount(points: Point[], count: number, counts: { x: number, y: number, width: number }[]) {
   const width = DRAWN.border + DRAWN.digit * count.toLocaleString("en").length;
   const isFree = ({ x, y }: Point) => counts.every((other) => {

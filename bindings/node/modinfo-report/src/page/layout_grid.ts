@@ -36,10 +36,7 @@ function columnsOf(sizes: [number, number][], columns: number, gap: number): Pla
   };
 }
 
-/**
- * Puts rectangles on shelves, the highest first.
- * @param room the width of the whole for a height of 1
- */
+/** Puts rectangles on shelves, the highest first. `room` is the width of the whole for a height of 1. */
 export function shelvesOf(sizes: [number, number][], { gap, aspect }: { gap: number, aspect: number }): Placed {
   const area = sizes.reduce((sum, [width, height]) => sum + (width + gap) * (height + gap), 0);
   const widest = sizes.reduce((most, [width]) => Math.max(most, width), 0);

@@ -74,9 +74,7 @@ export function importers(module: number): Importer[] {
   return found;
 }
 
-/**
- * Returns the states of a module: whether it is an entry, in a class of the unreached, in a cycle, or has a fault.
- */
+/** The states of a module: whether it is an entry, in a class of the unreached, in a cycle, or has a fault. */
 export function moduleStates(module: number): string[] {
   const states: [boolean, string][] = [
     [entries.has(module), "entry"],
@@ -101,10 +99,7 @@ export function stateTitle(state: string): string {
   return titles[state];
 }
 
-/**
- * Splits a path in two parts.
- * @returns the folder with its slash, and the name
- */
+/** Splits a path in the folder with its slash, and the name. */
 export function partsOf(path: string): [string, string] {
   const at = path.lastIndexOf("/") + 1;
   return [path.slice(0, at), path.slice(at)];

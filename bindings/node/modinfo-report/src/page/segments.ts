@@ -10,10 +10,7 @@ export interface Segment {
   marks: MarkDetails[];
 }
 
-/**
- * @param marks sorted by where they begin
- * @returns for each line its segments, with its line feed
- */
+/** For each line its segments, with its line feed. The marks are sorted by where they begin. */
 export function* lineSegments(text: string, marks: MarkDetails[]): Generator<Segment[]> {
   let next = 0;
   let open: MarkDetails[] = [];

@@ -10,10 +10,7 @@ export interface Step {
   line: number;
 }
 
-/**
- * For each module the last edge of a shortest path to it; undefined where a path begins, and where
- * none ends.
- */
+/** By modules the last edge of a shortest path to each; undefined where a path begins, and where none ends. */
 let steps: Step[] | undefined;
 
 /** The modules where paths begin. */

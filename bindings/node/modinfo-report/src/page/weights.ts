@@ -4,10 +4,7 @@ import { eachEdge, kindRuns, report } from "./report.js";
 
 const weights: Map<number, { bytes: number, count: number }> = new Map();
 
-/**
- * @returns the bytes of a module and of all that it runs, and how many modules
- *   these are
- */
+/** The bytes of a module and of all that it runs, and how many modules these are. */
 export function weightOf(module: number): { bytes: number, count: number } {
   let weight = weights.get(module);
   if (weight === undefined) {

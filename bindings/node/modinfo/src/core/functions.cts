@@ -7,21 +7,17 @@ import { engine } from "./webassembly.cjs";
 import type { Functions } from "../types/calls.cjs";
 import type { Plan } from "./plans.cjs";
 
-export interface Loader {
-  /** Returns the module or its bytes. */
-  load: () => Promise<object>;
-  /** Does so at once, where that is possible. */
-  read?: () => object;
-}
+/** Returns the bytes of the module. */
+export type Read = () => Uint8Array;
 
 /** The module of an entry of the package, once it is there. */
 class State {
-  #loader;
+  #read;
   #core: Core | undefined;
   #starting: Promise<void> | undefined;
 
-  constructor(loader: Loader) {
-    this.#loader = loader;
+  constructor(read: Read) {
+    this.#read = read;
   }
 
   /** @throws {Error} it isn't there yet */
@@ -42,23 +38,19 @@ class State {
   }
 
   /** @param source the module or its bytes */
-  initSync(source: object | undefined = this.#loader.read?.()) {
-    if (source === undefined) {
-      throw new TypeError("initSync needs the module, or its bytes");
-    }
-    this.#core ??= new Core(source);
+  initSync(source?: object) {
+    this.#core ??= new Core(source ?? this.#read());
   }
 
   async #load() {
-    const source = await this.#loader.load();
-    const module = source instanceof engine.Module ? source : await engine.compile(source);
+    const module = await engine.compile(this.#read());
     this.#core ??= new Core(module, await engine.instantiate(module));
   }
 }
 
 /** Returns the functions by their names. The number is the place of the options among the arguments. */
-export function functionsOf(loader: Loader): Functions {
-  const state = new State(loader);
+export function functionsOf(read: Read): Functions {
+  const state = new State(read);
   const now = <Words extends unknown[], Value>(planOf: (...words: Words) => Plan<Value>) => {
     return (...words: Words): Value => planOf(...words)(state.core);
   };
@@ -76,6 +68,7 @@ export function functionsOf(loader: Loader): Functions {
   return {
     init: () => state.init(),
     initSync: (source) => state.initSync(source),
+    moduleBytes: () => read(),
     moduleInfo: later(moduleInfo, 3),
     checkSource: later(checkSource, 3),
     analyze: later(analyze, 1),

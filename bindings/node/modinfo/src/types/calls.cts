@@ -21,17 +21,22 @@ export interface Functions {
    * Loads the module. Functions that return promises do so themselves. All functions work in the calling thread,
    * in which nothing else runs meanwhile; they read their arguments at the call, and an option that there isn't is
    * a `TypeError`.
-   * @throws {Error} it can't be read or fetched, or the engine is too old for it
+   * @throws {Error} it can't be read, or the engine is too old for it
    */
   init(): Promise<void>;
 
   /**
    * Loads the module at once. On a page's own thread older browsers refuse that.
-   * @param source a `WebAssembly.Module`, or the bytes of modinfo/modinfo.wasm. Node and modinfo/inline need none
+   * @param source a `WebAssembly.Module` of `moduleBytes`, or such bytes; else those of the package
    * @throws {Error} as `init` does
-   * @throws {TypeError} there is none
    */
   initSync(source?: object): void;
+
+  /**
+   * The bytes of the module, for hosts that compile none and take a file, which `initSync` takes compiled.
+   * @throws {Error} it can't be read
+   */
+  moduleBytes(): Uint8Array;
 
   /**
    * What a module depends on, from its text.

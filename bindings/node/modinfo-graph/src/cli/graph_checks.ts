@@ -1,37 +1,23 @@
-/**
- * The questions about a graph whose answers are findings: they may be asked together, and a project may know some
- * of the findings already.
- */
+/** Questions whose answers are findings: they may be asked together, and a project may know some findings. */
 
 import { resolve as absolute } from "node:path";
 
-import { realPath } from "../../files/urls.js";
-import { forbiddenEdges } from "../../graph/forbidden.js";
-import { packageUse } from "../../graph/package_use.js";
-import { unreachedOf } from "../../graph/unreached.js";
+import { realPath } from "../files/urls.js";
+import { forbiddenEdges } from "../graph/forbidden.js";
+import { packageUse } from "../graph/package_use.js";
+import { unreachedOf } from "../graph/unreached.js";
 import {
   byTypesLine, cycleLine, forbiddenLine, gapsNote, mayBeReachedLine, mayBeUsedLine, mentionData, missingLine,
   shownPath, shownTarget, unlistedLines, unusedLine,
 } from "./graph_output.js";
-import type { Cycle } from "../../graph/graph.cjs";
+import type { Cycle } from "../graph/graph.cjs";
 import type { Values } from "./command_line.js";
-import type { GraphRun } from "./graph_run.js";
+import type { GraphRun } from "./run.js";
 
 /** The values of the options of `modinfo-files`. */
-export interface FilesValues extends Values {
-  resolve?: boolean;
-  unreached?: boolean;
-  cycles?: boolean | "runs";
-  missing?: boolean;
-  packages?: boolean;
-  forbid?: string[];
-  known?: boolean;
-  why?: string;
-  dependents?: string;
-  dot?: boolean;
-  mermaid?: boolean;
-  json?: boolean;
-}
+export type FilesValues = Values
+  & { [name in "resolve" | "unreached" | "missing" | "packages" | "known" | "dot" | "mermaid" | "json"]?: boolean }
+  & { cycles?: boolean | "runs", forbid?: string[], why?: string, dependents?: string };
 
 export type Context = GraphRun & { values: FilesValues, paths: string[] };
 
@@ -67,9 +53,7 @@ export const CHECKS: Record<string, (context: Context) => Answer> = {
 /** The cycles. With `--cycles=runs` those aren't findings that types alone may close. */
 function cycles({ graph, values: { types, cycles: choice } }: Context) {
   const { cycles: run, typeCycles } = graph.cycles();
-  const isFound = (cycle: Cycle) => {
-    return choice !== "runs" || !cycle.perhapsOfTypes;
-  };
+  const isFound = (cycle: Cycle) => choice !== "runs" || !cycle.perhapsOfTypes;
   const others = run.filter((cycle) => !isFound(cycle));
   const count = run.filter(({ perhapsOfTypes }) => perhapsOfTypes).length;
   const why = "a compiler removes imports of TypeScript whose names are types";

@@ -1,21 +1,21 @@
 /** The questions about the graph of files that options ask. */
 
-import { isComponent, isModule } from "../../files/file_kinds.js";
-import { isFile } from "../../files/find_files.js";
-import { dotText, mermaidText } from "../../graph/pictures.js";
-import { canonicalUrl } from "../../graph/reach.js";
-import { unreachedOf } from "../../graph/unreached.js";
-import { printable } from "../../runtime/printable.js";
+import { isComponent, isModule } from "../files/file_kinds.js";
+import { isFile } from "../files/find_files.js";
+import { dotText, mermaidText } from "../graph/pictures.js";
+import { canonicalUrl } from "../graph/reach.js";
+import { unreachedOf } from "../graph/unreached.js";
+import { printable } from "../runtime/printable.js";
 import { UsageFault } from "./command_line.js";
 import { CHECKS } from "./graph_checks.js";
 import {
-  byTypesLine, fileLines, gapsNote, mayBeReachedLine, mentionData, shownPath, stepLine,
+  byTypesLine, gapsNote, mayBeReachedLine, mentionData, shownPath, stepLine,
 } from "./graph_output.js";
-import { readRun } from "./graph_run.js";
+import { readRun } from "./run.js";
 import { writeOutput } from "./standard_output.js";
-import type { Step } from "../../graph/graph.cjs";
+import type { Step } from "../graph/graph.cjs";
 import type { Answer, Context, FilesValues } from "./graph_checks.js";
-import type { Run } from "./read_files.js";
+import type { Run } from "./run.js";
 
 /** Without the findings that are known; `keys` are those of the others */
 type Found = Answer & { question: string, keys: string[] };
@@ -27,14 +27,11 @@ const ALONE = ["why", "dependents", "dot", "mermaid"];
 export const QUESTIONS = [...Object.keys(CHECKS), ...ALONE] as (keyof FilesValues)[];
 
 const ANSWERS: Record<string, (context: Context) => Answer> = {
-  ...CHECKS, reached, why, dependents, dot, mermaid, graph: whole,
+  ...CHECKS, reached, why, dependents, dot: (context) => drawn(dotText, context),
+  mermaid: (context) => drawn(mermaidText, context), graph: whole,
 };
 
-/**
- * @param values of the words
- * @returns the questions that they ask
- * @throws {UsageFault} one of several can only be asked alone
- */
+/** The questions of words. @throws {UsageFault} one of several can only be asked alone */
 export function questionsOf(values: FilesValues): string[] {
   const asked = QUESTIONS.filter((each) => values[each] !== undefined);
   const alone = asked.find((each) => ALONE.includes(each));
@@ -70,7 +67,7 @@ export async function answerQuestions(
   const asked = questions.length > 0 ? questions : [other];
   const context = { ...read, values, paths };
   const found = asked.map((each) => without(known[each] ?? [], each, ANSWERS[each](context)));
-  await print(found, values);
+  await writeOutput(textOf(found, values));
   const notes = found.flatMap((each) => each.notes ?? []);
   notes.forEach((note) => process.stderr.write(`${name}: ${printable(note)}\n`));
   return found.some(({ isFinding, keys }) => isFinding || keys.length > 0) ? 1 : status;
@@ -90,12 +87,11 @@ function without(
 ): Found {
   const keys = new Set(known);
   const others = findings.filter(({ key }) => !keys.has(key));
-  const all = { ...data };
-  others.forEach(({ member, value }) => (all[member] = [...all[member] as unknown[], value]));
+  others.forEach(({ member, value }) => (data[member] as unknown[]).push(value));
   const hidden = findings.length - others.length;
   const gone = known.filter((key) => !findings.some((each) => each.key === key)).length;
   return {
-    ...rest, question, keys: [...new Set(others.map(({ key }) => key))], data: all,
+    ...rest, question, keys: [...new Set(others.map(({ key }) => key))], data,
     lines: [...others.flatMap((each) => each.lines), ...lines],
     notes: [
       ...notes,
@@ -105,29 +101,28 @@ function without(
   };
 }
 
-async function print(found: Found[], { json, known, null: isNull }: FilesValues) {
-  const end = isNull ? "\0" : "\n";
+function textOf(found: Found[], { json, known, null: isNull }: FilesValues): string {
+  const joined = (lines: string[]) => lines.map((line) => line + (isNull ? "\0" : "\n")).join("");
   if (known) {
-    const keys = Object.fromEntries(found.map((each) => [each.question, each.keys]));
-    await writeOutput(`${JSON.stringify(keys)}\n`);
-  } else if (json) {
-    await writeOutput(`${JSON.stringify(Object.assign({}, ...found.map(({ data }) => data)))}\n`);
-  } else if (found.length === 1) {
-    const [{ lines = [], text }] = found;
-    await writeOutput(text ?? lines.map((line) => line + end).join(""));
-  } else {
-    const all = found.flatMap(({ question, keys, lines = [] }) => {
-      return [`${question}: ${keys.length}`, ...lines.map((line) => `  ${line}`)];
-    });
-    await writeOutput(all.map((line) => line + end).join(""));
+    return `${JSON.stringify(Object.fromEntries(found.map(({ question, keys }) => [question, keys])))}\n`;
   }
+  if (json) {
+    return `${JSON.stringify(Object.assign({}, ...found.map(({ data }) => data)))}\n`;
+  }
+  if (found.length === 1) {
+    const [{ lines = [], text }] = found;
+    return text ?? joined(lines);
+  }
+  return joined(found.flatMap(({ question, keys, lines = [] }) => {
+    return [`${question}: ${keys.length}`, ...lines.map((line) => `  ${line}`)];
+  }));
 }
 
 function reached({ graph, entries }: Context) {
   const keys = graph.reached(entries);
   const files = graph.listed.map(({ specifier }) => specifier).filter((key) => keys.has(key));
   const notes = gapsNote(graph.gaps(keys));
-  return { lines: fileLines(files), data: { entries, reached: files }, notes, isFinding: notes.length > 0 };
+  return { lines: files.map(shownPath), data: { entries, reached: files }, notes, isFinding: notes.length > 0 };
 }
 
 /** @throws {UsageFault} no file is there */
@@ -171,15 +166,7 @@ function stepData({ module, by, builtAs }: Step) {
 
 function dependents({ graph, values }: Context) {
   const files = graph.dependents(canonicalUrl(String(values.dependents)));
-  return { lines: fileLines(files), data: { dependents: files } };
-}
-
-function dot(context: Context) {
-  return drawn(dotText, context);
-}
-
-function mermaid(context: Context) {
-  return drawn(mermaidText, context);
+  return { lines: files.map(shownPath), data: { dependents: files } };
 }
 
 function drawn(draw: typeof dotText, context: Context) {

@@ -3,12 +3,12 @@
 import { parseArgs } from "node:util";
 import type { ParseArgsConfig } from "node:util";
 
-import { GlobFault } from "../../files/globs.js";
-import { readOwnFile } from "../../files/own_files.js";
-import { programName } from "../../files/program.js";
-import { EntryFault } from "../../graph/entry_points.js";
-import { readJobs as processors } from "../../runtime/call_options.js";
-import { printable, printableLines } from "../../runtime/printable.js";
+import { GlobFault } from "../files/globs.js";
+import { readOwnFile } from "../files/own_files.js";
+import { programName } from "../files/program.js";
+import { EntryFault } from "../graph/entry_points.js";
+import { readJobs as processors } from "../runtime/call_options.js";
+import { printable, printableLines } from "../runtime/printable.js";
 import { OutputFault, writeOutput } from "./standard_output.js";
 
 const MOST_JOBS = 9999;
@@ -16,36 +16,28 @@ const MOST_JOBS = 9999;
 /** A usage error. */
 export class UsageFault extends Error {}
 
+/** Options without a value, as node's `parseArgs` has them. */
+export function flags<Name extends string>(...names: Name[]) {
+  return Object.fromEntries(names.map((name) => [name, { type: "boolean" }])) as Record<Name, { type: "boolean" }>;
+}
+
 interface Program<V extends Values> {
   /** As the package has it */
   name: string;
   help: string;
   /** Those of node's `parseArgs`, but for `help` and `version` */
   options: ParseArgsConfig["options"];
-  /** What may follow options that need no value, after `=` */
-  choices?: Record<string, string[]>;
+  /** Words of options that need no value with one, after `=` */
+  choices?: string[];
   /** Returns the status */
   main: (words: Words<V>) => Promise<number>;
 }
 
-/** The values of all options that the commands share. */
-export interface Values {
-  help?: boolean;
-  version?: boolean;
-  jobs?: string;
-  all?: boolean;
-  follow?: boolean;
-  null?: boolean;
-  cache?: string;
-  entry?: string[];
-  exclude?: string[];
-  ignore?: string[];
-  gitignore?: boolean;
-  types?: boolean;
-  "no-dynamic"?: boolean;
-  tsconfig?: string;
-  conditions?: string[];
-}
+/** The values of the options that the commands share. */
+export type Values =
+  & { [name in "help" | "version" | "all" | "follow" | "null" | "gitignore" | "types" | "no-dynamic"]?: boolean }
+  & { [name in "jobs" | "tsconfig"]?: string }
+  & { [name in "entry" | "exclude" | "ignore" | "conditions"]?: string[] };
 
 export interface Words<V extends Values = Values> {
   values: V;
@@ -79,18 +71,12 @@ export async function runProgram<V extends Values>(program: Program<V>) {
   }
 }
 
-function readWords<V extends Values>({ help, options, choices = {} }: Program<V>): Words<V> {
+function readWords<V extends Values>({ help, options, choices = [] }: Program<V>): Words<V> {
   const words = process.argv.slice(2);
   const end = words.includes("--") ? words.indexOf("--") : words.length;
-  const chosen: Record<string, string> = {};
-  const args = words.map((word, at) => {
-    const [, name, choice] = /^--([^=]+)=(.*)$/s.exec(word) ?? [];
-    if (at >= end || !Object.hasOwn(choices, name) || !choices[name].includes(choice)) {
-      return word;
-    }
-    chosen[name] = choice;
-    return `--${name}`;
-  });
+  const isChoice = (word: string, at: number) => at < end && choices.includes(word);
+  const chosen = Object.fromEntries(words.filter(isChoice).map((word) => word.slice(2).split("=")));
+  const args = words.map((word, at) => (isChoice(word, at) ? word.replace(/=.*/s, "") : word));
   try {
     const { values, positionals } = parseArgs({
       args,
@@ -108,7 +94,7 @@ async function printHelp(name: string, help: string, { values }: Words) {
   if (values.help) {
     await writeOutput(help);
   } else if (values.version) {
-    const own = new URL("../../../package.json", import.meta.url);
+    const own = new URL("../../package.json", import.meta.url);
     const { version } = JSON.parse(readOwnFile(own));
     await writeOutput(`${name} ${version} (${printable(programName())})\n`);
   }
@@ -120,10 +106,7 @@ export function usageOf(help: string): string {
   return help.slice(0, help.indexOf("\n\n"));
 }
 
-/**
- * How many processes parse at most.
- * @returns one for each processor; where the word is a smaller number, as many
- */
+/** How many processes parse at most: one for each processor; where the word is a smaller number, as many. */
 export function readJobs(word: string | undefined): number {
   const most = word === undefined ? MOST_JOBS : Number(/^[1-9]\d{0,3}$/.exec(word)?.[0]);
   if (Number.isNaN(most)) {

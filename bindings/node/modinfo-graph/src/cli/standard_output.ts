@@ -1,6 +1,6 @@
 /** The standard output, whose failure ends a program. */
 
-import { systemMessage } from "../../runtime/faults.js";
+import { systemMessage } from "../runtime/faults.js";
 
 export class OutputFault extends Error {
   /** Whether its reader has ended, as `head` does. */
@@ -24,18 +24,14 @@ export class OutputLines {
 
   /**
    * @param line with its end
-   * @returns where it has to be waited for, or an earlier line wasn't written:
-   *   rejected with an `OutputFault`
+   * @returns where it has to be waited for, or an earlier line wasn't written: rejected with an `OutputFault`
    */
   write(line: string): Promise<void> | undefined {
-    if (this.#hasFailed) {
-      return this.#written;
-    }
     if (this.#waiting === "") {
       setImmediate(() => this.#flush());
     }
     this.#waiting += line;
-    return this.#waiting.length < PIECE ? undefined : this.end();
+    return this.#waiting.length < PIECE && !this.#hasFailed ? undefined : this.end();
   }
 
   /** @returns once all lines are written; rejected with an `OutputFault` */
@@ -47,7 +43,7 @@ export class OutputLines {
   #flush() {
     const text = this.#waiting;
     this.#waiting = "";
-    if (text !== "") {
+    if (text !== "" && !this.#hasFailed) {
       this.#written = Promise.all([this.#written, writeOutput(text)]).then(() => {});
       this.#written.catch(() => {
         this.#hasFailed = true;
@@ -57,7 +53,7 @@ export class OutputLines {
 }
 
 /** @returns once it is written; rejected with an `OutputFault` */
-export function writeOutput(text: string | Uint8Array): Promise<void> {
+export function writeOutput(text: string): Promise<void> {
   return new Promise((resolve, reject) => {
     process.stdout.write(text, (error) => (error ? reject(new OutputFault(error)) : resolve()));
   });

@@ -1,0 +1,91 @@
+/**
+ * Options in the member `modinfo` of the current folder's package.json. Others may have written it: it can't name
+ * files outside of the folder, and has no options that write a file or run a program.
+ */
+
+import { resolve as absolute, sep } from "node:path";
+
+import { readRegularFile } from "../files/regular_file.js";
+import { realPath } from "../files/urls.js";
+import { UsageFault } from "./command_line.js";
+import type { Values, Words } from "./command_line.js";
+
+/** The most bytes of a package.json: 4 MiB. */
+const MAX_BYTES = 4 * 2 ** 20;
+
+type Test = (value: unknown) => boolean;
+
+const isFlag: Test = (value) => typeof value === "boolean";
+const isText: Test = (value) => typeof value === "string";
+const isTexts: Test = (value) => Array.isArray(value) && value.every(isText);
+const isKnown: Test = (value) => {
+  return typeof value === "object" && value !== null && Object.values(value).every(isTexts);
+};
+
+/** By their names, whether a value is one of an option. */
+const OPTIONS: Record<string, Test> = {
+  paths: isTexts, entry: isTexts, exclude: isTexts, ignore: isTexts, conditions: isTexts, forbid: isTexts,
+  tsconfig: isText, types: isFlag, "no-dynamic": isFlag, cycles: (value) => isFlag(value) || value === "runs",
+  missing: isFlag, unreached: isFlag, packages: isFlag, known: isKnown,
+};
+
+/** Those that name files. */
+const FILES = ["paths", "entry", "tsconfig"];
+
+/** The questions, which count only where the words have neither one nor an entry or a path. */
+const QUESTIONS = ["cycles", "missing", "unreached", "packages", "forbid"];
+
+/** `known` has the findings that aren't reported, by their questions */
+type ProjectOptions = { known?: Record<string, string[]>, paths?: string[] };
+
+/**
+ * Adds the options of package.json to words, which go before them.
+ * @param isAsked whether the words have a question, an entry or a path
+ * @throws {UsageFault} an option isn't known, has another value, or names a file outside of the folder
+ */
+export function withProjectOptions<V extends Values>(
+  { values, positionals }: Words<V>, isAsked: boolean,
+): Words<V> & Required<Pick<ProjectOptions, "known">> {
+  const { known = {}, paths = [], ...options }: ProjectOptions =
+    Object.fromEntries(Object.entries(readMember()).map(([name, value]) => [name, valueOf(name, value)]));
+  const counting = Object.entries(options).filter(([name, value]) => {
+    return value !== false && !(isAsked && QUESTIONS.includes(name));
+  });
+  return {
+    values: { ...Object.fromEntries(counting), ...values },
+    positionals: positionals.length > 0 ? positionals : paths, known,
+  };
+}
+
+function readMember(): object {
+  try {
+    const { modinfo } = JSON.parse(String(readRegularFile("package.json", MAX_BYTES)));
+    return typeof modinfo === "object" ? modinfo ?? {} : {};
+  } catch {
+    // There is none, or it is no JSON: the resolution of names warns of that.
+    return {};
+  }
+}
+
+function valueOf(name: string, value: unknown): unknown {
+  if (!Object.hasOwn(OPTIONS, name)) {
+    const all = Object.keys(OPTIONS).join(", ");
+    throw new UsageFault(`package.json: modinfo has no option ${name}: the options are ${all}`);
+  }
+  const all = isText(value) && OPTIONS[name] === isTexts ? [value] : value;
+  if (!OPTIONS[name](all)) {
+    throw new UsageFault(`package.json: the option ${name} of modinfo has an invalid value`);
+  }
+  if (FILES.includes(name)) {
+    [all].flat().forEach((path) => checkInside(String(path)));
+  }
+  return all;
+}
+
+function checkInside(path: string) {
+  const folder = realPath(".") ?? absolute(".");
+  const real = realPath(absolute(path)) ?? absolute(folder, path);
+  if (path === "-" || !`${real}${sep}`.startsWith(folder.endsWith(sep) ? folder : folder + sep)) {
+    throw new UsageFault(`package.json: modinfo names ${path}, which is outside its folder`);
+  }
+}

@@ -1,0 +1,137 @@
+/** Reads the files of a command, each for a line or all into a graph. */
+
+import { resolve as absolute } from "node:path";
+import { Readable } from "node:stream";
+
+import { exclusionsOf } from "../files/exclusions.js";
+import { findFiles, readPaths } from "../files/find_files.js";
+import { readFiles } from "../files/read_files.js";
+import { readProject } from "../graph/project_graph.js";
+import { flags, readJobs } from "./command_line.js";
+import { FileReporter } from "./reporter.js";
+import type { Found } from "../files/find_files.js";
+import type { FileResult } from "../files/read_files.js";
+import type { ProjectGraph } from "../graph/project_graph.js";
+import type { ReadFile } from "../graph/read_graph.js";
+import type { ResolverOptions } from "../graph/resolver.js";
+import type { Values } from "./command_line.js";
+
+const [text, texts] = [{ type: "string" }, { type: "string", multiple: true }] as const;
+
+/** The options of a program that reads many files into a graph, as node's `parseArgs` has them. */
+export const RUN_OPTIONS = {
+  ...flags("all", "follow", "gitignore", "types", "no-dynamic"), null: { type: "boolean", short: "0" },
+  jobs: text, tsconfig: text, entry: texts, exclude: texts, ignore: texts, conditions: texts,
+} as const;
+
+/** What these options mean, for the help of a command. */
+export const ENTRY_HELP = `\
+  --entry FILE       where a program begins: a module, a page, or a folder with a package.json
+  --exclude GLOB     doesn't list files and folders, as "*.test.ts" or "src/**/old"; follows them
+  --ignore GLOB      neither lists them nor follows them
+  --gitignore        doesn't list what git ignores
+  --all              also what is in node_modules and in folders that begin with a dot
+  --follow           also files outside of PATH that links in it lead to
+  --jobs N           processes that parse; else one for each processor, which is the most
+`;
+export const RESOLUTION_HELP = `\
+  --types            counts types, JSDoc and references too, and not only what runs
+  --no-dynamic       doesn't count import(..)
+  --tsconfig FILE    for all files, in place of the nearest tsconfig.json
+  --conditions NAME  a condition of "exports" and "imports", as browser
+`;
+
+/** How many paths are looked up ahead of the files that are read. */
+const AHEAD = 1_000_000;
+
+export interface Run<V extends Values = Values> {
+  /** The program's */
+  name: string;
+  /** Those of its options */
+  values: V;
+  paths: string[];
+  /** The path of `modinfo` */
+  program: string;
+}
+
+/**
+ * Reads the files of some paths, and prints what is wrong with them.
+ * @param write is called for each file in turn
+ * @returns the status
+ */
+export async function runLines(
+  run: Run, write: (result: FileResult, reporter: FileReporter) => Promise<void> | undefined,
+): Promise<number> {
+  const { name, values, program } = run;
+  const { all, follow } = values;
+  const options = { program, jobs: readJobs(values.jobs) };
+  const reporter = new FileReporter(name, !process.stdout.isTTY);
+  const { paths, roots } = namedPaths(run);
+  const { isLeftOut: isExcluded } = await exclusionsOf(values, roots);
+  const files = findFiles(paths, { all, follow, roots, isExcluded });
+  for await (const result of readFiles(ahead(files, reporter), options)) {
+    reporter.report(result);
+    if (!result.isLeft) {
+      await write(result, reporter);
+    }
+  }
+  reporter.end(run.paths);
+  return reporter.status;
+}
+
+/** `status` is 1 if a file can't be read, or an entry isn't there */
+export type GraphRun = ProjectGraph & { status: number };
+
+interface Reading {
+  /** Whether excluded files are read too, for what they lead to. */
+  excluded: boolean;
+  /** Whether declaration files are looked for; true where it is missing. */
+  declarations?: boolean;
+  onRead?: (result: ReadFile) => void;
+}
+
+export async function readRun(run: Run, { excluded, declarations, onRead }: Reading): Promise<GraphRun> {
+  const { name, program, paths, values } = run;
+  const { all, types, exclude, ignore, gitignore, follow: links, entry: entries = [] } = values;
+  const reporter = new FileReporter(name, true);
+  const read = await readProject({
+    ...namedPaths(run), program, jobs: readJobs(values.jobs), entries, all, types, dynamic: !values["no-dynamic"],
+    exclude, ignore, gitignore, links, excluded, resolver: { ...resolverOptions(values), declarations },
+    ahead: (walked) => ahead(walked, reporter),
+    onRead: (result, isExcluded) => {
+      reporter.notice(result.notices);
+      // What is wrong with an excluded file counts where it is reached alone.
+      reporter.report(isExcluded ? { path: result.path } : result);
+      onRead?.(result);
+    },
+  });
+  read.absent.forEach((each) => reporter.warn(`${each}: entry not found`));
+  reporter.end(paths);
+  return { ...read, status: read.absent.length > 0 ? 1 : reporter.status };
+}
+
+/** How names are resolved, by the words. */
+export function resolverOptions({ types = false, tsconfig, conditions }: Values): ResolverOptions {
+  return { types, tsconfig: tsconfig === undefined ? undefined : absolute(tsconfig), conditions };
+}
+
+/** The same files, looked up long before they are read where the progress, which counts them, is shown. */
+function ahead(files: AsyncIterable<Found>, reporter: FileReporter): AsyncIterable<Found> {
+  const counted = async function* () {
+    for await (const file of files) {
+      reporter.find();
+      yield file;
+    }
+  };
+  return reporter.isShown ? Readable.from(counted(), { highWaterMark: AHEAD }) : files;
+}
+
+/** The paths that are named by the words or on the standard input, and those of the words. */
+function namedPaths({ paths: words, values }: Run): { paths: AsyncIterable<string>, roots: string[] } {
+  const paths = async function* () {
+    for (const path of words) {
+      yield* path === "-" ? readPaths(process.stdin, values.null ? "\0" : "\n") : [path];
+    }
+  };
+  return { paths: paths(), roots: words.filter((path) => path !== "-") };
+}
