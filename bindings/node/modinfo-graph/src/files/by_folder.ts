@@ -2,14 +2,21 @@
 
 import { dirname } from "node:path";
 
-/** @returns like the function, which is called once for each key */
-export function memoized<Key, Value>(make: (key: Key) => Value): (key: Key) => Value {
-  const known = new Map<Key, Value>();
+/**
+ * @param known what is remembered
+ * @returns like the function, which is called once for each key
+ */
+export function memoized<Key, Value>(
+  make: (key: Key) => Value, known: Map<Key, Value> = new Map(),
+): (key: Key) => Value {
   return (key) => {
-    if (!known.has(key)) {
-      known.set(key, make(key));
+    const value = known.get(key);
+    if (value !== undefined || known.has(key)) {
+      return value as Value;
     }
-    return known.get(key) as Value;
+    const made = make(key);
+    known.set(key, made);
+    return made;
   };
 }
 
@@ -29,20 +36,20 @@ export function foldersFrom(folder: string): string[] {
 export function nearest<Value>(
   find: (folder: string) => Value | null | undefined,
 ): (folder: string) => Value | undefined {
-  const known = new Map<string, Value | null>();
-  return (folder) => {
+  const known = new Map<string, Value | undefined>();
+  return memoized((folder) => {
     const passed: string[] = [];
     let found: Value | null | undefined;
-    for (const each of known.has(folder) ? [folder] : foldersFrom(folder)) {
-      found = known.has(each) ? known.get(each) : find(each);
+    for (const each of foldersFrom(folder)) {
+      found = known.has(each) ? known.get(each) ?? null : find(each);
       passed.push(each);
       if (found !== undefined) {
         break;
       }
     }
-    passed.forEach((each) => known.set(each, found ?? null));
+    passed.forEach((each) => known.set(each, found ?? undefined));
     return found ?? undefined;
-  };
+  }, known);
 }
 
 /**
@@ -53,12 +60,12 @@ export function inherited<Value>(
   make: (folder: string, above: Value | undefined) => Value,
 ): (folder: string) => Value {
   const known = new Map<string, Value>();
-  return (folder) => {
-    let above = known.get(folder);
-    for (const each of known.has(folder) ? [] : foldersFrom(folder).reverse()) {
+  return memoized((folder) => {
+    let above: Value | undefined;
+    for (const each of foldersFrom(folder).reverse()) {
       above = known.has(each) ? known.get(each) : make(each, above);
       known.set(each, above as Value);
     }
     return above as Value;
-  };
+  }, known);
 }

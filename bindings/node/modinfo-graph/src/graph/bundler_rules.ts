@@ -34,7 +34,7 @@ const LOADERS = /^.*!/s;
 /** What names of files for one platform alone have before their endings. */
 export const PLATFORMS = [".ios", ".android", ".native", ".web", ".windows", ".macos"];
 
-/** The members of a package.json that have files in the place of others. */
+/** The members of a package.json that have files in the place of others, that for browsers first. */
 const REPLACING = ["browser", "react-native"];
 
 /** The members of a package.json that name a main module, besides node's. */
@@ -82,17 +82,17 @@ export class BundlerRules {
    * @returns an absolute path without what is added to names, or another package's name; false for nothing
    */
   replacement(manifest: Manifest | undefined, key: string): string | false | undefined {
-    return manifest && this.replaced(manifest).browser.get(key);
+    return manifest && this.replaced(manifest)[0].get(key);
   }
 
   /** Like `replacement`, by all members like `browser`; absolute paths alone. */
   replacements(manifest: Manifest | undefined, key: string): string[] {
-    const all = manifest ? Object.values(this.replaced(manifest)) : [];
+    const all = manifest ? this.replaced(manifest) : [];
     return all.flatMap((each) => each.get(key) || []).filter((target) => target.startsWith("/"));
   }
 
   private readonly replaced = memoized((manifest: Manifest) => {
-    return Object.fromEntries(REPLACING.map((member) => [member, replacementsOf(manifest, member)]));
+    return REPLACING.map((member) => replacementsOf(manifest, member));
   });
 
   private firstFile(paths: string[]): Found | undefined {

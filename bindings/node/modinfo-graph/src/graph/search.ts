@@ -227,8 +227,11 @@ export class Search {
 
   /** The TypeScript file of a relative name in one. */
   private bySource(specifier: string, importer: Importer): Run | undefined {
+    if (!importer.isTypeScript || !isRelative(specifier)) {
+      return undefined;
+    }
     const wanted = pathOf(specifier, dirname(importer.path));
-    const [path] = importer.isTypeScript && isRelative(specifier) ? this.filesAt([wanted], importer) : [];
+    const [path] = this.filesAt([wanted], importer);
     if (path === undefined || isDeclaration(path) || !isTypeScript(path)) {
       return undefined;
     }

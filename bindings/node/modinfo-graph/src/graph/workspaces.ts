@@ -42,6 +42,9 @@ export class Workspaces {
   }
 
   private pnpmPatterns(folder: string): string[] {
+    if (this.files.in(folder, PNPM).kind !== "file") {
+      return [];
+    }
     try {
       const [, list = ""] = PACKAGES.exec(`${this.files.read(join(folder, PNPM))}\n`) ?? [];
       return [...list.matchAll(ITEM)].map(([, pattern]) => pattern.trim());
