@@ -2,11 +2,13 @@
 
 import { dirname, join, resolve as absolute } from "node:path";
 
+import { foldersFrom, memoized, nearest } from "../files/by_folder.js";
 import { matchesPath } from "../files/wildcards.js";
 import { parseWithComments } from "./json_with_comments.js";
+import { Notices, firstIn, isThere, membersAt } from "./members.js";
 import { isPath } from "./names.js";
 import { isObject } from "./package_targets.js";
-import type { Entry, RegularFiles } from "../files/regular_files.js";
+import type { RegularFiles } from "../files/regular_files.js";
 
 /** In the order in which a folder is looked through. */
 const NAMES = ["tsconfig.json", "jsconfig.json"];
@@ -19,22 +21,21 @@ const MAX_MERGED = 1000;
 
 /** What a configuration includes that says nothing about it. */
 const ALL = ["**/*"];
-const NEVER = ["node_modules", "bower_components", "jspm_packages"];
+const MODULES = "node_modules";
+const NEVER = [MODULES, "bower_components", "jspm_packages"];
 
-const HAS_WILDCARD = /[*?]/;
-const HAS_EXTENSION = /\.[^./]+$/;
-const MODULES = "/node_modules/";
+const HAS_WILDCARD_OR_EXTENSION = /[*?]|\.[^./]+$/;
 
 /** Stands for the folder of the configuration that extends all others. */
 const CONFIG_DIR = /^\$\{configDir\}/i;
 
 /** Those that decide what names lead to, with absolute paths */
 export interface Options {
-  baseUrl?: string;
   /** Targets by the patterns of names, as they are written */
   paths?: Map<string, string[]>;
   /** The folder of the configuration that has `paths` */
   pathsFolder?: string;
+  baseUrl?: string;
   rootDirs?: string[];
   rootDir?: string;
   outDir?: string;
@@ -45,19 +46,28 @@ export interface Options {
   jsxImportSource?: string;
 }
 
-/** Before all are merged: null takes an inherited option away */
-type OwnOptions = { [Name in keyof Options]: Options[Name] | null };
+/** Which files a configuration includes, where it says so */
+interface Lists {
+  files?: string[];
+  include?: string[];
+  exclude?: string[];
+}
 
 /** A configuration together with those that it extends */
 interface Extended {
-  options: OwnOptions;
+  /** Of which null takes an inherited one away */
+  options: { [Name in keyof Options]: Options[Name] | null };
   /** Of `files`, `include` and `exclude` absolute patterns */
-  members: Record<string, unknown>;
+  members: Lists & { references?: unknown };
   /** Whether one of them extends another one that extends it */
   isInLoop: boolean;
 }
 
-export interface Configuration {
+/** The configurations that are known, and how many were merged */
+type Merged = { known: Map<string, Extended>, count: number };
+
+/** Its lists have absolute patterns */
+export interface Configuration extends Required<Lists> {
   /** Of its file */
   path: string;
   folder: string;
@@ -65,144 +75,84 @@ export interface Configuration {
   options: Options;
   /** The paths of the configurations that it refers to */
   references: string[];
-  /** absolute */
-  files: string[];
-  /** Absolute patterns */
-  include: string[];
-  /** Absolute patterns */
-  exclude: string[];
 }
 
 export class Configurations {
-  #files;
-  #fixed;
-  #byFolder: Map<string, Configuration | undefined> = new Map();
-  #byFile: Map<string, { configuration: Configuration, isIncluded: boolean }> = new Map();
-  #byPath: Map<string, Configuration> = new Map();
-  #noticed: Set<string> = new Set();
-  #notices: string[] = [];
+  readonly notices = new Notices();
 
   /** @param fixed the absolute path of a configuration for all files */
-  constructor(files: RegularFiles, fixed?: string) {
-    this.#files = files;
-    this.#fixed = fixed;
-  }
+  constructor(private readonly files: RegularFiles, private readonly fixed?: string) {}
 
   /**
-   * The configuration for a file: the nearest one or, where that refers to others and doesn't
-   * include the file itself, the first one of these that does.
-   * @param file absolute
-   * @returns nothing for the file of an installed package
+   * The configuration for a file: the nearest one or, where that refers to others and doesn't include the file
+   * itself, the first one of these that does; none for an installed file. And whether it includes the file, or is
+   * for all files.
    */
-  of(file: string): Configuration | undefined {
-    return this.#entryOf(file)?.configuration;
-  }
+  readonly of = memoized((file: string): { configuration?: Configuration, isIncluded: boolean } => {
+    const all = file.includes("/node_modules/") ? [] : this.allOf(dirname(file));
+    const including = all.find((each) => includes(each, file));
+    const isFixed = all.length > 0 && this.fixed !== undefined;
+    return { configuration: including ?? all[0], isIncluded: including !== undefined || isFixed };
+  });
 
-  /**
-   * Whether the configuration for a file includes the file, or is for all files.
-   * @param file absolute
-   */
-  isIncluded(file: string): boolean {
-    return this.#entryOf(file)?.isIncluded ?? false;
-  }
-
-  #entryOf(file: string) {
-    const nearest = file.includes(MODULES) ? undefined : this.#nearestOrFixed(dirname(file));
-    let found = this.#byFile.get(file);
-    if (nearest && !found) {
-      const including = this.#withReferences(nearest).find((each) => includes(each, file));
-      const isIncluded = including !== undefined || this.#fixed !== undefined;
-      found = { configuration: including ?? nearest, isIncluded };
-      this.#byFile.set(file, found);
-    }
-    return found;
-  }
-
-  /**
-   * The nearest configuration of a folder, with those that it refers to.
-   * @param folder absolute
-   */
+  /** The nearest configuration of a folder, with those that it refers to, each once. */
   allOf(folder: string): Configuration[] {
-    const nearest = this.#nearestOrFixed(folder);
-    return nearest ? this.#withReferences(nearest) : [];
-  }
-
-  /** What was found wrong since the last call. */
-  takeNotices(): string[] {
-    return this.#notices.splice(0);
-  }
-
-  #nearestOrFixed(folder: string): Configuration | undefined {
-    return this.#fixed === undefined ? this.#nearest(folder) : this.#read(this.#fixed);
-  }
-
-  #nearest(folder: string): Configuration | undefined {
-    if (!this.#byFolder.has(folder)) {
-      const name = NAMES.find((each) => isThere(this.#files.in(folder, each)));
-      const parent = dirname(folder);
-      const above = () => (parent === folder ? undefined : this.#nearest(parent));
-      this.#byFolder.set(folder, name ? this.#read(join(folder, name)) : above());
-    }
-    return this.#byFolder.get(folder);
-  }
-
-  /** @returns each once */
-  #withReferences(root: Configuration): Configuration[] {
-    const found = new Map([[root.path, root]]);
+    const own = this.fixed === undefined ? this.nearest(folder) : this.read(this.fixed);
+    const found = new Map<string, Configuration>(own && [[own.path, own]]);
     for (const { references } of found.values()) {
-      for (const path of references.filter((each) => this.#isThere(each))) {
-        if (!found.has(path)) {
-          found.set(path, this.#read(path));
-        }
-      }
+      references.filter((path) => isThere(path, this.files)).forEach((path) => found.set(path, this.read(path)));
     }
     return [...found.values()];
   }
 
-  #isThere(path: string) {
-    return isThere(this.#files.at(path));
-  }
+  private readonly nearest = nearest((folder) => {
+    const path = firstIn(folder, NAMES, this.files);
+    return path === undefined ? undefined : this.read(path);
+  });
 
-  #read(path: string): Configuration {
-    let configuration = this.#byPath.get(path);
-    if (!configuration) {
-      const { options, members } = this.#extended(path, [], { known: new Map(), count: 0 });
-      const references = this.#referencesOf(path, members.references);
-      configuration = configurationOf(path, without(null, options) as Options, members, references);
-      this.#byPath.set(path, configuration);
-    }
-    return configuration;
-  }
+  private readonly read = memoized((path: string): Configuration => {
+    const { options, members } = this.extended(path, [], { known: new Map(), count: 0 });
+    const { files, include, exclude } = members;
+    const folder = dirname(path);
+    const set = Object.entries(options).filter(([, value]) => value !== null);
+    const own: Options = Object.fromEntries(set);
+    const inFolder = (patterns: string[]) => patterns.map((each) => absolute(folder, each));
+    return {
+      path, folder, options: own,
+      references: this.referencesOf(path, members.references),
+      files: files ?? [],
+      include: include ?? (files ? [] : inFolder(ALL)),
+      exclude: exclude ?? [...inFolder(NEVER), ...outDirsOf(own)],
+    };
+  });
 
   /**
    * The options and other members of a configuration, together with those that it extends.
    * @param extending the paths of those that lead to it
-   * @param merged those that are known, and how many were merged
    */
-  #extended(path: string, extending: string[], merged: { known: Map<string, Extended>, count: number }): Extended {
+  private extended(path: string, extending: string[], merged: Merged): Extended {
     const known = merged.known.get(path);
     if (known) {
       return known;
     }
     merged.count++;
-    const members = this.#membersOf(path);
+    const members = membersAt(path, parseWithComments, this.files, this.notices);
     const paths = [...extending, path];
     const main = dirname(paths[0]);
     const all: Extended = { options: {}, members: {}, isInLoop: false };
     for (const name of [members.extends ?? []].flat()) {
-      const other = this.#extendedPath(name, path);
+      const other = this.extendedPath(name, path);
       const isInLoop = other !== undefined && (paths.includes(other) || paths.length > MAX_EXTENDED);
-      const inherited = other === undefined || isInLoop ? undefined : this.#extended(other, paths, merged);
+      const inherited = other === undefined || isInLoop ? undefined : this.extended(other, paths, merged);
       all.isInLoop ||= isInLoop || (inherited?.isInLoop ?? false);
-      if (inherited) {
-        Object.assign(all.options, inherited.options);
-        Object.assign(all.members, inherited.members, { references: undefined });
-      } else {
+      Object.assign(all.options, inherited?.options);
+      Object.assign(all.members, inherited?.members);
+      if (!inherited) {
         const shown = typeof name === "string" ? JSON.stringify(name) : "a value that isn't a string";
-        this.#note(path, `"extends" has ${shown}, which isn't found or extends this file`);
+        this.notices.add(path, `"extends" has ${shown}, which isn't found or extends this file`);
       }
     }
-    Object.assign(all.options, this.#optionsOf(path, members.compilerOptions, main));
+    Object.assign(all.options, optionsOf(path, members.compilerOptions, main, this.notices));
     Object.assign(all.members, listsOf(members, dirname(path), main), { references: members.references });
     // What a loop leaves out depends on where it is entered.
     if (!all.isInLoop || merged.count > MAX_MERGED) {
@@ -211,192 +161,111 @@ export class Configurations {
     return all;
   }
 
-  /** @returns none where it can't be read */
-  #membersOf(path: string): Record<string, unknown> {
-    try {
-      const members = parseWithComments(this.#files.read(path));
-      if (isObject(members)) {
-        return members;
-      }
-      this.#note(path, "ignored: not an object");
-    } catch (error) {
-      this.#note(path, `ignored: ${(error as Error).message}`);
-    }
-    return {};
-  }
-
-  /**
-   * The path of what a configuration extends.
-   * @param path of the configuration
-   */
-  #extendedPath(name: unknown, path: string): string | undefined {
+  /** The path of what the configuration at a path extends. */
+  private extendedPath(name: unknown, path: string): string | undefined {
     if (typeof name !== "string") {
       return undefined;
     }
-    const hasPath = isPath(name);
-    const places = hasPath ? [absolute(dirname(path), name)] : inModules(dirname(path), name);
-    const endings = hasPath ? ["", ".json"] : ["", ".json", "/tsconfig.json"];
-    return places.flatMap((place) => endings.map((ending) => place + ending))
-      .find((each) => this.#isThere(each));
-  }
-
-  /** @param main the folder of the configuration that extends all */
-  #optionsOf(path: string, options: unknown = {}, main: string): OwnOptions {
-    if (!isObject(options)) {
-      this.#note(path, `"compilerOptions" must be an object`);
-      return {};
-    }
-    const own = new Members(options, (why) => this.#note(path, why));
     const folder = dirname(path);
-    const at = (name: string) => absolute(folder, withFolder(name, main));
-    const placed = (name: string) => mapped(own.text(name), at);
-    const paths = own.paths((target) => withFolder(target, main));
-    return without(undefined, {
-      baseUrl: placed("baseUrl"),
-      paths,
-      pathsFolder: mapped(paths, () => folder),
-      rootDirs: mapped(own.texts("rootDirs"), (names) => names.map(at)),
-      rootDir: placed("rootDir"),
-      outDir: placed("outDir"),
-      declarationDir: placed("declarationDir"),
-      module: mapped(own.text("module"), (word) => word.toLowerCase()),
-      moduleSuffixes: own.texts("moduleSuffixes"),
-      jsxImportSource: own.text("jsxImportSource"),
-    });
+    const [places, endings] = isPath(name)
+      ? [[absolute(folder, name)], ["", ".json"]]
+      : [foldersFrom(folder).map((each) => join(each, MODULES, name)), ["", ".json", "/tsconfig.json"]];
+    return places.flatMap((place) => endings.map((ending) => place + ending))
+      .find((each) => isThere(each, this.files));
   }
 
-  #referencesOf(path: string, references: unknown = []): string[] {
+  private referencesOf(path: string, references: unknown = []): string[] {
     const paths = [references].flat().map((each) => (isObject(each) ? each.path : undefined));
-    const texts = paths.flatMap((each) => (typeof each === "string" ? [each] : []));
+    const texts = paths.filter((each): each is string => typeof each === "string");
     if (texts.length < paths.length) {
-      this.#note(path, `"references" has more than objects with a "path"`);
+      this.notices.add(path, `"references" has more than objects with a "path"`);
     }
     return texts.map((each) => absolute(dirname(path), each))
-      .map((each) => (this.#files.at(each).kind === "folder" ? join(each, NAMES[0]) : each));
-  }
-
-  #note(path: string, why: string) {
-    const notice = `${path}: ${why}`;
-    if (!this.#noticed.has(notice)) {
-      this.#noticed.add(notice);
-      this.#notices.push(notice);
-    }
+      .map((each) => (this.files.at(each).kind === "folder" ? join(each, NAMES[0]) : each));
   }
 }
 
-/** The members of an object of which each has to be null or have a shape; undefined without the member. */
-class Members {
-  #members;
-  #note;
-
-  constructor(members: Record<string, unknown>, note: (why: string) => void) {
-    this.#members = members;
-    this.#note = note;
-  }
-
-  text(name: string): string | null | undefined {
-    return this.#shaped(name, (value) => (typeof value === "string" ? value : undefined), "a string");
-  }
-
-  /** @returns also where it is one text */
-  texts(name: string): string[] | null | undefined {
-    return this.#shaped(name, textsOf, "a list of strings");
-  }
-
-  paths(targetOf: (target: string) => string): Map<string, string[]> | null | undefined {
-    const paths = this.#shaped("paths", (value) => (isObject(value) ? value : undefined), "an object");
-    if (!paths) {
-      return paths;
-    }
-    const found = new Map();
-    for (const [pattern, targets] of Object.entries(paths)) {
-      const texts = Array.isArray(targets) ? textsOf(targets) : undefined;
-      if (texts) {
-        found.set(pattern, texts.map(targetOf));
-      } else {
-        this.#note(`${JSON.stringify(pattern)} of "paths" is ignored: not a list of strings`);
-      }
-    }
-    return found;
-  }
-
-  #shaped<Shape>(
-    name: string, shaped: (value: unknown) => Shape | undefined, shape: string,
-  ): Shape | null | undefined {
-    const member = Object.hasOwn(this.#members, name) ? this.#members[name] : undefined;
-    if (member === undefined || member === null) {
-      return member;
-    }
-    const value = shaped(member);
-    if (value === undefined) {
-      this.#note(`${JSON.stringify(name)} is ignored: not ${shape}`);
-    }
-    return value;
-  }
-}
-
-function textsOf(value: unknown) {
-  const list = [value].flat();
-  return list.every((each) => typeof each === "string") ? (list as string[]) : undefined;
-}
-
-function isThere({ kind }: Entry) {
-  return kind === "file" || kind === "other";
-}
-
-/** @returns the folders of the JavaScript and of the declarations */
+/** The folders of the JavaScript and of the declarations. */
 export function outDirsOf({ outDir, declarationDir }: Options): string[] {
   return [outDir, declarationDir].flatMap((each) => each ?? []);
 }
 
-/** Which files a configuration includes, where it says so. */
-interface Lists {
-  files?: string[];
-  include?: string[];
-  exclude?: string[];
+/** Where options are read */
+interface Place {
+  /** The absolute path of one that the file has */
+  at(path: string): string;
+  /** The folder of the configuration that extends all others */
+  main: string;
+  note(why: string): void;
 }
 
-function configurationOf(
-  path: string, options: Options, { files, include, exclude }: Lists, references: string[],
-): Configuration {
+/** The shape that an option has, and what is read of one; nothing where it has another shape */
+type Reader = [shape: string, read: (value: unknown, place: Place) => unknown];
+
+const text = (change: (value: string, place: Place) => string): Reader => {
+  return ["a string", (value, place) => (typeof value === "string" ? change(value, place) : undefined)];
+};
+const PATH = text((value, { at }) => at(value));
+
+const READERS: Record<Exclude<keyof Options, "pathsFolder">, Reader> = {
+  paths: ["an object", pathsOf],
+  baseUrl: PATH,
+  rootDirs: ["a list of strings", (value, { at }) => textsOf(value)?.map(at)],
+  rootDir: PATH,
+  outDir: PATH,
+  declarationDir: PATH,
+  module: text((value) => value.toLowerCase()),
+  moduleSuffixes: ["a list of strings", textsOf],
+  jsxImportSource: text((value) => value),
+};
+
+/** @param main the folder of the configuration that extends all others */
+function optionsOf(path: string, options: unknown = {}, main: string, notices: Notices): Extended["options"] {
+  const note = (why: string) => notices.add(path, why);
+  if (!isObject(options)) {
+    note(`"compilerOptions" must be an object`);
+    return {};
+  }
   const folder = dirname(path);
-  const inFolder = (patterns: string[]) => patterns.map((each) => absolute(folder, each));
-  return {
-    path, folder, options, references,
-    files: files ?? [],
-    include: include ?? (files ? [] : inFolder(ALL)),
-    exclude: exclude ?? [...inFolder(NEVER), ...outDirsOf(options)],
-  };
+  const at = (each: string) => absolute(folder, withFolder(each, main));
+  const own: Record<string, unknown> = {};
+  for (const [name, [shape, read]] of Object.entries(READERS).filter(([each]) => Object.hasOwn(options, each))) {
+    const value = options[name] === null ? null : read(options[name], { at, main, note });
+    if (value === undefined) {
+      note(`${JSON.stringify(name)} is ignored: not ${shape}`);
+    } else {
+      own[name] = value;
+    }
+  }
+  return own.paths === undefined ? own : { ...own, pathsFolder: own.paths && folder };
+}
+
+function pathsOf(paths: unknown, { main, note }: Place): Map<string, string[]> | undefined {
+  return isObject(paths) ? new Map(Object.entries(paths).flatMap(([pattern, targets]) => {
+    const texts = Array.isArray(targets) ? textsOf(targets) : undefined;
+    if (!texts) {
+      note(`${JSON.stringify(pattern)} of "paths" is ignored: not a list of strings`);
+    }
+    return texts ? [[pattern, texts.map((each) => withFolder(each, main))]] : [];
+  })) : undefined;
+}
+
+/** @returns also where it is one text */
+function textsOf(value: unknown): string[] | undefined {
+  const list = [value].flat();
+  return list.every((each): each is string => typeof each === "string") ? list : undefined;
 }
 
 /** @param main the folder of the configuration that extends all */
 function listsOf(members: Record<string, unknown>, folder: string, main: string): Lists {
-  return without(undefined, Object.fromEntries(["files", "include", "exclude"].map((name) => {
+  return Object.fromEntries(["files", "include", "exclude"].flatMap((name) => {
     const texts = Array.isArray(members[name]) ? textsOf(members[name]) : undefined;
-    return [name, texts?.map((each) => absolute(folder, withFolder(each, main)))];
-  })));
+    return texts ? [[name, texts.map((each) => absolute(folder, withFolder(each, main)))]] : [];
+  }));
 }
 
-/** @returns the path with the folder in place of `${configDir}` */
-function withFolder(path: string, folder: string): string {
-  return path.replace(CONFIG_DIR, () => `${folder}/`);
-}
-
-function mapped<From, To>(value: From | null | undefined, change: (value: From) => To): To | null | undefined {
-  return value === null || value === undefined ? (value as null | undefined) : change(value);
-}
-
-/** @returns those with another value */
-function without<T extends object>(absent: null | undefined, members: T): T {
-  return Object.fromEntries(Object.entries(members).filter(([, value]) => value !== absent)) as T;
-}
-
-/** @returns the paths of a name in each `node_modules` above a folder */
-function inModules(folder: string, name: string): string[] {
-  const parent = dirname(folder);
-  const own = join(folder, "node_modules", name);
-  return parent === folder ? [own] : [own, ...inModules(parent, name)];
-}
+/** A path with a folder in the place of `${configDir}`. */
+const withFolder = (path: string, folder: string) => path.replace(CONFIG_DIR, () => `${folder}/`);
 
 /** Whether a configuration includes a file. */
 function includes({ files, include, exclude }: Configuration, file: string) {
@@ -406,7 +275,6 @@ function includes({ files, include, exclude }: Configuration, file: string) {
 
 /** @param pattern of `include` or `exclude`, absolute; a folder has all below it */
 function matchesPattern(pattern: string, file: string) {
-  const last = pattern.slice(pattern.lastIndexOf("/") + 1);
-  const isFile = HAS_EXTENSION.test(last) || HAS_WILDCARD.test(last);
+  const isFile = HAS_WILDCARD_OR_EXTENSION.test(pattern.slice(pattern.lastIndexOf("/") + 1));
   return (isFile && matchesPath(pattern, file)) || matchesPath(join(pattern, "**"), file);
 }

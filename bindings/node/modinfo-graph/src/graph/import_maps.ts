@@ -5,11 +5,13 @@
  */
 
 import { dirname, join } from "node:path";
-import { fileURLToPath, pathToFileURL } from "node:url";
+import { pathToFileURL } from "node:url";
 
+import { inherited, memoized } from "../files/by_folder.js";
 import { isPage } from "../files/file_kinds.js";
-import { urlFrom, urlOfFolder } from "../files/urls.js";
+import { pathOfUrl, urlFrom, urlOfFolder } from "../files/urls.js";
 import { parseWithComments } from "./json_with_comments.js";
+import { Notices, firstIn, membersAt } from "./members.js";
 import { isPath } from "./names.js";
 import { isObject } from "./package_targets.js";
 import { scriptsOf } from "./scripts.js";
@@ -24,50 +26,33 @@ export interface Configured {
   name?: string;
 }
 
+/** By keys, each a URL, or a name where it is none */
+type Targets = Map<string, string>;
+
 interface ImportMap {
   isDeno: boolean;
-  /** Targets by keys, each a URL, or a name where it is none */
-  imports: Map<string, string>;
+  imports: Targets;
   /** The longest first */
-  scopes: [scope: string, imports: Map<string, string>][];
+  scopes: [scope: string, imports: Targets][];
 }
 
 const NAMES = ["deno.json", "deno.jsonc"];
 const REGISTRY = /^(?:jsr|npm):/;
-const MODULES = "/node_modules/";
+const IGNORED = "its import map is ignored";
 
 export class ImportMaps {
-  #files;
-  #byFolder: Map<string, ImportMap | undefined> = new Map();
-  #members: Map<string, Record<string, unknown>> = new Map();
-  #notices: string[] = [];
+  readonly notices = new Notices();
 
-  constructor(files: RegularFiles) {
-    this.#files = files;
+  constructor(private readonly files: RegularFiles) {}
+
+  /** The import map for a file, by its absolute path. */
+  of(file: string): ImportMap | undefined {
+    return file.includes("/node_modules/") ? undefined : this.ofFolder(dirname(file));
   }
 
-  /**
-   * Whether a file is in a project of Deno.
-   * @param file absolute
-   */
-  isDeno(file: string): boolean {
-    return this.#of(file)?.isDeno ?? false;
-  }
-
-  /**
-   * Whether there is an import map for a file.
-   * @param file absolute
-   */
-  hasMap(file: string): boolean {
-    return this.#of(file) !== undefined;
-  }
-
-  /**
-   * What a name is by the import map of a file.
-   * @param importer the path of the file
-   */
+  /** What a name is by the import map of a file. */
   find(specifier: string, importer: string): Configured | undefined {
-    const map = this.#of(importer);
+    const map = this.of(importer);
     if (!map) {
       return undefined;
     }
@@ -76,96 +61,56 @@ export class ImportMaps {
     const scopes = map.scopes.filter(([scope]) => {
       return scope === url.href || (scope.endsWith("/") && url.href.startsWith(scope));
     });
-    for (const imports of [...scopes.map(([, each]) => each), map.imports]) {
-      const target = targetIn(imports, key);
-      if (target !== undefined) {
-        return configuredBy(target);
-      }
-    }
-    return undefined;
+    const [target] = [...scopes.map(([, each]) => each), map.imports].flatMap((each) => targetIn(each, key) ?? []);
+    return target === undefined ? undefined : configuredBy(target);
   }
 
-  /** What was found wrong since the last call. */
-  takeNotices(): string[] {
-    return this.#notices.splice(0);
-  }
-
-  #of(file: string): ImportMap | undefined {
-    return file.includes(MODULES) ? undefined : this.#nearest(dirname(file));
-  }
-
-  #nearest(folder: string): ImportMap | undefined {
-    if (!this.#byFolder.has(folder)) {
-      const path = this.#ownOf(folder);
-      const parent = dirname(folder);
-      const above = parent === folder ? undefined : this.#nearest(parent);
-      const own = path ? this.#mapAt(path) : this.#mapOfPages(folder);
-      this.#byFolder.set(folder, own ? this.#withAbove(own, above) : above);
-    }
-    return this.#byFolder.get(folder);
-  }
+  private readonly ofFolder = inherited<ImportMap | undefined>((folder, above) => {
+    const path = firstIn(folder, NAMES, this.files);
+    const own = path ? this.mapAt(path) : this.mapOfPages(folder);
+    return own ? withAbove(own, above) : above;
+  });
 
   /** The import maps of the pages in a folder, as one. */
-  #mapOfPages(folder: string): ImportMap | undefined {
-    const pages = this.#files.filesIn(folder).filter(isPage);
-    const maps = pages.flatMap((name) => this.#mapsOfPage(join(folder, name)));
-    return maps.length === 0 ? undefined : maps.reduce((one, other) => this.#withAbove(one, other));
+  private mapOfPages(folder: string): ImportMap | undefined {
+    const pages = this.files.filesIn(folder).filter(isPage).map((name) => join(folder, name));
+    const maps = pages.flatMap((path) => this.mapsOfPage(path));
+    return maps.length === 0 ? undefined : maps.reduce(withAbove);
   }
 
-  /** @param path of a page */
-  #mapsOfPage(path: string): ImportMap[] {
+  private mapsOfPage(path: string): ImportMap[] {
     try {
-      const text = this.#files.read(path);
+      const text = this.files.read(path);
       const texts = /importmap/i.test(text) ? scriptsOf(text, path).importMaps : [];
-      const notice = `${path}: its import map is ignored`;
-      return texts.map((each) => this.#mapOf(this.#objectOf(JSON.parse(each), notice), path));
+      return texts.map((each) => this.mapOf(this.objectOf(JSON.parse(each), path, IGNORED), path));
     } catch (error) {
-      this.#notices.push(`${path}: its import map is ignored: ${(error as Error).message}`);
+      this.notices.add(path, `${IGNORED}: ${(error as Error).message}`);
       return [];
     }
   }
 
-  /** A member of a workspace has its own names, and those of the workspace. */
-  #withAbove({ isDeno, imports, scopes }: ImportMap, above: ImportMap | undefined): ImportMap {
-    return {
-      isDeno: isDeno || (above?.isDeno ?? false),
-      imports: new Map([...above?.imports ?? [], ...imports]),
-      scopes: [...scopes, ...above?.scopes ?? []],
-    };
-  }
-
-  /** @returns the path of a deno.json in it */
-  #ownOf(folder: string): string | undefined {
-    const name = NAMES.find((each) => {
-      const { kind } = this.#files.in(folder, each);
-      return kind === "file" || kind === "other";
-    });
-    return name && join(folder, name);
-  }
-
   /** @param path of a deno.json */
-  #mapAt(path: string): ImportMap {
-    const members = this.#membersOf(path);
+  private mapAt(path: string): ImportMap {
+    const members = this.membersOf(path);
     const { importMap, workspace } = members;
     const isFile = typeof importMap === "string" && urlFrom(importMap) === undefined;
     const mapPath = isFile ? join(dirname(path), importMap) : path;
-    const map = this.#mapOf(isFile ? this.#membersOf(mapPath) : members, mapPath);
+    const map = this.mapOf(isFile ? this.membersOf(mapPath) : members, mapPath);
     const folders = Array.isArray(workspace) ? workspace : [];
     for (const folder of folders.filter((each) => typeof each === "string")) {
-      this.#addMember(map, join(dirname(path), folder));
+      this.addMember(map, join(dirname(path), folder));
     }
     return map;
   }
 
   /** Adds the exports of a member of a workspace, under its name. */
-  #addMember(map: ImportMap, folder: string) {
-    const path = this.#ownOf(folder);
-    const { name, exports } = path ? this.#membersOf(path) : { name: undefined, exports: undefined };
+  private addMember(map: ImportMap, folder: string) {
+    const path = firstIn(folder, NAMES, this.files);
+    const { name, exports }: Record<string, unknown> = path ? this.membersOf(path) : {};
     if (typeof name !== "string") {
       return;
     }
-    const all = isObject(exports) ? exports : { ".": exports };
-    for (const [subpath, target] of Object.entries(all)) {
+    for (const [subpath, target] of Object.entries(isObject(exports) ? exports : { ".": exports })) {
       const url = typeof target === "string" ? urlOf(target, urlOfFolder(folder)) : undefined;
       if (url !== undefined) {
         map.imports.set(join(name, subpath), url);
@@ -174,61 +119,54 @@ export class ImportMaps {
   }
 
   /** @param path of the file that has them */
-  #mapOf({ imports, scopes }: Record<string, unknown>, path: string): ImportMap {
+  private mapOf({ imports, scopes }: Record<string, unknown>, path: string): ImportMap {
     const base = pathToFileURL(path);
-    const isDeno = !isPage(path);
-    const all = this.#objectOf(scopes, `${path}: "scopes" is ignored`);
-    const read: [string, Map<string, string>][] = Object.entries(all).map(([scope, each]) => {
-      return [urlFrom(scope, base)?.href ?? scope, this.#targetsOf(each, base, path)];
+    const all = Object.entries(this.objectOf(scopes, path, `"scopes" is ignored`));
+    const read = all.map(([scope, each]): ImportMap["scopes"][number] => {
+      return [urlFrom(scope, base)?.href ?? scope, this.targetsOf(each, base, path)];
     });
     return {
-      isDeno,
-      imports: this.#targetsOf(imports, base, path),
+      isDeno: !isPage(path),
+      imports: this.targetsOf(imports, base, path),
       scopes: read.sort(([one], [other]) => other.length - one.length),
     };
   }
 
-  #targetsOf(imports: unknown, base: URL, path: string): Map<string, string> {
-    const found = new Map();
-    for (const [key, target] of Object.entries(this.#objectOf(imports, `${path}: "imports" is ignored`))) {
+  private targetsOf(imports: unknown, base: URL, path: string): Targets {
+    const found: Targets = new Map();
+    for (const [key, target] of Object.entries(this.objectOf(imports, path, `"imports" is ignored`))) {
       if (typeof target === "string") {
         // The folder of a page is the one that a server has for its root.
         const name = isPage(path) && target.startsWith("/") ? `.${target}` : target;
         found.set(urlOf(key, base) ?? key, urlOf(name, base) ?? target);
       } else {
-        this.#notices.push(`${path}: ${JSON.stringify(key)} of "imports" is ignored: not a string`);
+        this.notices.add(path, `${JSON.stringify(key)} of "imports" is ignored: not a string`);
       }
     }
     return found;
   }
 
-  /** @param notice where it is no object */
-  #objectOf(value: unknown, notice: string): Record<string, unknown> {
+  /** @param why the beginning of the notice where it is no object */
+  private objectOf(value: unknown, path: string, why: string): Record<string, unknown> {
     if (value === undefined || isObject(value)) {
       return value ?? {};
     }
-    this.#notices.push(`${notice}: not an object`);
+    this.notices.add(path, `${why}: not an object`);
     return {};
   }
 
-  /** @returns none where it can't be read */
-  #membersOf(path: string): Record<string, unknown> {
-    let members = this.#members.get(path);
-    if (!members) {
-      members = this.#read(path);
-      this.#members.set(path, members);
-    }
-    return members;
-  }
+  private readonly membersOf = memoized((path: string) => {
+    return membersAt(path, parseWithComments, this.files, this.notices);
+  });
+}
 
-  #read(path: string): Record<string, unknown> {
-    try {
-      return this.#objectOf(parseWithComments(this.#files.read(path)), `${path}: ignored`);
-    } catch (error) {
-      this.#notices.push(`${path}: ignored: ${(error as Error).message}`);
-      return {};
-    }
-  }
+/** A member of a workspace has its own names, and those of the workspace. */
+function withAbove({ isDeno, imports, scopes }: ImportMap, above: ImportMap | undefined): ImportMap {
+  return {
+    isDeno: isDeno || (above?.isDeno ?? false),
+    imports: new Map([...above?.imports ?? [], ...imports]),
+    scopes: [...scopes, ...above?.scopes ?? []],
+  };
 }
 
 /** @returns nothing for a bare name */
@@ -240,26 +178,20 @@ function urlOf(specifier: string, base: URL): string | undefined {
  * The target of a key: of one that is the name itself, else of the longest one that ends in a slash
  * and that the name begins with. A name of `jsr:` or `npm:` has what is below it too.
  */
-function targetIn(imports: Map<string, string>, name: string): string | undefined {
-  const own = imports.get(name);
-  if (own !== undefined) {
-    return own;
-  }
-  const isBeginning = (key: string) => {
-    return (key.endsWith("/") && name.startsWith(key)) ||
-      (REGISTRY.test(imports.get(key) ?? "") && name.startsWith(`${key}/`));
-  };
-  const [best] = [...imports.keys()].filter(isBeginning).sort((one, other) => other.length - one.length);
-  return best === undefined ? undefined : imports.get(best) + name.slice(best.length);
+function targetIn(imports: Targets, name: string): string | undefined {
+  const found = [...imports].filter(([key, target]) => {
+    return key === name || (key.endsWith("/") && name.startsWith(key)) ||
+      (REGISTRY.test(target) && name.startsWith(`${key}/`));
+  });
+  const [best] = found.sort(([one], [other]) => other.length - one.length);
+  return best && best[1] + name.slice(best[0].length);
 }
 
 function configuredBy(target: string): Configured {
   if (!target.startsWith("file:")) {
     return { by: "importmap", paths: [], name: target };
   }
-  try {
-    return { by: "importmap", paths: [fileURLToPath(target)] };
-  } catch {
-    return { by: "importmap", paths: [] };
-  }
+  const url = urlFrom(target);
+  const path = url && pathOfUrl(url);
+  return { by: "importmap", paths: path === undefined ? [] : [path] };
 }

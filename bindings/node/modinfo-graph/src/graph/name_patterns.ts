@@ -9,76 +9,56 @@ import { compiledPath, isModule, withoutEnding } from "../files/file_kinds.js";
 import { globMatcher } from "../files/globs.js";
 import { PLATFORMS } from "./bundler_rules.js";
 
-const SUFFIX = /[?#].*$/s;
-
 /** Files to look for names in. */
 export class Candidates {
-  #paths;
-  #byStem;
+  private readonly byStem;
   /** By the last name of their path, without an ending, and by that of their folder for an `index`. */
-  #byName;
+  private readonly byName;
 
   /** @param paths absolute */
-  constructor(paths: string[]) {
-    this.#paths = paths;
-    this.#byStem = grouped(paths, (path) => [withoutEnding(path)]);
-    this.#byName = grouped(paths, (path) => endsOf(path).map((each) => basename(each)));
+  constructor(private readonly paths: string[]) {
+    this.byStem = grouped(paths, (path) => [withoutEnding(path)]);
+    this.byName = grouped(paths, (path) => endsOf(path).map((each) => basename(each)));
   }
 
-  /**
-   * The files whose paths end as a name does.
-   * @param tail without a slash at its beginning
-   */
+  /** The files whose paths end as a name does, which has no slash at its beginning. */
   ending(tail: string): string[] {
     const end = `/${withoutEnding(withoutSuffix(tail)).replace(/\/+$/, "")}`;
-    const named = this.#byName.get(basename(end)) ?? [];
+    const named = this.byName.get(basename(end)) ?? [];
     return named.filter((path) => endsOf(path).some((each) => each.endsWith(end)));
   }
 
-  /**
-   * The files of one platform each.
-   * @param path of the file for others, with or without an ending
-   */
+  /** The files of one platform each, by the path of the one for others, with or without an ending. */
   ofPlatforms(path: string): string[] {
-    return PLATFORMS.flatMap((platform) => this.#byStem.get(withoutEnding(path) + platform) ?? []);
+    return PLATFORMS.flatMap((platform) => this.byStem.get(withoutEnding(path) + platform) ?? []);
   }
 
-  /**
-   * The files that a name may be whose text is known: with another ending or none, or an `index`.
-   * @param folder from which it is looked for, absolute
-   */
+  /** The files that a name may be, from an absolute folder: with another ending or none, or an `index`. */
   named(name: string, folder: string): string[] {
     const path = absolute(folder, withoutSuffix(name));
-    const found = [withoutEnding(path), path, join(path, "index")].flatMap((stem) => this.#byStem.get(stem) ?? []);
+    const found = [withoutEnding(path), path, join(path, "index")].flatMap((stem) => this.byStem.get(stem) ?? []);
     return found.includes(path) ? [path] : [...new Set(found)];
   }
 
-  /**
-   * The files that the known parts of a name match.
-   * @param folder from which it is looked for, absolute
-   * @returns none where too little is known
-   */
+  /** The files that the known parts of a name match, from an absolute folder; none where too little is known. */
   matching(parts: (string | undefined)[], folder: string): string[] {
     const pattern = patternOf(parts, folder);
-    return pattern ? this.#paths.filter((path) => spellingsOf(path).some((each) => fits(each, pattern))) : [];
+    return pattern ? this.paths.filter((path) => spellingsOf(path).some((each) => fits(each, pattern))) : [];
   }
 
   /** The files of a folder and of those in it. */
   below(name: string, folder: string): string[] {
     const start = `${absolute(folder, name)}/`.replace(/\/+$/, "/");
-    return this.#paths.filter((path) => path.startsWith(start));
+    return this.paths.filter((path) => path.startsWith(start));
   }
 
-  /**
-   * The files that a glob matches.
-   * @returns none where the glob can't be read
-   */
+  /** The files that a glob matches; none where the glob can't be read. */
   globbed(glob: string, folder: string): string[] {
     const [ups] = /^(?:\.{1,2}\/)*/.exec(glob) ?? [""];
     const base = absolute(folder, ups);
     try {
       const matches = globMatcher(`./${glob.slice(ups.length).replace(/^\//, "")}`);
-      return this.#paths.filter((path) => matches(relative(base, path)));
+      return this.paths.filter((path) => matches(relative(base, path)));
     } catch {
       return [];
     }
@@ -86,16 +66,11 @@ export class Candidates {
 }
 
 function grouped(paths: string[], keysOf: (path: string) => string[]): Map<string, string[]> {
-  const found = new Map();
-  for (const path of paths) {
-    for (const key of keysOf(path)) {
-      const known = found.get(key);
-      if (known) {
-        known.push(path);
-      } else {
-        found.set(key, [path]);
-      }
-    }
+  const found = new Map<string, string[]>();
+  for (const [key, path] of paths.flatMap((each) => keysOf(each).map((key) => [key, each]))) {
+    const known = found.get(key) ?? [];
+    known.push(path);
+    found.set(key, known);
   }
   return found;
 }
@@ -106,31 +81,19 @@ function endsOf(path: string): string[] {
   return basename(stem) === "index" ? [stem, dirname(stem)] : [stem];
 }
 
-function withoutSuffix(name: string) {
-  return name.replace(SUFFIX, "");
-}
+const withoutSuffix = (name: string) => name.replace(/[?#].*$/s, "");
 
-/**
- * The names by which a file is imported: its path, that of its JavaScript, without its ending, and its folder's.
- */
-function spellingsOf(path: string): string[] {
-  const stem = withoutEnding(path);
-  return [path, stem, compiledPath(path) ?? [], basename(stem) === "index" ? dirname(path) : []].flat();
-}
+/** The names of a file in imports: its path, that of its JavaScript, without its ending, and its folder's. */
+const spellingsOf = (path: string) => [path, compiledPath(path) ?? [], endsOf(path)].flat();
 
 /** @returns texts between which anything may be; nothing where too little is known */
 function patternOf(parts: (string | undefined)[], folder: string): string[] | undefined {
-  const texts: string[] = [""];
+  const texts = [""];
   for (const part of parts) {
-    if (part === undefined) {
-      texts.push("");
-    } else {
-      texts[texts.length - 1] += part;
-    }
+    texts.push(part === undefined ? "" : texts.pop() + part);
   }
+  texts.push(withoutSuffix(String(texts.pop())));
   const [first, ...others] = texts;
-  const last = texts.length - 1;
-  texts[last] = withoutSuffix(texts[last]);
   if (/^\.{1,2}\//.test(first)) {
     return [join(folder, first), ...others];
   }
@@ -138,35 +101,25 @@ function patternOf(parts: (string | undefined)[], folder: string): string[] | un
   const rest = first.includes("/") ? first.slice(first.indexOf("/")) : "";
   const isKnown = [rest, ...others].some((text) => /[\p{L}\p{N}_$]/u.test(withoutEnding(text)));
   // Of a name with an ending alone a bundler takes the files below the folder.
-  const isEnded = rest === "" && first === "" && isModule(`a${texts[last]}`);
+  const isEnded = first === "" && isModule(`a${texts[texts.length - 1]}`);
   const all = [!isKnown && isEnded ? join(folder, "/") : "", rest, ...others];
-  const isNeeded = (each: string, at: number) => {
-    return each !== "" || at === 0 || at === all.length - 1;
-  };
-  return isKnown || isEnded ? all.filter(isNeeded) : undefined;
+  const needed = all.filter((each, at) => each !== "" || at === 0 || at === all.length - 1);
+  return isKnown || isEnded ? needed : undefined;
 }
 
-/**
- * @returns whether the text has the pattern's texts in their order, the first at its beginning and the
- *   last at its end
- */
-function fits(text: string, pattern: string[]): boolean {
-  const [first, ...others] = pattern;
+/** Whether a text has those of a pattern in their order, the first at its beginning and the last at its end. */
+function fits(text: string, [first, ...others]: string[]): boolean {
   const last = others.pop();
-  if (last === undefined) {
-    return text === first;
+  if (last === undefined || !text.startsWith(first) || !text.endsWith(last)) {
+    return text === first && last === undefined;
   }
-  if (!text.startsWith(first) || !text.endsWith(last)) {
-    return false;
-  }
-  let at = first.length;
-  const end = text.length - last.length;
+  let end = first.length;
   for (const each of others) {
-    const found = text.indexOf(each, at);
-    if (found < 0 || found + each.length > end) {
+    const at = text.indexOf(each, end);
+    if (at < 0) {
       return false;
     }
-    at = found + each.length;
+    end = at + each.length;
   }
-  return at <= end;
+  return end <= text.length - last.length;
 }

@@ -1,36 +1,56 @@
 /** Kinds of names that modules have for others, by how they begin. */
 
+import { join, resolve as absolute } from "node:path";
+
 const PATH = /^(?:\/|\.{1,2}(?:\/|$))/;
 const RELATIVE = /^\.{1,2}(?:\/|$)/;
+const ALIAS = /^(?:@\/|@@|[~$#]|virtual:)/;
+const FOLDER = /(?:^|\/)\.{0,2}$/;
 const SCHEME = /^([a-z][a-z0-9+.-]+):/i;
+const PACKAGE = /^(@[^/]*\/[^/]*|[^@/][^/]*)(\/.*)?$/s;
+/** What no name of a package has. */
+const NO_PACKAGE = /^\.|[%\\?#]/;
 
 /** Whether a name is a path: `/a`, `./a`, `../a`, `.` or `..`. */
-export function isPath(name: string): boolean {
-  return PATH.test(name);
-}
+export const isPath = (name: string): boolean => PATH.test(name);
 
-/** @returns whether a name is a path that doesn't begin with a slash */
-export function isRelative(name: string): boolean {
-  return RELATIVE.test(name);
-}
+/** Whether a name is a path that doesn't begin with a slash. */
+export const isRelative = (name: string): boolean => RELATIVE.test(name);
+
+/** Whether a name can be no package's, but one of a bundler's alias: `@/a`, `~/a`, `$a/b`, `#a`, `virtual:a`. */
+export const isAlias = (name: string): boolean => ALIAS.test(name);
+
+/** Whether a `require` never takes a file for a name. */
+export const isFolderName = (name: string): boolean => FOLDER.test(name);
 
 /** @returns the scheme of a URL, in lower case */
-export function schemeOf(name: string): string | undefined {
-  return SCHEME.exec(name)?.[1].toLowerCase();
-}
+export const schemeOf = (name: string): string | undefined => SCHEME.exec(name)?.[1].toLowerCase();
 
-/** Names that can be no package's: `@/a`, `~/a`, `$a/b`, `#a`, `virtual:a`. */
-const ALIAS = /^(?:@\/|@@|[~$#]|virtual:)/;
-
-/** Whether a name that leads to nothing is one of a bundler's alias. */
-export function isAlias(name: string): boolean {
-  return ALIAS.test(name);
-}
-
-/**
- * @param name that isn't a path
- * @returns what follows its first slash; without one, the name without marks at its beginning
- */
+/** @returns what follows the first slash of a bare name; without one, the name without marks at its beginning */
 export function tailOf(name: string): string {
   return name.includes("/") ? name.slice(name.indexOf("/") + 1) : name.replace(/^(?:virtual:|\W+)/, "");
+}
+
+/** @returns the absolute path of a name, with a slash at its end if the name can't be a file's */
+export function pathOf(name: string, folder: string): string {
+  const path = absolute(folder, name);
+  return isFolderName(name) ? join(path, "/") : path;
+}
+
+/** `rest` is nothing, or a path that begins with a slash */
+export type PackageName = { name: string, rest: string };
+
+/**
+ * The package in which a name is looked for that is no path, no URL, and none of `imports`.
+ * @returns nothing where no package can have the name
+ */
+export function packageName(specifier: string): PackageName | undefined {
+  const [, name = "", rest = ""] = PACKAGE.exec(specifier) ?? [];
+  return name === "" || NO_PACKAGE.test(name) ? undefined : { name, rest };
+}
+
+/** @returns like `packageName`; nothing for a path, a URL, and a name of `imports` */
+export function packageOf(specifier: string): PackageName | undefined {
+  const isOther = schemeOf(specifier) || specifier.startsWith("#") || isPath(specifier);
+  return isOther ? undefined : packageName(specifier);
 }

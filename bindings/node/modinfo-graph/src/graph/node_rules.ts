@@ -10,15 +10,14 @@
 
 import { isBuiltin } from "node:module";
 import { dirname, join, resolve as absolute } from "node:path";
-import { fileURLToPath, pathToFileURL } from "node:url";
+import { pathToFileURL } from "node:url";
 
-import { urlFrom, urlOfFolder } from "../files/urls.js";
-import { isPath } from "./names.js";
+import { pathOfUrl, urlFrom, urlOfFolder } from "../files/urls.js";
+import { isFolderName, isPath, packageName } from "./names.js";
 import { exportsTarget, importsTarget } from "./package_targets.js";
 import type { RegularFiles } from "../files/regular_files.js";
 import type { PackageFolders } from "./package_folders.js";
 import type { Format as Mode, Manifest, PackageManifests } from "./package_manifests.js";
-import type { Target } from "./package_targets.js";
 
 /** `outside` is there, in no folder of the project */
 export type Found = { kind: "file" | "outside", path: string }
@@ -26,7 +25,7 @@ export type Found = { kind: "file" | "outside", path: string }
   | { kind: "url", url: string }
   | Missing;
 
-interface Missing {
+export interface Missing {
   kind: "none";
   /** The path at which nothing is, where the rules lead to one */
   wanted?: string;
@@ -44,14 +43,8 @@ const OF_MAIN = [...OF_FILE, ...INDEXES];
 
 /** A relative path that is the same as a URL. */
 const PLAIN_PATH = /^(?:\.{1,2}\/)+(?:[\w@+~-][\w.@+~-]*\/)*[\w@+~-][\w.@+~-]*$/;
-/** What a `require` looks for in the importer's folder. */
-const BESIDE = /^\.(?:[./]|$)/;
-/** The names for which a `require` never takes a file. */
-export const FOLDER = /(?:^|\/)\.{0,2}$/;
-
-const PACKAGE = /^(@[^/]*\/[^/]*|[^@/][^/]*)(\/.*)?$/s;
-/** What no name of a package has. */
-const NO_PACKAGE = /^\.|[%\\?#]/;
+/** What a `require` looks for at a path. */
+const AT_PATH = /^(?:\/|\.(?:[./]|$))/;
 /** The name and the subpath of a `require` whose package may have `exports`. */
 const REQUIRED = /^((?:@[^/\\%]+\/)?[^./\\%][^/\\%]*)(\/.*)?$/s;
 
@@ -59,270 +52,196 @@ const ENCODED_SEPARATOR = /%2f|%5c/i;
 
 const NONE: Missing = { kind: "none" };
 
+const TARGETS = { exports: exportsTarget, imports: importsTarget };
+
 export class NodeRules {
-  #files;
-  #manifests;
-  #packages;
-  #conditions;
-
   constructor(
-    files: RegularFiles, manifests: PackageManifests, packages: PackageFolders,
-    conditions: Record<Mode, ReadonlySet<string>>,
-  ) {
-    this.#files = files;
-    this.#manifests = manifests;
-    this.#packages = packages;
-    this.#conditions = conditions;
-  }
+    private readonly files: RegularFiles, private readonly manifests: PackageManifests,
+    private readonly packages: PackageFolders, private readonly conditions: Record<Mode, ReadonlySet<string>>,
+  ) {}
 
-  /**
-   * What `import "specifier"` loads.
-   * @param importer the path of its file, without links
-   */
+  /** What `import "specifier"` loads, in the file of a path without links. */
   import(specifier: string, importer: string): Found {
     const folder = dirname(importer);
     if (PLAIN_PATH.test(specifier) && !folder.includes("\\")) {
-      return this.#file(join(folder, specifier));
-    }
-    if (isPath(specifier)) {
-      const url = urlFrom(specifier, pathToFileURL(importer));
-      return url ? this.#atUrl(url) : NONE;
+      return fileAt(join(folder, specifier), this.files);
     }
     if (specifier.startsWith("#")) {
-      const scope = this.#manifests.scopeOf(folder);
-      return scope?.imports ? this.#byImports(specifier, scope, "import") : NONE;
+      const scope = this.manifests.scopeOf(folder);
+      return scope?.imports ? this.byMember("imports", specifier, scope, "import") : NONE;
     }
-    const url = urlFrom(specifier);
-    return url ? this.#atUrl(url) : this.#named(specifier, folder, "import");
+    const hasPath = isPath(specifier);
+    const url = urlFrom(specifier, hasPath ? pathToFileURL(importer) : undefined);
+    if (url) {
+      return this.atUrl(url);
+    }
+    return hasPath ? NONE : this.named(specifier, folder, "import");
   }
 
-  /**
-   * What `require("specifier")` loads.
-   * @param importer the path of its file, without links
-   */
+  /** What `require("specifier")` loads, in the file of a path without links. */
   require(specifier: string, importer: string): Found {
     if (isBuiltin(specifier)) {
       return { kind: "builtin" };
     }
     const folder = dirname(importer);
-    const scope = this.#manifests.scopeOf(folder);
-    if (specifier.startsWith("#") && isSet(scope?.imports)) {
-      const found = this.#byImports(specifier, scope as Manifest, "require");
+    const scope = this.manifests.scopeOf(folder);
+    if (scope?.imports !== undefined && specifier.startsWith("#")) {
+      const found = this.byMember("imports", specifier, scope, "require");
       // Node takes a name of `imports` for that of a file here, also where it leads to its own module.
       return found.kind === "builtin" ? NONE : found;
     }
-    if (scope?.name !== undefined && isSet(scope.exports) && `${specifier}/`.startsWith(`${scope.name}/`)) {
-      return this.#byExports(`.${specifier.slice(scope.name.length)}`, scope, "require");
+    if (scope?.name !== undefined && scope.exports !== undefined && `${specifier}/`.startsWith(`${scope.name}/`)) {
+      return this.byMember("exports", `.${specifier.slice(scope.name.length)}`, scope, "require");
     }
-    if (specifier.startsWith("/") || BESIDE.test(specifier)) {
-      return this.#fileOrFolder(absolute(folder, specifier), FOLDER.test(specifier));
-    }
-    return this.#inModules(specifier, folder);
+    return AT_PATH.test(specifier) ? this.fileOrFolder(specifier, folder) : this.inModules(specifier, folder);
   }
 
-  /** What a URL of an import leads to. */
-  #atUrl(url: URL): Found {
+  /** What an import of a package finds in the package's folder; `rest` follows the package's name. */
+  ofPackage(folder: string, rest: string, mode: Mode): Found {
+    const base = urlOfFolder(folder);
+    return this.inPackage(folder, rest, mode, (main) => {
+      return rest === "" ? this.main(base, main) : this.atUrl(new URL(`.${rest}`, base));
+    });
+  }
+
+  /** @param find for a package without `exports`, by its main module */
+  private inPackage(folder: string, rest: string, mode: Mode, find: (main?: string) => Found): Found {
+    const entry = this.files.at(folder);
+    if (this.files.isOutside(entry)) {
+      return { kind: "outside", path: entry.path };
+    }
+    const manifest = this.manifests.of(folder);
+    return manifest?.exports === undefined
+      ? missing(find(manifest?.main), { package: folder })
+      : this.byMember("exports", `.${rest}`, manifest, mode);
+  }
+
+  private atUrl(url: URL): Found {
     if (url.protocol === "node:") {
       return isBuiltin(url.href) ? { kind: "builtin" } : NONE;
     }
     if (url.protocol !== "file:") {
       return { kind: "url", url: url.href };
     }
-    const path = pathOf(url);
-    return path === undefined || path.endsWith("/") ? NONE : this.#file(absolute(path));
+    const path = pathAt(url);
+    return !path || path.endsWith("/") ? NONE : fileAt(absolute(path), this.files);
   }
 
-  /** @param path absolute and normal */
-  #file(path: string): Found {
-    const entry = this.#files.at(path);
-    return entry.kind === "file"
-      ? { kind: this.#files.isOutside(entry) ? "outside" : "file", path: entry.path }
-      : { kind: "none", wanted: path };
-  }
-
-  /** @param specifier that begins with `#` */
-  #byImports(specifier: string, manifest: Manifest, mode: Mode) {
-    const target = importsTarget(manifest.imports, specifier, this.#context(manifest.folder, mode));
-    return this.#ofTarget(target, manifest, mode);
-  }
-
-  #byExports(subpath: string, manifest: Manifest, mode: Mode) {
-    const target = exportsTarget(manifest.exports, subpath, this.#context(manifest.folder, mode));
-    return this.#ofTarget(target, manifest, mode);
-  }
-
-  #ofTarget(target: Target, manifest: Manifest, mode: Mode): Found {
-    switch (target.kind) {
-      case "file":
-        return inPackage(this.#atUrl(target.url), manifest.folder);
-      case "name":
-        return this.#named(target.name, manifest.folder, mode);
-      case "none":
-        return { kind: "none", package: manifest.folder };
-      default:
-        this.#manifests.note(manifest, target.why);
-        return { kind: "none", package: manifest.folder };
+  /** What `exports` or `imports` of a manifest have for a key. */
+  private byMember(member: "exports" | "imports", key: string, manifest: Manifest, mode: Mode): Found {
+    const { folder } = manifest;
+    const context = { folder: urlOfFolder(folder), conditions: this.conditions[mode] };
+    const target = TARGETS[member](manifest[member], key, context);
+    if (target.kind === "name") {
+      return this.named(target.name, folder, mode);
     }
+    if ("why" in target) {
+      this.manifests.notices.add(manifest.path, target.why);
+    }
+    return missing(target.kind === "file" ? this.atUrl(target.url) : NONE, { package: folder, isFinal: true });
   }
 
-  #context(folder: string, mode: Mode) {
-    return { folder: urlOfFolder(folder), conditions: this.#conditions[mode] };
-  }
-
-  /**
-   * PACKAGE_RESOLVE.
-   * @param folder the importer's
-   */
-  #named(specifier: string, folder: string, mode: Mode): Found {
+  /** PACKAGE_RESOLVE, from the importer's folder. */
+  private named(specifier: string, folder: string, mode: Mode): Found {
     if (isBuiltin(specifier)) {
       return { kind: "builtin" };
     }
-    const { name, rest } = packageName(specifier) ?? {};
-    if (name === undefined || rest === undefined) {
+    const named = packageName(specifier);
+    if (!named) {
       return NONE;
     }
-    const scope = this.#manifests.scopeOf(folder);
-    if (scope && isSet(scope.exports) && scope.name === name) {
-      return this.#byExports(`.${rest}`, scope, mode);
+    const scope = this.manifests.scopeOf(folder);
+    if (scope?.exports !== undefined && scope.name === named.name) {
+      return this.byMember("exports", `.${named.rest}`, scope, mode);
     }
-    const own = this.#packages.nearest(name, folder);
-    return own === undefined ? NONE : this.ofPackage(own, rest, mode);
+    const own = this.packages.nearest(named.name, folder);
+    return own === undefined ? NONE : this.ofPackage(own, named.rest, mode);
   }
 
-  /**
-   * What an import of a package finds in the package's folder.
-   * @param rest what follows the package's name
-   */
-  ofPackage(folder: string, rest: string, mode: Mode): Found {
-    const entry = this.#files.at(folder);
-    if (this.#files.isOutside(entry)) {
-      return { kind: "outside", path: entry.path };
-    }
-    const manifest = this.#manifests.of(folder);
-    if (manifest && isSet(manifest.exports)) {
-      return this.#byExports(`.${rest}`, manifest, mode);
-    }
-    const base = urlOfFolder(folder);
-    const found = rest === "" ? this.#main(base, manifest?.main) : this.#atUrl(new URL(`.${rest}`, base));
-    return inPackage(found, folder);
-  }
-
-  /**
-   * The main module of a package without `exports`, for an import.
-   * @param base the package's folder
-   */
-  #main(base: URL, main: string | undefined): Found {
+  /** The main module of a package without `exports`, for an import. */
+  private main(base: URL, main: string | undefined): Found {
     const named = main === undefined ? [] : OF_MAIN.map((ending) => [`./${main}`, ending]);
     for (const [path, ending] of [...named, ...INDEXES.map((index) => [".", index])]) {
-      const beginning = pathOf(new URL(path, base));
+      const beginning = pathAt(new URL(path, base));
       if (beginning === undefined) {
         return NONE;
       }
-      if (this.#files.at(absolute(beginning + ending)).kind === "file") {
-        return this.#atUrl(new URL(path + ending, base));
+      if (this.files.at(absolute(beginning + ending)).kind === "file") {
+        return this.atUrl(new URL(path + ending, base));
       }
     }
-    const wanted = pathOf(new URL(`./${main ?? "index.js"}`, base));
+    const wanted = pathAt(new URL(`./${main ?? "index.js"}`, base));
     return { kind: "none", ...(wanted && { wanted: absolute(wanted) }) };
   }
 
-  /**
-   * LOAD_NODE_MODULES, and then the folders for all projects.
-   * @param folder the importer's
-   */
-  #inModules(specifier: string, folder: string): Found {
-    let missing: Missing = NONE;
-    for (const modules of this.#packages.ofRequire(folder)) {
-      const found = this.#inFolder(modules, specifier);
+  /** LOAD_NODE_MODULES from the importer's folder, and then the folders for all projects. */
+  private inModules(specifier: string, folder: string): Found {
+    let first: Missing = NONE;
+    for (const modules of this.packages.ofRequire(folder)) {
+      const found = this.inFolder(modules, specifier);
       if (found.kind !== "none" || found.isFinal) {
         return found;
       }
-      missing = missing.package === undefined ? found : missing;
+      first = first.package === undefined ? found : first;
     }
-    return missing;
+    return first;
   }
 
   /** @param modules a folder of packages */
-  #inFolder(modules: string, specifier: string): Found {
+  private inFolder(modules: string, specifier: string): Found {
     const [, name, rest = ""] = REQUIRED.exec(specifier) ?? [];
-    const own = name === undefined ? undefined : absolute(modules, name);
-    const entry = own === undefined ? undefined : this.#files.at(own);
-    if (own === undefined || entry?.kind !== "folder") {
-      return this.#fileOrFolder(absolute(modules, specifier), FOLDER.test(specifier));
+    const folder = absolute(modules, name ?? "");
+    const find = () => this.fileOrFolder(specifier, modules);
+    return name !== undefined && this.files.at(folder).kind === "folder"
+      ? this.inPackage(folder, rest, "require", find)
+      : find();
+  }
+
+  /** LOAD_AS_FILE and LOAD_AS_DIRECTORY, for a name that leads from a folder. */
+  private fileOrFolder(name: string, base: string): Found {
+    const path = absolute(base, name);
+    const found = isFolderName(name) ? NONE : this.firstFile(path, OF_FILE);
+    return found.kind === "none" && this.files.at(path).kind === "folder" ? this.asFolder(path) : found;
+  }
+
+  private asFolder(folder: string): Found {
+    const main = this.manifests.of(folder)?.main;
+    const path = absolute(folder, main ?? "");
+    const found = main ? this.firstFile(path, OF_MAIN) : NONE;
+    const other = found.kind === "none" ? this.firstFile(folder, INDEXES) : found;
+    return main ? missing(other, { wanted: path, isFinal: true }) : other;
+  }
+
+  private firstFile(path: string, endings: string[]): Found {
+    return firstOf(endings, (ending) => fileAt(path + ending, this.files)) ?? { kind: "none", wanted: path };
+  }
+}
+
+/** The file of an absolute and normal path. */
+export function fileAt(path: string, files: RegularFiles): Found {
+  const entry = files.at(path);
+  return entry.kind === "file"
+    ? { kind: files.isOutside(entry) ? "outside" : "file", path: entry.path }
+    : { kind: "none", wanted: path };
+}
+
+/** @returns what is found for the first item for which there is something */
+export function firstOf<Item>(items: Item[], find: (item: Item) => Found): Found | undefined {
+  for (const item of items) {
+    const found = find(item);
+    if (found.kind !== "none") {
+      return found;
     }
-    if (this.#files.isOutside(entry)) {
-      return { kind: "outside", path: entry.path };
-    }
-    const manifest = this.#manifests.of(own);
-    if (manifest && isSet(manifest.exports)) {
-      return final(this.#byExports(`.${rest}`, manifest, "require"));
-    }
-    return inPackage(this.#fileOrFolder(absolute(modules, specifier), FOLDER.test(specifier)), own);
   }
-
-  /**
-   * LOAD_AS_FILE and LOAD_AS_DIRECTORY.
-   * @param path absolute and normal
-   * @param isFolder whether the name can't be a file's
-   */
-  #fileOrFolder(path: string, isFolder: boolean): Found {
-    const found = isFolder ? NONE : this.#firstFile(path, OF_FILE);
-    return found.kind === "none" && this.#files.at(path).kind === "folder" ? this.#asFolder(path) : found;
-  }
-
-  #asFolder(folder: string): Found {
-    const main = this.#manifests.of(folder)?.main;
-    const path = main ? absolute(folder, main) : undefined;
-    const found = path === undefined ? NONE : this.#firstFile(path, OF_MAIN);
-    const other = found.kind === "none" ? this.#firstFile(folder, INDEXES) : found;
-    return other.kind === "none" && path !== undefined ? { kind: "none", wanted: path, isFinal: true } : other;
-  }
-
-  /** @param path absolute and normal */
-  #firstFile(path: string, endings: string[]): Found {
-    for (const ending of endings) {
-      const found = this.#file(path + ending);
-      if (found.kind !== "none") {
-        return found;
-      }
-    }
-    return { kind: "none", wanted: path };
-  }
+  return undefined;
 }
 
-/**
- * The name of the package in which a name is looked for, and what follows it.
- * @param specifier no path, no URL, and no name of `imports`
- * @returns nothing where no package can have the name
- */
-export function packageName(specifier: string): { name: string, rest: string } | undefined {
-  const [, name = "", rest = ""] = PACKAGE.exec(specifier) ?? [];
-  return name === "" || NO_PACKAGE.test(name) ? undefined : { name, rest };
+/** @param why is added where nothing was found */
+function missing(found: Found, why: Partial<Missing>): Found {
+  return found.kind === "none" ? { ...found, ...why } : found;
 }
 
-/** @param folder of the package in which it was looked for */
-function inPackage(found: Found, folder: string): Found {
-  return found.kind === "none" ? { ...found, package: folder } : found;
-}
-
-/** @returns not looked for in other folders */
-function final(found: Found): Found {
-  return found.kind === "none" ? { ...found, isFinal: true } : found;
-}
-
-/**
- * The path of a URL of a file.
- * @returns nothing where it has encoded separators, or can't be decoded
- */
-function pathOf(url: URL): string | undefined {
-  try {
-    return ENCODED_SEPARATOR.test(url.pathname) ? undefined : fileURLToPath(url);
-  } catch {
-    return undefined;
-  }
-}
-
-/** @param value of a manifest's member */
-function isSet(value: unknown) {
-  return value !== undefined && value !== null;
+/** @returns the path of a URL of a file; nothing where it has encoded separators, or can't be decoded */
+function pathAt(url: URL): string | undefined {
+  return ENCODED_SEPARATOR.test(url.pathname) ? undefined : pathOfUrl(url);
 }

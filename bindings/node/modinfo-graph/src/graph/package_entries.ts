@@ -8,28 +8,21 @@ import { pathOfUrl, urlOfFolder } from "../files/urls.js";
 import { allExports, bySubpath, exportsTarget, textsIn } from "./package_targets.js";
 import { NODE_CONDITIONS } from "./search.js";
 
-interface Exported {
-  /** The paths of those that node finds */
-  files: string[];
-  /** The targets that aren't there */
-  absent: string[];
-  /** What other conditions lead to */
-  perhaps: { path: string, text: string }[];
-}
+/** The paths of those that node finds, the targets that aren't there, and what other conditions lead to */
+type Exported = { files: string[], absent: string[], perhaps: { path: string, text: string }[] };
 
-/**
- * @param folder of the package
- * @param conditions besides node's
- */
+/** @param conditions besides node's */
 export async function exportedFiles(
   exports: unknown, folder: string, conditions: readonly string[],
 ): Promise<Exported> {
-  const all = new ExportedFiles(folder, conditions);
+  const all: Exported = { files: [], absent: [], perhaps: [] };
   for (const [subpath, target] of Object.entries(exports ? bySubpath(exports) : {})) {
     if (subpath.includes("*")) {
-      await all.addPattern(exports, subpath, target);
+      for (const match of await matchesOf(target, folder)) {
+        add(all, exports, { subpath: subpath.replace("*", () => match), folder, conditions, isThere: true });
+      }
     } else {
-      all.add({ [subpath]: target }, subpath, false);
+      add(all, { [subpath]: target }, { subpath, folder, conditions, isThere: false });
     }
   }
   if (all.files.length + all.absent.length === 0) {
@@ -39,58 +32,47 @@ export async function exportedFiles(
   return all;
 }
 
-class ExportedFiles implements Exported {
-  files: string[] = [];
-  absent: string[] = [];
-  perhaps: { path: string, text: string }[] = [];
-  #folder;
-  #contexts;
-
-  constructor(folder: string, conditions: readonly string[]) {
-    this.#folder = folder;
-    const url = urlOfFolder(absolute(folder));
-    this.#contexts = ["import", "require"].map((mode) => {
-      return { folder: url, conditions: new Set([...NODE_CONDITIONS, ...conditions, mode]) };
-    });
-  }
-
-  /** @param isThere whether only files that are there count */
-  add(exports: unknown, subpath: string, isThere: boolean) {
-    const found = this.#contexts.map((context) => exportsTarget(exports, subpath, context));
-    const chosen = new Set(found.flatMap((each) => (each.kind === "file" ? [each.url.href] : [])));
-    const urls = allExports(exports, subpath, this.#contexts[0].folder);
-    for (const url of urls.filter((each) => pathOfUrl(each) !== undefined)) {
-      const text = `./${relative(absolute(this.#folder), pathOfUrl(url) ?? "")}`;
-      const path = join(this.#folder, text);
-      const isMeant = !isDeclaration(path) && (isModule(path) || !/\.\w+$/.test(path));
-      if (isMeant && chosen.has(url.href)) {
-        (isFile(path) ? this.files : isThere ? [] : this.absent).push(isFile(path) ? path : text);
-      } else if (isMeant && isFile(path)) {
-        this.perhaps.push({ path, text });
-      }
-    }
-  }
-
-  /** @param key with `*` */
-  async addPattern(exports: unknown, key: string, target: unknown) {
-    const matches = new Set<string | undefined>();
-    for (const text of textsIn(target).filter((each) => each.includes("*"))) {
-      const base = join(this.#folder, dirname(`${text.slice(0, text.indexOf("*"))}x`));
-      for await (const { path } of findFiles(isFolder(base) ? [base] : [], {})) {
-        matches.add(matchOf(text, `./${relative(this.#folder, path)}`));
-      }
-    }
-    matches.delete(undefined);
-    for (const match of matches) {
-      this.add(exports, key.replace("*", () => String(match)), true);
+/** @param from.isThere whether only files that are there count */
+function add(
+  all: Exported, exports: unknown,
+  from: { subpath: string, folder: string, conditions: readonly string[], isThere: boolean },
+) {
+  const { subpath, folder, isThere } = from;
+  const url = urlOfFolder(absolute(folder));
+  const chosen = ["import", "require"].flatMap((mode) => {
+    const conditions = new Set([...NODE_CONDITIONS, ...from.conditions, mode]);
+    const target = exportsTarget(exports, subpath, { folder: url, conditions });
+    return target.kind === "file" ? target.url.href : [];
+  });
+  for (const target of allExports(exports, subpath, url)) {
+    const own = pathOfUrl(target);
+    const text = `./${relative(absolute(folder), own ?? "")}`;
+    const path = join(folder, text);
+    const isMeant = own !== undefined && !isDeclaration(path) && (isModule(path) || !/\.\w+$/.test(path));
+    if (isMeant && chosen.includes(target.href)) {
+      (isFile(path) ? all.files : isThere ? [] : all.absent).push(isFile(path) ? path : text);
+    } else if (isMeant && isFile(path)) {
+      all.perhaps.push({ path, text });
     }
   }
 }
 
-/**
- * @param pattern a target, in which each `*` stands for the same
- * @returns what `*` stands for; nothing where the name isn't of the pattern
- */
+/** @returns what the `*` of a pattern may stand for, by the files of a package */
+async function matchesOf(target: unknown, folder: string): Promise<Set<string>> {
+  const matches = new Set<string>();
+  for (const text of textsIn(target).filter((each) => each.includes("*"))) {
+    const base = join(folder, dirname(`${text.slice(0, text.indexOf("*"))}x`));
+    for await (const { path } of findFiles(isFolder(base) ? [base] : [], {})) {
+      const match = matchOf(text, `./${relative(folder, path)}`);
+      if (match !== undefined) {
+        matches.add(match);
+      }
+    }
+  }
+  return matches;
+}
+
+/** @returns what each `*` of a target stands for; nothing where the name isn't one of the target */
 function matchOf(pattern: string, name: string): string | undefined {
   const texts = pattern.split("*");
   const length = (name.length - texts.join("").length) / (texts.length - 1);

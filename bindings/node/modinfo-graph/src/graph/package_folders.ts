@@ -1,70 +1,53 @@
 /** The folders in which packages are looked for. */
 
-import { dirname, join, resolve as absolute } from "node:path";
+import { join, resolve as absolute } from "node:path";
 import { fileURLToPath } from "node:url";
 
+import { inherited, memoized } from "../files/by_folder.js";
 import { urlOfFolder } from "../files/urls.js";
 import type { RegularFiles } from "../files/regular_files.js";
 
 const MANIFEST = "/package.json";
-const MODULES = "node_modules";
 /** A package's name of which each part is the name of a folder, as it stands in a URL too. */
 const PLAIN = /^(?:@[\w.~-]+\/)?[\w~-][\w.~-]*$/;
 /** A folder in which a `require` doesn't look. */
 const IN_ITSELF = "/node_modules/node_modules";
 
+/** Takes the importer's folder, and returns paths with links. */
 export class PackageFolders {
-  #files;
-  #globalFolders;
-  #above: Map<string, string[]> = new Map();
-  #required: Map<string, string[]> = new Map();
+  /** Each `node_modules` that is in a folder or above it, the nearest first. */
+  private readonly above = inherited<string[]>((folder, above = []) => {
+    const own = join(folder, "node_modules");
+    return this.isFolder(own) ? [own, ...above] : above;
+  });
+
+  /** The folders of packages in which a `require` looks, of those that are there. */
+  readonly ofRequire = memoized((folder: string) => [
+    ...this.above(folder).filter((each) => !each.endsWith(IN_ITSELF)),
+    ...this.globalFolders.filter((each) => this.isFolder(each)),
+  ]);
 
   /** @param globalFolders those in which a `require` looks last */
-  constructor(files: RegularFiles, globalFolders: string[]) {
-    this.#files = files;
-    this.#globalFolders = globalFolders;
-  }
+  constructor(private readonly files: RegularFiles, private readonly globalFolders: string[]) {}
 
-  /**
-   * The folders of packages in which a `require` looks, of those that are there.
-   * @param folder the importer's
-   */
-  ofRequire(folder: string): string[] {
-    let modules = this.#required.get(folder);
-    if (!modules) {
-      const above = this.#modulesAbove(folder).filter((each) => !each.endsWith(IN_ITSELF));
-      modules = [...above, ...this.#globalFolders.filter((each) => this.#isFolder(each))];
-      this.#required.set(folder, modules);
-    }
-    return modules;
-  }
-
-  /**
-   * A package's folder by the rules of a `require`.
-   * @param folder the importer's
-   * @returns its path, with links
-   */
+  /** A package's folder by the rules of a `require`. */
   required(name: string, folder: string): string | undefined {
-    return this.ofRequire(folder).map((each) => absolute(each, name)).find((each) => this.#isFolder(each));
+    return this.ofRequire(folder).map((each) => absolute(each, name)).find((each) => this.isFolder(each));
   }
 
-  /**
-   * A package's folder by the rules of an import: the nearest one.
-   * @param folder the importer's
-   * @returns its path, with links
-   */
+  /** A package's folder by the rules of an import: the nearest one. */
   nearest(name: string, folder: string): string | undefined {
     return PLAIN.test(name)
-      ? this.#modulesAbove(folder).map((each) => `${each}/${name}`).find((each) => this.#isFolder(each))
-      : this.#nearestByUrl(name, folder);
+      ? this.above(folder).map((each) => `${each}/${name}`).find((each) => this.isFolder(each))
+      : this.nearestByUrl(name, folder);
   }
 
-  #nearestByUrl(name: string, folder: string): string | undefined {
+  private nearestByUrl(name: string, folder: string): string | undefined {
     const up = name.startsWith("@") ? "../../../../" : "../../../";
     let url = new URL(`./node_modules/${name}${MANIFEST}`, urlOfFolder(folder));
     for (let path = fileURLToPath(url), last = ""; path.length !== last.length;) {
       const own = absolute(path.slice(0, -MANIFEST.length));
-      if (this.#isFolder(own)) {
+      if (this.isFolder(own)) {
         return own;
       }
       last = path;
@@ -74,20 +57,7 @@ export class PackageFolders {
     return undefined;
   }
 
-  /** @returns each `node_modules` that is in it or above it, the nearest first */
-  #modulesAbove(folder: string): string[] {
-    let modules = this.#above.get(folder);
-    if (!modules) {
-      const parent = dirname(folder);
-      const above = parent === folder ? [] : this.#modulesAbove(parent);
-      const { kind } = this.#files.in(folder, MODULES);
-      modules = kind === "folder" ? [join(folder, MODULES), ...above] : above;
-      this.#above.set(folder, modules);
-    }
-    return modules;
-  }
-
-  #isFolder(path: string) {
-    return this.#files.at(path).kind === "folder";
+  private isFolder(path: string) {
+    return this.files.at(path).kind === "folder";
   }
 }

@@ -1,8 +1,9 @@
 /** The package.json of folders, as far as they decide what names lead to. */
 
-import { basename, dirname, extname, join } from "node:path";
+import { basename, dirname, extname } from "node:path";
 
-import { isObject } from "./package_targets.js";
+import { memoized, nearest } from "../files/by_folder.js";
+import { Notices, firstIn, membersAt } from "./members.js";
 import type { RegularFiles } from "../files/regular_files.js";
 
 export type Format = "import" | "require";
@@ -15,111 +16,54 @@ export interface Manifest {
   name?: string;
   main?: string;
   type?: string;
+  /** Neither it nor `imports` is null */
   exports?: unknown;
   imports?: unknown;
   /** All of them */
   members: Record<string, unknown>;
 }
 
-const MANIFEST = "package.json";
 const MAX_NOTICES = 10;
 
-const BY_EXTENSION: Map<string, Format> = new Map([
-  [".mjs", "import"], [".mts", "import"], [".cjs", "require"], [".cts", "require"],
-]);
+const BY_EXTENSION: Record<string, Format> = {
+  ".mjs": "import", ".mts": "import", ".cjs": "require", ".cts": "require",
+};
+const BY_TYPE = new Map<string | undefined, Format>([["module", "import"], ["commonjs", "require"]]);
 
-const BY_TYPE: Map<string | undefined, Format> = new Map([["module", "import"], ["commonjs", "require"]]);
-
+/** Takes absolute and normal paths. */
 export class PackageManifests {
-  #files;
-  #byFolder: Map<string, Manifest | undefined> = new Map();
-  #scopes: Map<string, Manifest | undefined> = new Map();
-  #noticed: Map<string, Set<string>> = new Map();
-  #notices: string[] = [];
+  /** Of each manifest the first few. */
+  readonly notices = new Notices(MAX_NOTICES);
 
-  constructor(files: RegularFiles) {
-    this.#files = files;
+  /** @returns nothing where a folder has no package.json; a manifest without members where that can't be read */
+  readonly of = memoized((folder: string) => this.read(folder));
+
+  /** The manifest of the package that a folder is in: the nearest one, up to a `node_modules`. */
+  readonly scopeOf = nearest((folder) => (basename(folder) === "node_modules" ? null : this.of(folder)));
+
+  constructor(private readonly files: RegularFiles) {}
+
+  /** The manifest of the package that a file is in. */
+  scopeOfFile(path: string): Manifest | undefined {
+    return this.scopeOf(dirname(path));
   }
 
-  /**
-   * @param folder absolute and normal
-   * @returns nothing where there is no package.json; one without members
-   *   where it can't be read, or is no object of JSON
-   */
-  of(folder: string): Manifest | undefined {
-    let manifest = this.#byFolder.get(folder);
-    if (manifest === undefined && !this.#byFolder.has(folder)) {
-      const { kind } = this.#files.in(folder, MANIFEST);
-      manifest = kind === "none" || kind === "folder" ? undefined : this.#read(folder, join(folder, MANIFEST));
-      this.#byFolder.set(folder, manifest);
-    }
-    return manifest;
-  }
-
-  /**
-   * The manifest of the package that a folder is in: the nearest one, up to a `node_modules`.
-   * @param folder absolute and normal
-   */
-  scopeOf(folder: string): Manifest | undefined {
-    let scope = this.#scopes.get(folder);
-    if (scope === undefined && !this.#scopes.has(folder)) {
-      const parent = dirname(folder);
-      scope = basename(folder) === "node_modules"
-        ? undefined
-        : this.of(folder) ?? (parent === folder ? undefined : this.scopeOf(parent));
-      this.#scopes.set(folder, scope);
-    }
-    return scope;
-  }
-
-  /**
-   * Which module format node takes a file for.
-   * @param path absolute
-   * @returns nothing where neither the file's name nor the `type` of its
-   *   package decides it
-   */
+  /** The module format that node takes a file for; nothing where neither its name nor its package decides it. */
   formatOf(path: string): Format | undefined {
-    return BY_EXTENSION.get(extname(path)) ?? BY_TYPE.get(this.scopeOf(dirname(path))?.type);
+    return BY_EXTENSION[extname(path)] ?? BY_TYPE.get(this.scopeOfFile(path)?.type);
   }
 
-  /** Notes once what is wrong with a manifest, and of each manifest the first few faults. */
-  note({ path }: Manifest, why: string) {
-    const noticed = this.#noticed.get(path) ?? new Set();
-    if (!noticed.has(why) && noticed.size < MAX_NOTICES) {
-      noticed.add(why);
-      this.#noticed.set(path, noticed);
-      this.#notices.push(`${path}: ${why}`);
+  private read(folder: string): Manifest | undefined {
+    const path = firstIn(folder, ["package.json"], this.files);
+    if (path === undefined) {
+      return undefined;
     }
+    const members = membersAt(path, JSON.parse, this.files, this.notices);
+    const own = (name: string) => (Object.hasOwn(members, name) ? members[name] ?? undefined : undefined);
+    const text = (name: string) => (typeof own(name) === "string" ? String(own(name)) : undefined);
+    return {
+      folder, path, members,
+      name: text("name"), main: text("main"), type: text("type"), exports: own("exports"), imports: own("imports"),
+    };
   }
-
-  /** What was found wrong since the last call. */
-  takeNotices(): string[] {
-    return this.#notices.splice(0);
-  }
-
-  #read(folder: string, path: string): Manifest {
-    const manifest: Manifest = { folder, path, members: {} };
-    try {
-      const members = JSON.parse(this.#files.read(path));
-      if (!isObject(members)) {
-        throw new TypeError("not an object");
-      }
-      Object.assign(manifest, membersOf(members));
-    } catch (error) {
-      this.note(manifest, `ignored: ${(error as Error).message}`);
-    }
-    return manifest;
-  }
-}
-
-function membersOf(members: Record<string, unknown>) {
-  const own = (name: string) => (Object.hasOwn(members, name) ? members[name] : undefined);
-  const text = (name: string) => {
-    const value = own(name);
-    return typeof value === "string" ? value : undefined;
-  };
-  return {
-    name: text("name"), main: text("main"), type: text("type"), exports: own("exports"), imports: own("imports"),
-    members,
-  };
 }

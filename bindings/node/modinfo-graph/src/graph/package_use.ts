@@ -5,16 +5,15 @@ import { fileURLToPath } from "node:url";
 
 import { RegularFiles } from "../files/regular_files.js";
 import { urlOfPath } from "../files/urls.js";
+import { packageOf } from "./names.js";
 import { PackageManifests } from "./package_manifests.js";
 import { PackageReasons, typesOf } from "./package_reasons.js";
 import { isObject } from "./package_targets.js";
-import { projectOf } from "./projects.js";
-import { packageOf } from "./search.js";
+import { projectsOf } from "./projects.js";
 import type { Ends, Mention, Reference } from "./graph.cjs";
 import type { ModuleGraph } from "./module_graph.js";
 import type { Manifest } from "./package_manifests.js";
 import type { PackageReason } from "./package_reasons.js";
-import type { Project } from "./projects.js";
 
 /** `manifest` is the URL of the nearest package.json, `by` has a reference of each file */
 export type Unlisted = { package: string, manifest?: string, by: Mention[] };
@@ -48,7 +47,7 @@ class Packages {
   #project;
   #files = new RegularFiles();
   #manifests = new PackageManifests(this.#files);
-  #projects: Map<string, Project> = new Map();
+  #projectOf = projectsOf(this.#files);
   /** By folders, those of them and above, the nearest first. */
   #above: Map<string, Manifest[]> = new Map();
   /** What the modules below each manifest import. */
@@ -123,7 +122,7 @@ class Packages {
    */
   #manifestsOf(path: string): Manifest[] {
     const folder = dirname(path);
-    const { project = folder } = projectOf(folder, this.#files, this.#projects);
+    const { project = folder } = this.#projectOf(folder);
     this.#files.addProject(project);
     return this.#manifestsAbove(folder, project);
   }

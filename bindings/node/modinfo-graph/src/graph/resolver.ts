@@ -3,26 +3,30 @@
 import { dirname, resolve as absolute } from "node:path";
 import { fileURLToPath } from "node:url";
 
+import { memoized } from "../files/by_folder.js";
 import {
   declarationOf, globalFolders, isAsset, isDeclaration, isInstalled, isTypeScript,
 } from "../files/file_kinds.js";
 import { RegularFiles } from "../files/regular_files.js";
 import { urlOfPath } from "../files/urls.js";
+import { Configurations } from "./configurations.js";
 import { ConfiguredNames } from "./configured_names.js";
-import { schemeOf } from "./names.js";
+import { ImportMaps } from "./import_maps.js";
+import { packageOf, schemeOf } from "./names.js";
+import { fileAt } from "./node_rules.js";
 import { PackageManifests } from "./package_manifests.js";
 import { isObject } from "./package_targets.js";
-import { projectOf } from "./projects.js";
+import { projectsOf } from "./projects.js";
 import { namedBy } from "./references.js";
-import { Search, packageOf } from "./search.js";
+import { Search } from "./search.js";
 import { TypeScriptTypes } from "./typescript_types.js";
 import type { ModuleInfo, PositionRange } from "modinfo";
 import type { System } from "../files/regular_files.js";
-import type { Resolution } from "./graph.cjs";
+import type { Options } from "./configurations.js";
+import type { Resolution, Rules } from "./graph.cjs";
 import type { Format as Mode } from "./package_manifests.js";
-import type { Project } from "./projects.js";
 import type { Named, Syntax } from "./references.js";
-import type { Importer, Name, Rules, Run } from "./search.js";
+import type { Importer, Name, Run } from "./search.js";
 
 /** The most characters of a name. */
 const MAX_LENGTH = 4096;
@@ -61,163 +65,137 @@ export interface ResolverOptions {
 
 /** A resolver looks at each file once: what changes after that isn't seen. */
 export class Resolver {
-  #files;
-  #hasRoot;
-  #manifests;
-  #names;
-  #search;
-  #types;
-  #projects: Map<string, Project> = new Map();
-  /** The folders whose project was added. */
-  #added = new Set();
-  #hasDeclarations;
+  private readonly files;
+  private readonly manifests;
+  private readonly configurations;
+  private readonly importMaps;
+  private readonly names;
+  private readonly search;
+  private readonly types;
+  private readonly projectOf;
   /** By what decides where names lead. */
-  #known: Map<string, Importer["known"]> = new Map();
-  #knownCount = 0;
+  private readonly known = memoized((_key: string): Importer["known"] => new Map());
+  private knownCount = 0;
 
-  constructor(options: ResolverOptions = {}) {
-    const { root = [], conditions = [], types = false, tsconfig, system, declarations = true } = options;
+  constructor(private readonly options: ResolverOptions = {}) {
+    const { root = [], conditions = [], types = false, tsconfig, system } = options;
     const globals = (options.globalFolders ?? globalFolders).map((each) => absolute(each));
-    this.#files = new RegularFiles(system);
-    [root].flat().forEach((each) => this.#files.addProject(absolute(each)));
-    globals.forEach((each) => this.#files.addFolder(each));
-    this.#hasRoot = root.length > 0;
-    this.#hasDeclarations = declarations;
-    this.#manifests = new PackageManifests(this.#files);
-    this.#names = new ConfiguredNames(this.#files, this.#manifests, { tsconfig, conditions });
-    this.#search = new Search(this.#files, this.#manifests, this.#names, { conditions, globalFolders: globals });
-    this.#types = types ? new TypeScriptTypes(this.#files, this.#names, conditions) : undefined;
+    this.files = new RegularFiles(system);
+    this.projectOf = projectsOf(this.files);
+    [root].flat().forEach((each) => this.files.addProject(absolute(each)));
+    globals.forEach((each) => this.files.addFolder(each));
+    this.manifests = new PackageManifests(this.files);
+    this.configurations = new Configurations(this.files, tsconfig);
+    this.importMaps = new ImportMaps(this.files);
+    const isBrowser = conditions.includes("browser");
+    this.names = new ConfiguredNames(this.manifests, this.configurations, this.importMaps, isBrowser);
+    this.search = new Search(this.files, this.manifests, this.names, conditions, globals);
+    this.types = types ? new TypeScriptTypes(this.files, this.configurations, conditions) : undefined;
   }
 
-  /**
-   * What a name leads to.
-   * @param from the absolute path of the module that has the name
-   */
+  /** What a name leads to, in the module at an absolute path. */
   resolve(
     specifier: string, from: string, options: { kind?: Syntax, mode?: Mode, isScript?: boolean } = {},
   ): Resolution {
     const { kind = "import", mode, isScript = false } = options;
-    return this.#resolution({ specifier, syntax: kind, mode }, this.#importer(from, isScript));
+    return this.resolution({ specifier, syntax: kind, mode }, this.importer(from, isScript));
   }
 
   /**
-   * Sets the member `resolved` of each object of a `ModuleInfo` that names a module.
-   * @param path the module's, absolute
+   * Sets the member `resolved` of each object of the `ModuleInfo` of the module at an absolute path.
    * @param real the path without links, where a file is known to be there
    * @returns these objects, and what else is known of each
    */
   resolveInfo(info: ModuleInfo, path: string, real?: string): Named[] {
-    const importer = this.#importer(path, info.script === true, real);
-    const all = [...namedBy(info), ...this.#jsxOf(info, importer)];
+    const importer = this.importer(path, info.script === true, real);
+    const all = [...namedBy(info), ...this.jsxOf(info, importer)];
     for (const named of all) {
-      named.node.resolved = this.#resolution(named, importer);
+      named.node.resolved = this.resolution(named, importer);
     }
     return all;
   }
 
-  /**
-   * @param from a path
-   * @returns the path of the file that a name leads to
-   */
+  /** @returns the path of the file that a name leads to, in the module at a path */
   fileOf(specifier: string, from: string): string | undefined {
     const { file } = this.resolve(specifier, absolute(from)) as { file?: string };
     return file && fileURLToPath(file);
   }
 
   /**
-   * The files that a name leads to where other conditions hold.
-   * @param from the absolute path of the module that has the name
+   * The absolute paths of files that a name leads to where other conditions hold, in the module at `from`.
    * @param path of the file that the name leads to
-   * @returns absolute paths
    */
   others(specifier: string, from: string, path?: string): string[] {
-    return this.#search.others(specifier, this.#importer(from, false), path);
+    return this.search.others(specifier, this.importer(from, false), path);
   }
 
-  /**
-   * @param path of a module, without links
-   * @returns the path of the file that it was compiled from, by a configuration
-   */
+  /** @returns the path of the file that a module was compiled from, by a configuration; both without links */
   sourceOf(path: string): string | undefined {
-    return isInstalled(path) ? undefined : this.#search.sourceOf(path);
+    return isInstalled(path) ? undefined : this.search.sourceOf(path);
   }
 
-  /**
-   * @param path of a module, without links
-   * @returns where its source may be, where no configuration has it: paths without endings
-   */
+  /** @returns the paths, without endings, at which the source of a module may be that no configuration has */
   likelySources(path: string): string[] {
-    return isInstalled(path) ? [] : this.#search.likelySources(path);
+    return isInstalled(path) ? [] : this.search.likelySources(path);
   }
 
-  /**
-   * @param path absolute
-   * @returns the folder of the nearest package.json
-   */
+  /** The folder of the nearest package.json, for an absolute path. */
   packageOf(path: string): string | undefined {
-    return this.#manifests.scopeOf(dirname(path))?.folder;
+    return this.manifests.scopeOfFile(path)?.folder;
   }
 
-  /**
-   * @param path absolute
-   * @returns the names of the packages that the nearest package.json lists
-   */
+  /** The names of the packages that the nearest package.json lists, for an absolute path. */
   listedFor(path: string): string[] {
-    const { members = {} } = this.#manifests.scopeOf(dirname(path)) ?? {};
-    return LISTS.map((name) => members[name]).flatMap((list) => (isObject(list) ? Object.keys(list) : []));
+    const { members = {} } = this.manifests.scopeOfFile(path) ?? {};
+    return LISTS.map((name) => members[name]).filter(isObject).flatMap((list) => Object.keys(list));
   }
 
   /** What was found wrong with manifests and configurations since the last call. */
   takeNotices(): string[] {
-    return [this.#manifests, this.#names, this.#types].flatMap((each) => each?.takeNotices() ?? []);
+    const all = [this.manifests, this.configurations, this.importMaps, this.types];
+    return all.flatMap((each) => each?.notices.take() ?? []);
   }
 
   /** What a configuration has JSX made by, where it is a module of the project. */
-  #jsxOf({ jsxImportSource }: ModuleInfo, importer: Importer): Named[] {
+  private jsxOf({ jsxImportSource }: ModuleInfo, importer: Importer): Named[] {
     const isJsx = !jsxImportSource && /\.[jt]sx$/i.test(importer.path);
-    const specifier = isJsx ? this.#names.configurationOf(importer.path)?.options.jsxImportSource : undefined;
-    const resolved = specifier && this.#resolution({ specifier, syntax: "jsx" }, importer);
+    const specifier = isJsx ? this.optionsOf(importer.path).jsxImportSource : undefined;
+    const resolved = specifier && this.resolution({ specifier, syntax: "jsx" }, importer);
     const range: PositionRange = [[0, 0], [0, 0]];
     return resolved && resolved.class === "file"
       ? [{ node: { text: specifier, range, resolved }, kind: "jsx", syntax: "jsx", specifier, range }]
       : [];
   }
 
-  #importer(path: string, isScript: boolean, real?: string): Importer {
-    if (!this.#hasRoot) {
-      this.#addProject(dirname(path));
+  private importer(from: string, isScript: boolean, real?: string): Importer {
+    if (!this.options.root?.length) {
+      this.addProject(dirname(from));
     }
-    const entry = real === undefined ? this.#files.at(absolute(path)) : undefined;
-    return this.#importerOf(real ?? (entry?.kind === "file" ? entry.path : absolute(path)), isScript);
-  }
-
-  #addProject(folder: string) {
-    if (!this.#added.has(folder)) {
-      this.#added.add(folder);
-      const { project, isWhole } = projectOf(folder, this.#files, this.#projects);
-      if (project !== undefined) {
-        this.#files.addProject(project);
-      }
-      if (!isWhole) {
-        this.#files.addAllWithoutLinks();
-      }
-    }
-  }
-
-  #importerOf(path: string, isScript: boolean): Importer {
+    const entry = real === undefined ? this.files.at(absolute(from)) : undefined;
+    const path = real ?? (entry?.kind === "file" ? entry.path : absolute(from));
     const isSource = isTypeScript(path) && !isDeclaration(path) && !isInstalled(path);
-    const suffixes = isSource ? this.#names.configurationOf(path)?.options.moduleSuffixes : undefined;
-    const format = this.#names.formatOf(path, isSource);
-    const key = `${isSource} ${isScript} ${format} ${dirname(path)}\0${this.#names.scopeOf(path)}`;
-    let known = this.#known.get(key);
-    if (!known) {
-      known = new Map();
-      this.#known.set(key, known);
-    }
-    return { path, isTypeScript: isSource, isScript, format, suffixes, known };
+    const suffixes = isSource ? this.optionsOf(path).moduleSuffixes : undefined;
+    const format = this.names.formatOf(path, isSource);
+    const key = `${isSource} ${isScript} ${format} ${dirname(path)}\0${this.names.scopeOf(path)}`;
+    return { path, isTypeScript: isSource, isScript, format, suffixes, known: this.known(key) };
   }
 
-  #resolution(named: Pick<Named, "specifier" | "syntax" | "mode">, importer: Importer): Resolution {
+  private optionsOf(path: string): Options {
+    return this.configurations.of(path).configuration?.options ?? {};
+  }
+
+  /** Adds the project of a folder once. */
+  private readonly addProject = memoized((folder: string) => {
+    const { project, isWhole } = this.projectOf(folder);
+    if (project !== undefined) {
+      this.files.addProject(project);
+    }
+    if (!isWhole) {
+      this.files.addAllWithoutLinks();
+    }
+  });
+
+  private resolution(named: Pick<Named, "specifier" | "syntax" | "mode">, importer: Importer): Resolution {
     const { specifier, syntax, mode } = named;
     if (specifier === undefined) {
       return { class: "unknown" };
@@ -226,55 +204,48 @@ export class Resolver {
       return { class: "missing" };
     }
     const key = `${syntax} ${mode} ${specifier}`;
-    let found = importer.known.get(key);
-    if (!found) {
-      found = this.#found({ specifier, syntax, mode }, importer);
-      if (specifier.length <= MAX_KNOWN_LENGTH && this.#knownCount < MAX_KNOWN) {
-        this.#knownCount++;
-        importer.known.set(key, found);
-      }
+    const known = importer.known.get(key);
+    const found = known ?? this.found({ specifier, syntax, mode }, importer);
+    if (!known && specifier.length <= MAX_KNOWN_LENGTH && this.knownCount < MAX_KNOWN) {
+      this.knownCount++;
+      importer.known.set(key, found);
     }
     return found;
   }
 
-  #found(named: Name, importer: Importer): Resolution {
+  private found(named: Name, importer: Importer): Resolution {
     const { specifier, syntax } = named;
     if (syntax === "path") {
-      return this.#referenced(specifier, importer);
+      return this.referenced(specifier, importer);
     }
     const name = syntax === "jsx" ? `${specifier}/jsx-runtime` : specifier;
-    const run = this.#search.find({ ...named, specifier: name }, importer);
-    const types = this.#types
-      ? this.#types.find(name, importer.path, { syntax, mode: named.mode, format: importer.format })
-      : this.#typesBeside(run);
+    const all = { ...named, specifier: name };
+    const run = this.search.find(all, importer);
+    const types = this.types ? this.types.find(all, importer) : this.typesBeside(run);
     // A URL without a scheme is a path.
     const isPathOfPage = syntax === "url" && !schemeOf(name);
-    return this.#classified(isPathOfPage ? `./${name}` : name, importer, run, types);
+    return this.classified(isPathOfPage ? `./${name}` : name, importer, run, types);
   }
 
-  /**
-   * The declaration file beside what runs.
-   * @returns its path
-   */
-  #typesBeside({ found }: Run): string | undefined {
-    const path = this.#hasDeclarations && found.kind === "file" ? declarationOf(found.path) : undefined;
-    const beside = path === undefined ? undefined : this.#files.at(path);
-    return beside?.kind === "file" && !this.#files.isOutside(beside) ? beside.path : undefined;
+  private typesBeside({ found }: Run): string | undefined {
+    const { declarations = true } = this.options;
+    const path = declarations && found.kind === "file" ? declarationOf(found.path) : undefined;
+    const beside = path === undefined ? undefined : fileAt(path, this.files);
+    return beside?.kind === "file" ? beside.path : undefined;
   }
 
   /** What `/// <reference path="..." />` names. */
-  #referenced(specifier: string, { path }: Importer): Resolution {
-    const found = this.#files.at(absolute(dirname(path), specifier));
-    if (found.kind !== "file") {
-      return { class: "missing" };
+  private referenced(specifier: string, { path }: Importer): Resolution {
+    const found = fileAt(absolute(dirname(path), specifier), this.files);
+    if (found.kind === "outside") {
+      return { class: "outside", target: urlOfPath(found.path) };
     }
-    return this.#files.isOutside(found)
-      ? { class: "outside", target: urlOfPath(found.path) }
-      : { class: "file", file: urlOfPath(found.path) };
+    return found.kind === "file" ? { class: "file", file: urlOfPath(found.path) } : { class: "missing" };
   }
 
   /** @param types the path of what has the types */
-  #classified(specifier: string, importer: Importer, { found, by }: Run, types: string | undefined): Resolution {
+  private classified(specifier: string, importer: Importer, run: Run, types: string | undefined): Resolution {
+    const { found, by } = run;
     if (found.kind === "outside") {
       return { class: "outside", target: urlOfPath(found.path) };
     }
@@ -283,12 +254,12 @@ export class Resolver {
     }
     const { name } = packageOf(specifier) ?? {};
     const path = found.kind === "file" ? found.path : undefined;
-    const files = filesOf(path, types, by);
     const first = path ?? types;
     if (first === undefined) {
-      const isKnown = name === undefined || !PACKAGE_NAME.test(name) || this.#search.hasPackage(name, importer);
+      const isKnown = name === undefined || !PACKAGE_NAME.test(name) || this.search.hasPackage(name, importer);
       return isKnown ? { class: "missing" } : { class: "package", package: name };
     }
+    const files = filesOf(path, types, by);
     const all = { ...files, ...(by && { by }) };
     if (name !== undefined && isInstalled(first)) {
       return { class: "package", package: name, ...all };
@@ -297,10 +268,7 @@ export class Resolver {
   }
 }
 
-/**
- * @returns URLs. A declaration file has types alone, unless it is
- *   named as it is
- */
+/** @returns URLs. A declaration file has types alone, unless it is named as it is */
 function filesOf(
   run: string | undefined, types: string | undefined, by: Rules | undefined,
 ): { file?: string, types?: string } {

@@ -9,45 +9,37 @@ import { dirname, join, relative, resolve as absolute } from "node:path";
 
 import { isDeclaration, isTypeScript, withoutEnding } from "../files/file_kinds.js";
 import { pathOfUrl, urlOfFolder } from "../files/urls.js";
-import { BundlerRules, pathOf, plainNames } from "./bundler_rules.js";
-import { isPath, isRelative, schemeOf } from "./names.js";
-import { NodeRules, packageName } from "./node_rules.js";
+import { BundlerRules, plainNames } from "./bundler_rules.js";
+import { isPath, isRelative, packageOf, pathOf, schemeOf } from "./names.js";
+import { NodeRules } from "./node_rules.js";
 import { PackageFolders } from "./package_folders.js";
 import { allExports, allImports } from "./package_targets.js";
 import { Workspaces } from "./workspaces.js";
 import type { RegularFiles } from "../files/regular_files.js";
+import type { Source } from "./bundler_rules.js";
 import type { ConfiguredNames } from "./configured_names.js";
-import type { Resolution } from "./graph.cjs";
+import type { Resolution, Rules } from "./graph.cjs";
 import type { Configured } from "./import_maps.js";
-import type { Found } from "./node_rules.js";
+import type { Found, Missing } from "./node_rules.js";
 import type { Format as Mode, PackageManifests } from "./package_manifests.js";
 import type { Syntax } from "./references.js";
-
-export type Rules = "node" | "bundler" | "tsconfig" | "importmap";
 
 type Target = Found | { kind: "disabled" | "data" | "npm" | "jsr" | "url" };
 
 /** What runs, and by which rules it was found */
 export type Run = { found: Target, by?: Rules };
 
-export interface Name {
-  specifier: string;
-  syntax: Syntax;
-  /** What an attribute or a comment asks for */
-  mode?: Mode;
-}
+/** `mode` is what an attribute or a comment asks for */
+export type Name = { specifier: string, syntax: Syntax, mode?: Mode };
 
-export interface Importer {
+/** It is TypeScript if it is no declaration file, and not installed. */
+export interface Importer extends Source {
   /** Absolute, without links */
   path: string;
-  /** Whether it is TypeScript, no declaration file, and not installed */
-  isTypeScript: boolean;
   /** Whether it has no syntax of ES modules */
   isScript: boolean;
   /** What an `import` in it becomes */
   format: Mode | undefined;
-  /** What names may have before their endings */
-  suffixes?: string[];
   /** What names lead to, in all files of the folder that have the same rules */
   known: Map<string, Resolution>;
 }
@@ -61,354 +53,279 @@ const BUNDLER_CONDITIONS = [
   "production", "types",
 ];
 
-const MODULES = "/node_modules/";
 /** The names of folders with what is compiled or bundled. */
 const OUTPUTS = new Set(["dist", "build", "out", "output", "lib", "es", "esm", "cjs", "umd", "types", "typings"]);
 
 const NONE: Found = { kind: "none" };
 
-/** The search for what runs. */
 export class Search {
-  #files;
-  #manifests;
-  #names;
-  #packages;
-  #node;
+  private readonly packages;
+  private readonly node;
   /** Node's rules where an import is looked for as a `require`, and where any condition holds. */
-  #importAsRequire;
-  #anyCondition;
-  #bundler;
-  #workspaces;
-  #isBrowser;
+  private readonly importAsRequire;
+  private readonly anyCondition;
+  private readonly bundler;
+  private readonly workspaces;
+  private readonly isBrowser;
 
   /**
-   * @param options.conditions those of `exports` and `imports` besides node's own
-   * @param options.globalFolders those in which a `require` looks last
+   * @param conditions those of `exports` and `imports` besides node's own
+   * @param globalFolders those in which a `require` looks last
    */
   constructor(
-    files: RegularFiles, manifests: PackageManifests, names: ConfiguredNames,
-    { conditions, globalFolders }: { conditions: readonly string[], globalFolders: string[] },
+    private readonly files: RegularFiles, private readonly manifests: PackageManifests,
+    private readonly names: ConfiguredNames, conditions: readonly string[], globalFolders: string[],
   ) {
-    const rules = (all: readonly string[], ofRequire: Mode = "require") => {
-      const own = { import: new Set([...all, "import"]), require: new Set([...all, ofRequire]) };
-      return new NodeRules(files, manifests, this.#packages, own);
+    const rules = (own: readonly string[], ofRequire: Mode = "require") => {
+      const all = [...own, ...conditions];
+      return new NodeRules(files, manifests, this.packages, {
+        import: new Set([...all, "import"]), require: new Set([...all, ofRequire]),
+      });
     };
-    this.#packages = new PackageFolders(files, globalFolders);
-    this.#files = files;
-    this.#manifests = manifests;
-    this.#names = names;
-    this.#workspaces = new Workspaces(files, manifests);
-    this.#isBrowser = conditions.includes("browser");
-    this.#bundler = new BundlerRules(files, manifests, this.#isBrowser ? ["browser"] : []);
-    this.#node = rules([...NODE_CONDITIONS, ...conditions]);
-    this.#importAsRequire = rules([...NODE_CONDITIONS, ...conditions], "import");
-    this.#anyCondition = rules([...BUNDLER_CONDITIONS, ...conditions]);
+    this.packages = new PackageFolders(files, globalFolders);
+    this.workspaces = new Workspaces(files, manifests);
+    this.isBrowser = conditions.includes("browser");
+    this.bundler = new BundlerRules(files, manifests, this.isBrowser ? ["browser"] : []);
+    this.node = rules(NODE_CONDITIONS);
+    this.importAsRequire = rules(NODE_CONDITIONS, "import");
+    this.anyCondition = rules(BUNDLER_CONDITIONS);
   }
 
   find(named: Name, importer: Importer): Run {
     if (named.syntax === "url") {
-      return this.#ofPage(named.specifier, importer);
+      return this.ofPage(named.specifier, importer);
     }
-    const run = this.#replaced(named, importer) ?? this.#byRules(named, importer);
-    const { found } = run;
-    if (!this.#isBrowser || found.kind !== "file") {
+    const run = this.replaced(named.specifier, importer) ?? this.byRules(named, importer);
+    if (!this.isBrowser || run.found.kind !== "file") {
       return run;
     }
-    const other = this.#bundler.replacement(this.#manifests.scopeOf(dirname(found.path)), found.path);
-    return other === undefined ? run : this.#instead(other, found.path, importer);
+    const { path } = run.found;
+    const other = this.bundler.replacement(this.manifests.scopeOfFile(path), path);
+    return other === undefined ? run : this.instead(other, path, importer);
   }
 
   /** Whether a package is there, with or without the file that is looked for. */
   hasPackage(name: string, { path }: Importer): boolean {
-    return name === this.#manifests.scopeOf(dirname(path))?.name ||
-      this.#packages.required(name, dirname(path)) !== undefined ||
-      this.#workspaces.folderOf(name, path) !== undefined;
+    return name === this.manifests.scopeOfFile(path)?.name || this.folderOf(name, path) !== undefined;
+  }
+
+  /** @returns the folder of an installed package, or of one of the project */
+  private folderOf(name: string, path: string): string | undefined {
+    return this.packages.required(name, dirname(path)) ?? this.workspaces.folderOf(name, path);
   }
 
   /**
-   * What a name leads to where other conditions hold: by `imports`, by `exports` of packages of the project, and
-   * by `browser`.
-   * @param path of the file that the name leads to
-   * @returns paths
+   * Paths that a name leads to where other conditions hold: by `imports`, by `exports` of packages of the project,
+   * and by `browser`, also in the place of the file at `path`, which the name leads to.
    */
   others(specifier: string, importer: Importer, path?: string): string[] {
-    const scope = this.#manifests.scopeOf(dirname(importer.path));
+    const scope = this.manifests.scopeOfFile(importer.path);
     const urls = specifier.startsWith("#") && scope
       ? allImports(scope.imports, specifier, urlOfFolder(scope.folder))
-      : this.#allExports(specifier, importer);
-    const replaced = this.#bundler.replacements(scope, specifier);
+      : this.allExports(specifier, importer);
+    const replaced = this.bundler.replacements(scope, specifier);
     if (path !== undefined) {
-      replaced.push(...this.#bundler.replacements(this.#manifests.scopeOf(dirname(path)), path));
+      replaced.push(...this.bundler.replacements(this.manifests.scopeOfFile(path), path));
     }
-    const found = replaced.map((each) => this.#bundler.atPath(each, importer));
-    const paths = found.flatMap((each) => (each.kind === "file" ? each.path : []));
-    return [...urls.flatMap((url) => pathOfUrl(url) ?? []), ...paths];
+    return [...urls.flatMap((url) => pathOfUrl(url) ?? []), ...this.filesAt(replaced, importer)];
+  }
+
+  private filesAt(paths: string[], source: Source): string[] {
+    const found = paths.map((each) => this.bundler.atPath(each, source));
+    return found.flatMap((each) => (each.kind === "file" ? each.path : []));
   }
 
   /** The files of a package of the project that a name may lead to. */
-  #allExports(specifier: string, { path }: Importer): URL[] {
+  private allExports(specifier: string, { path }: Importer): URL[] {
     const { name, rest } = packageOf(specifier) ?? {};
-    if (name === undefined) {
-      return [];
-    }
-    const scope = this.#manifests.scopeOf(dirname(path));
-    const folder = scope?.name === name ? scope.folder : this.#workspaces.folderOf(name, path);
-    const exports = folder === undefined ? undefined : this.#manifests.of(folder)?.exports;
+    const scope = this.manifests.scopeOfFile(path);
+    const folder = name === undefined
+      ? undefined
+      : scope?.name === name ? scope.folder : this.workspaces.folderOf(name, path);
+    const exports = folder === undefined ? undefined : this.manifests.of(folder)?.exports;
     return exports && folder !== undefined ? allExports(exports, `.${rest}`, urlOfFolder(folder)) : [];
   }
 
-  /**
-   * What the `src` of a page's script leads to: a path from the page, or from the folder that a server has for
-   * its root.
-   * @param importer the page
-   */
-  #ofPage(specifier: string, importer: Importer): Run {
+  /** What the `src` of a page's script leads to: a path from the page, or from the root of a server. */
+  private ofPage(specifier: string, importer: Importer): Run {
     if (schemeOf(specifier) || specifier.startsWith("//")) {
       return { found: atUrl(specifier.startsWith("//") ? `https:${specifier}` : specifier) };
     }
     const folder = dirname(importer.path);
-    const root = this.#manifests.scopeOf(folder)?.folder ?? folder;
+    const root = this.manifests.scopeOf(folder)?.folder ?? folder;
     const folders = specifier.startsWith("/") ? [folder, root, join(root, "public")] : [folder];
-    for (const name of plainNames(specifier)) {
-      const paths = folders.map((each) => pathOf(`./${name.replace(/^\/+/, "")}`, each));
-      const found = paths.map((path) => this.#bundler.atPath(path, importer)).find(({ kind }) => kind !== "none");
-      if (found) {
-        return { found, by: "bundler" };
-      }
-    }
-    return { found: NONE };
+    const names = plainNames(specifier).map((name) => `./${name.replace(/^\/+/, "")}`);
+    const paths = names.flatMap((name) => folders.map((each) => pathOf(name, each)));
+    const found = this.bundler.atPaths(paths, importer);
+    return found ? { found, by: "bundler" } : { found: NONE };
   }
 
-  /**
-   * The source of a file that is there and was compiled, by a configuration.
-   * @returns its path
-   */
+  /** The path of the source of a file that is there and was compiled, by a configuration. */
   sourceOf(path: string): string | undefined {
-    const importer = { isTypeScript: true };
-    const found = this.#names.sourcesOf(path).map((each) => this.#bundler.atPath(each, importer))
-      .find((each) => each.kind === "file" && each.path !== path && !isDeclaration(each.path));
-    return found && "path" in found ? found.path : undefined;
+    return this.filesAt(this.names.sourcesOf(path), { isTypeScript: true })
+      .find((each) => each !== path && !isDeclaration(each));
   }
 
   /**
-   * Where the source of a file may be that is in a folder of outputs: at the same path below `src`.
-   * @returns paths without endings
+   * Where the source of a file in a folder of outputs may be: at the same path below `src`, without an ending.
+   * @param folders in place of `src`
+   * @param isMissing whether the folder of outputs may not be there
    */
-  likelySources(path: string): string[] {
-    const { folder } = this.#manifests.scopeOf(dirname(path)) ?? {};
-    const parts = folder === undefined ? [] : partsBelow(folder, path);
-    return folder !== undefined && OUTPUTS.has(parts[0])
-      ? parts.slice(1).map((_, at) => absolute(folder, "src", ...parts.slice(at + 1)))
+  likelySources(path: string, folders: string[] = ["src"], isMissing: boolean = false): string[] {
+    const { folder = path } = this.manifests.scopeOfFile(path) ?? {};
+    const isBelow = path.startsWith(`${folder}/`);
+    const [output, ...names] = isBelow ? withoutEnding(relative(folder, path)).split("/") : [""];
+    const isMeant = OUTPUTS.has(output) && !(isMissing && this.files.in(folder, output).kind !== "none");
+    return isMeant
+      ? names.flatMap((_, at) => folders.map((each) => absolute(folder, each, ...names.slice(at))))
       : [];
   }
 
-  /** What `browser` has for a name. */
-  #replaced({ specifier }: { specifier: string }, importer: Importer): Run | undefined {
-    if (!this.#isBrowser) {
+  private replaced(specifier: string, importer: Importer): Run | undefined {
+    if (!this.isBrowser) {
       return undefined;
     }
     const hasPath = isPath(specifier);
     const key = hasPath ? absolute(dirname(importer.path), specifier) : specifier;
-    const manifest = this.#manifests.scopeOf(dirname(hasPath ? key : importer.path));
-    const other = this.#bundler.replacement(manifest, key);
+    const other = this.bundler.replacement(this.manifests.scopeOfFile(hasPath ? key : importer.path), key);
     if (other !== undefined) {
-      return this.#instead(other, importer.path, importer);
+      return this.instead(other, importer.path, importer);
     }
     const { name, rest } = packageOf(specifier) ?? {};
-    const folder = name === undefined ? undefined : this.#packages.required(name, dirname(importer.path));
-    const own = folder === undefined ? undefined : this.#manifests.of(folder);
-    const hasMain = rest === "" && typeof own?.members.browser === "string" && !own.exports;
-    return hasMain ? { found: this.#bundler.inPackage(own.folder, "", importer), by: "bundler" } : undefined;
+    const folder = name && rest === "" ? this.packages.required(name, dirname(importer.path)) : undefined;
+    const own = folder && this.manifests.of(folder);
+    const hasMain = own && typeof own.members.browser === "string" && !own.exports;
+    return hasMain ? { found: this.bundler.inPackage(own.folder, "", importer), by: "bundler" } : undefined;
   }
 
-  /**
-   * @param other what `browser` has instead: a path, or a name
-   * @param from the path of a file of the package
-   */
-  #instead(other: string | false, from: string, importer: Importer): Run {
+  /** What is at the path or the name that `browser` has instead, in the package of a file. */
+  private instead(other: string | false, from: string, importer: Importer): Run {
     if (other === false) {
       return { found: { kind: "disabled" } };
     }
-    const found = other.startsWith("/") ? this.#bundler.atPath(other, importer) : this.#node.import(other, from);
+    const found = other.startsWith("/") ? this.bundler.atPath(other, importer) : this.node.import(other, from);
     return { found, by: "bundler" };
   }
 
-  #byRules(named: Name, importer: Importer): Run {
+  private byRules(named: Name, importer: Importer): Run {
     const { specifier } = named;
-    const run = this.#byConfiguration(this.#names.find(specifier, importer.path), importer) ??
-      this.#bySource(specifier, importer) ?? byScheme(specifier) ?? this.#byNodeAndBundlers(named, importer);
+    const run = this.byConfiguration(this.names.find(specifier, importer.path), importer) ??
+      this.bySource(specifier, importer) ?? byScheme(specifier) ?? this.byNodeAndBundlers(named, importer);
     return run.found.kind === "none"
-      ? this.#byConfiguration(this.#names.findElsewhere(specifier, importer.path), importer) ?? run
+      ? this.byConfiguration(this.names.findElsewhere(specifier, importer.path), importer) ?? run
       : run;
   }
 
-  #byConfiguration(configured: Configured | undefined, importer: Importer): Run | undefined {
-    if (!configured) {
-      return undefined;
+  private byConfiguration(configured: Configured | undefined, importer: Importer): Run | undefined {
+    const { by, paths = [], name } = configured ?? {};
+    const found = this.bundler.atPaths(paths, importer);
+    if (found || name === undefined) {
+      return found && { found, by };
     }
-    const { by, paths, name } = configured;
-    const found = paths.map((path) => this.#bundler.atPath(path, importer)).find(({ kind }) => kind !== "none");
-    if (found) {
-      return { found, by };
-    }
-    return name === undefined
-      ? undefined
-      : byScheme(name) ?? { ...this.#byNodeAndBundlers({ specifier: name, syntax: "import" }, importer), by };
+    return byScheme(name) ?? { ...this.byNodeAndBundlers({ specifier: name, syntax: "import" }, importer), by };
   }
 
   /** The TypeScript file of a relative name in one. */
-  #bySource(specifier: string, importer: Importer): Run | undefined {
+  private bySource(specifier: string, importer: Importer): Run | undefined {
     if (!importer.isTypeScript || !isRelative(specifier)) {
       return undefined;
     }
-    const path = pathOf(specifier, dirname(importer.path));
-    const found = this.#bundler.atPath(path, importer);
-    if (found.kind !== "file" || isDeclaration(found.path) || !isTypeScript(found.path)) {
+    const wanted = pathOf(specifier, dirname(importer.path));
+    const [path] = this.filesAt([wanted], importer);
+    if (path === undefined || isDeclaration(path) || !isTypeScript(path)) {
       return undefined;
     }
-    const isPlain = path === found.path && importer.format === "import";
-    return { found, by: isPlain ? "node" : "bundler" };
+    const isNode = path === wanted && importer.format === "import";
+    return { found: { kind: "file", path }, by: isNode ? "node" : "bundler" };
   }
 
-  #byNodeAndBundlers(named: Name, importer: Importer): Run {
-    const { specifier } = named;
-    const results: Found[] = [];
-    for (const mode of nodeModes(named, importer)) {
-      const found = this.#node[mode](specifier, importer.path);
-      if (found.kind !== "none") {
-        const by = results.length === 0 ? "node" : "bundler";
-        return { found: found.kind === "url" ? atUrl(found.url) : found, by };
+  private byNodeAndBundlers(named: Name, importer: Importer): Run {
+    const missing: Missing[] = [];
+    for (const run of this.tries(named, importer)) {
+      if (run.found.kind !== "none") {
+        return run;
       }
-      results.push(found);
+      missing.push(run.found);
     }
-    for (const name of plainNames(specifier)) {
-      const found = isPath(name)
-        ? this.#pathByBundler(name, importer)
-        : this.#nameByBundler({ ...named, specifier: name }, importer, results);
-      if (found.kind !== "none") {
-        return { found, by: "bundler" };
-      }
-      results.push(found);
-    }
-    return this.#bySources(results, importer);
+    const found = missing.find((each) => each.package !== undefined) ?? NONE;
+    return this.bySources(missing, importer) ?? { found };
   }
 
-  #pathByBundler(name: string, importer: Importer): Found {
-    const found = this.#bundler.atPath(pathOf(name, dirname(importer.path)), importer);
-    const { folder } = this.#manifests.scopeOf(dirname(importer.path)) ?? {};
+  private *tries(named: Name, importer: Importer): Generator<Run> {
+    for (const [at, mode] of nodeModes(named, importer).entries()) {
+      const found = this.node[mode](named.specifier, importer.path);
+      yield { found: found.kind === "url" ? atUrl(found.url) : found, by: at === 0 ? "node" : "bundler" };
+    }
+    for (const specifier of plainNames(named.specifier)) {
+      const all = isPath(specifier)
+        ? [this.pathByBundler(specifier, importer)]
+        : this.nameByBundler({ ...named, specifier }, importer);
+      for (const found of all) {
+        yield { found, by: "bundler" };
+      }
+    }
+  }
+
+  private pathByBundler(name: string, importer: Importer): Found {
+    const path = pathOf(name, dirname(importer.path));
+    const { folder } = this.manifests.scopeOfFile(importer.path) ?? {};
+    const found = this.bundler.atPath(path, importer);
     if (found.kind !== "none") {
       return found;
     }
     // A server of a bundler has the project's folder as its root.
     return name.startsWith("/") && folder !== undefined
-      ? this.#bundler.atPath(pathOf(`.${name}`, folder), importer)
-      : this.#bundler.ofPlatform(pathOf(name, dirname(importer.path)), importer) ?? found;
+      ? this.bundler.atPath(pathOf(`.${name}`, folder), importer)
+      : this.bundler.ofPlatform(path, importer) ?? found;
   }
 
-  /** @param results to which those that aren't found are added */
-  #nameByBundler({ specifier: name, syntax, mode }: Name, importer: Importer, results: Found[]): Found {
-    const isRequire = (mode ?? syntax) === "require";
-    const tries = [
-      () => (isRequire ? NONE : this.#importAsRequire.require(name, importer.path)),
-      () => this.#node.require(name, importer.path),
-      () => this.#anyCondition.import(name, importer.path),
-      () => this.#inPackage(name, importer),
-      () => this.#inTypes(name, importer),
-    ];
-    for (const find of tries) {
-      const found = find();
-      if (found.kind !== "none") {
-        return found;
-      }
-      results.push(found);
-    }
-    return NONE;
-  }
-
-  #inPackage(specifier: string, importer: Importer): Found {
-    const { name, rest } = packageOf(specifier) ?? {};
-    if (name === undefined || rest === undefined) {
-      return NONE;
-    }
+  private *nameByBundler({ specifier, syntax, mode }: Name, importer: Importer): Generator<Found> {
     const { path } = importer;
-    const workspace = this.#packages.required(name, dirname(path)) ?? this.#workspaces.folderOf(name, path);
-    const found = workspace === undefined ? NONE : this.#anyCondition.ofPackage(workspace, rest, "import");
-    if (workspace === undefined || found.kind !== "none" || this.#manifests.of(workspace)?.exports) {
+    if ((mode ?? syntax) !== "require") {
+      yield this.importAsRequire.require(specifier, path);
+    }
+    yield this.node.require(specifier, path);
+    yield this.anyCondition.import(specifier, path);
+    const { name, rest = "" } = packageOf(specifier) ?? {};
+    if (name !== undefined) {
+      yield this.inPackage(this.folderOf(name, path), rest, importer);
+      // The types of a package that is compiled away, as one of types alone is.
+      const types = this.packages.required(`@types/${name.replace(/^@/, "").replace("/", "__")}`, dirname(path));
+      yield types === undefined ? NONE : this.bundler.inPackage(types, rest, importer);
+    }
+  }
+
+  private inPackage(folder: string | undefined, rest: string, importer: Importer): Found {
+    const found = folder === undefined ? NONE : this.anyCondition.ofPackage(folder, rest, "import");
+    if (folder === undefined || found.kind !== "none" || this.manifests.of(folder)?.exports) {
       return found;
     }
-    const other = this.#bundler.inPackage(workspace, rest, importer);
+    const other = this.bundler.inPackage(folder, rest, importer);
     return other.kind === "none" ? found : other;
   }
 
-  /** What has the types of a package that is compiled away, as one of types alone is. */
-  #inTypes(specifier: string, importer: Importer): Found {
-    const { name, rest } = packageOf(specifier) ?? {};
-    if (name === undefined || rest === undefined) {
-      return NONE;
-    }
-    const own = `@types/${name.replace(/^@/, "").replace("/", "__")}`;
-    const folder = this.#packages.required(own, dirname(importer.path));
-    return folder === undefined ? NONE : this.#bundler.inPackage(folder, rest, importer);
-  }
-
   /** The sources of files that are to be compiled, and aren't there yet. */
-  #bySources(results: Found[], importer: Importer): Run {
-    const source = { ...importer, isTypeScript: true };
-    for (const path of new Set(results.flatMap((each) => this.#wanted(each)))) {
-      for (const [by, names] of ([
-        ["tsconfig", this.#names.sourcesOf(path)], ["bundler", this.#unbuilt(path)],
-      ] as const)) {
-        const found = names.map((each) => this.#bundler.atPath(each, source)).find(({ kind }) => kind === "file");
-        if (found) {
-          return { found, by };
-        }
+  private bySources(missing: Missing[], importer: Importer): Run | undefined {
+    for (const wanted of new Set(missing.flatMap((each) => this.wanted(each)))) {
+      const source = { ...importer, isTypeScript: true };
+      const [compiled] = this.filesAt(this.names.sourcesOf(wanted), source);
+      const path = compiled ?? this.filesAt(this.likelySources(wanted, ["src", ""], true), source)[0];
+      if (path !== undefined) {
+        return { found: { kind: "file", path }, by: compiled ? "tsconfig" : "bundler" };
       }
     }
-    const missing = results.find((each) => each.kind === "none" && each.package !== undefined);
-    return { found: missing ?? NONE };
+    return undefined;
   }
 
   /** The path at which a file isn't, without links. */
-  #wanted(found: Found): string[] {
-    if (found.kind !== "none" || found.wanted === undefined) {
+  private wanted({ wanted, package: folder }: Missing): string[] {
+    if (wanted === undefined) {
       return [];
     }
-    const { wanted, package: folder } = found;
     const isIn = folder !== undefined && wanted.startsWith(`${folder}/`);
-    const path = isIn ? this.#files.at(folder).path + wanted.slice(folder.length) : wanted;
-    return path.includes(MODULES) ? [] : [path];
+    const path = isIn ? this.files.at(folder).path + wanted.slice(folder.length) : wanted;
+    return path.includes("/node_modules/") ? [] : [path];
   }
-
-  /** Where the source of a file may be whose folder of outputs isn't there. */
-  #unbuilt(path: string): string[] {
-    const { folder } = this.#manifests.scopeOf(dirname(path)) ?? {};
-    const parts = folder === undefined ? [] : partsBelow(folder, path);
-    if (folder === undefined || !OUTPUTS.has(parts[0]) ||
-      this.#files.at(absolute(folder, parts[0])).kind !== "none") {
-      return [];
-    }
-    return parts.slice(1).flatMap((_, at) => {
-      const rest = parts.slice(at + 1);
-      return [absolute(folder, "src", ...rest), absolute(folder, ...rest)];
-    });
-  }
-}
-
-/**
- * @returns the names on the way from the folder to the file, which has no ending; none of a file
- *   that isn't below the folder
- */
-function partsBelow(folder: string, path: string): string[] {
-  return path.startsWith(`${folder}/`) ? withoutEnding(relative(folder, path)).split("/") : [];
-}
-
-/**
- * The name of the package in which a name is looked for, and what follows it.
- * @returns nothing for what no package's name is
- */
-export function packageOf(specifier: string): { name: string, rest: string } | undefined {
-  const isOther = schemeOf(specifier) || specifier.startsWith("#") || isPath(specifier);
-  return isOther ? undefined : packageName(specifier);
 }
 
 /**
@@ -428,18 +345,13 @@ function nodeModes({ syntax, mode }: Name, { isTypeScript: isSource, isScript, f
 
 /** @returns nothing for a path and for a name */
 function byScheme(specifier: string): Run | undefined {
-  switch (schemeOf(specifier)) {
-    case undefined:
-    case "file":
-      return undefined;
-    case "node":
-      return { found: isBuiltin(specifier) ? { kind: "builtin" } : NONE };
-    default:
-      return { found: atUrl(specifier) };
+  const scheme = schemeOf(specifier);
+  if (scheme === "node") {
+    return { found: isBuiltin(specifier) ? { kind: "builtin" } : NONE };
   }
+  return scheme === undefined || scheme === "file" ? undefined : { found: atUrl(specifier) };
 }
 
 function atUrl(url: string): Target {
-  const scheme = schemeOf(url);
-  return { kind: scheme === "data" || scheme === "npm" || scheme === "jsr" ? scheme : "url" };
+  return { kind: (["data", "npm", "jsr"] as const).find((each) => each === schemeOf(url)) ?? "url" };
 }
