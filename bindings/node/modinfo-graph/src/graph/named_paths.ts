@@ -3,10 +3,9 @@
 import { dirname, join } from "node:path";
 
 import { isPage } from "../files/file_kinds.js";
-import { literalOf, plainGlob } from "./literals.js";
+import { plainGlob } from "./literals.js";
 import { isPath, isRelative, tailOf } from "./names.js";
-import type { LooseReference } from "./folder_loaders.js";
-import type { Literal } from "./literals.js";
+import type { LooseReference, Parts } from "./literals.js";
 import type { Candidates } from "./name_patterns.js";
 import type { Resolver } from "./resolver.js";
 
@@ -16,6 +15,7 @@ const ROOT_DIR = /^<rootDir>\//;
 /** The folders that a server may have for its root, in the folder of a package. */
 const SERVED = ["", "public", "static"];
 
+/** Each method is given the path of the file that has the name. */
 export class NamedPaths {
   #candidates;
   #resolver;
@@ -25,81 +25,65 @@ export class NamedPaths {
     this.#resolver = resolver;
   }
 
-  /**
-   * The files of a call or a tag.
-   * @param from the path of the file that has it
-   */
   of(from: string, { kind, parts, form, isFile }: LooseReference): string[] {
     const folders = this.#foldersOf(from, parts[0], kind);
-    const [name = "", ...others] = parts;
+    const [name = ""] = parts;
     switch (form) {
+      case "literal":
+      case "literal glob":
+        return this.#ofLiteral(parts, form === "literal glob", from);
       case "glob":
         return isPath(name) || name.startsWith("*")
-          ? folders.flatMap((folder) => this.#candidates.globbed(plainGlob(name), folder))
-          : this.#candidates.globbed(`**/${plainGlob(tailOf(name))}`, this.#packageOf(from));
+          ? this.#globbed(name, folders)
+          : this.#globbed(`**/${tailOf(name)}`, [this.#packageOf(from)]);
       case "folder":
         return folders.flatMap((folder) => this.#candidates.below(name, folder));
       case "amd":
         return this.#ofAmd(name, from);
       default:
+        return parts.includes(undefined)
+          ? folders.flatMap((folder) => this.#candidates.matching(atFolder(parts, isFile), folder))
+          : this.#ofName(parts.join(""), from, folders, isFile);
     }
-    if (parts.includes(undefined)) {
-      const relative = parts[0]?.startsWith("/") ? [`.${parts[0]}`, ...others] : parts;
-      const pattern = isFile ? atFolder(relative) : relative;
-      return folders.flatMap((folder) => this.#candidates.matching(pattern, folder));
-    }
-    const whole = parts.join("");
-    const isOfFile = isPath(whole) || whole.startsWith(".") || isFile === true;
-    const path = isOfFile ? undefined : this.#resolver.fileOf(whole, from);
+  }
+
+  #globbed(glob: string, folders: string[]): string[] {
+    return folders.flatMap((folder) => this.#candidates.globbed(plainGlob(glob), folder));
+  }
+
+  #ofName(name: string, from: string, folders: string[], isFile: boolean = false): string[] {
+    const isOfFile = isPath(name) || name.startsWith(".") || isFile;
+    const path = isOfFile ? undefined : this.#resolver.fileOf(name, from);
     if (path !== undefined) {
       return [path];
     }
     // The `src` of a page is a URL: without a slash it leads to a file beside the page.
-    return isOfFile || isPage(from)
-      ? folders.flatMap((folder) => this.#candidates.named(whole.replace(/^\/+/, ""), folder))
-      : [];
+    const named = isOfFile || isPage(from) ? folders : [];
+    return named.flatMap((folder) => this.#candidates.named(name.replace(/^\/+/, ""), folder));
   }
 
-  /**
-   * The files of a string literal.
-   * @param from the path of the file that has it
-   */
-  ofParts({ parts, isGlob }: Pick<Literal, "parts" | "isGlob">, from: string): string[] {
-    const [first = ""] = parts;
-    const [name, folders] = ROOT_DIR.test(first)
-      ? [first.replace(ROOT_DIR, "./"), [this.#packageOf(from)]]
-      : [first, [...new Set([dirname(from), this.#packageOf(from)])]];
+  #ofLiteral([first = "", ...others]: Parts, isGlob: boolean, from: string): string[] {
+    const name = first.replace(ROOT_DIR, "./");
+    const folders = [...new Set([...(name === first ? [dirname(from)] : []), this.#packageOf(from)])];
     if (isGlob) {
-      const glob = plainGlob(name.includes("/") ? name : `**/${name}`);
-      return folders.flatMap((folder) => this.#candidates.globbed(glob, folder));
+      return this.#globbed(name.includes("/") ? name : `**/${name}`, folders);
     }
-    return parts.length > 1
-      ? this.#candidates.matching([name, ...parts.slice(1)], dirname(from))
-      : this.#ofName(name.replace(/^\/+/, ""), folders);
-  }
-
-  /**
-   * The files of a text that may be a name or a glob.
-   * @param from the path of the file that has it
-   */
-  ofLiteral(text: string, from: string): string[] {
-    const literal = literalOf(text);
-    return literal ? this.ofParts(literal, from) : [];
+    return others.length > 0
+      ? this.#candidates.matching([name, ...others], dirname(from))
+      : this.#ofFile(name.replace(/^\/+/, ""), folders);
   }
 
   /** What a name leads to from the first of some folders from which it leads to a file. */
-  #ofName(name: string, folders: string[]): string[] {
+  #ofFile(name: string, folders: string[]): string[] {
     const found = folders.map((folder) => this.#candidates.named(name, folder));
     if (found.every((each) => each.length === 0)) {
       return [];
     }
-    for (const [at, folder] of folders.entries()) {
+    const files = folders.map((folder, at) => {
       const path = this.#resolver.fileOf(isRelative(name) ? name : `./${name}`, join(folder, "package.json"));
-      if (path !== undefined || found[at].length > 0) {
-        return path === undefined ? found[at] : [path];
-      }
-    }
-    return [];
+      return path === undefined ? found[at] : [path];
+    });
+    return files.find((each) => each.length > 0) ?? [];
   }
 
   /**
@@ -118,27 +102,22 @@ export class NamedPaths {
     return found;
   }
 
-  /**
-   * The folders from which a name is looked for.
-   * @param from the path of the file that has it
-   * @param first its first part
-   */
+  /** The folders from which a name is looked for, by its first part. */
   #foldersOf(from: string, first: string | undefined, kind: string) {
-    const folder = dirname(from);
     const isOfRoot = kind === "new Worker" || (first?.startsWith("/") && kind !== "__dirname");
     const served = isOfRoot ? [process.cwd(), ...SERVED.map((each) => join(this.#packageOf(from), each))] : [];
-    return [...new Set([folder, ...served])];
+    return [...new Set([dirname(from), ...served])];
   }
 
-  /**
-   * @param from the path of a file
-   * @returns the folder of its package, else its own
-   */
+  /** The folder of the package of a file, else its own. */
   #packageOf(from: string): string {
     return this.#resolver.packageOf(from) ?? dirname(from);
   }
 }
 
-function atFolder([first, ...others]: (string | undefined)[]) {
-  return first === undefined || isRelative(first) ? [first, ...others] : [`./${first}`, ...others];
+/** @param isFile whether a name without a dot at its beginning is a path */
+function atFolder([first, ...others]: Parts, isFile: boolean = false): Parts {
+  const isSlashed = first?.startsWith("/");
+  const before = isSlashed ? "." : isFile && first !== undefined && !isRelative(first) ? "./" : "";
+  return [first === undefined ? first : before + first, ...others];
 }

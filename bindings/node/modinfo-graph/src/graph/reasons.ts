@@ -5,22 +5,23 @@
 import { dirname, extname, join, relative, resolve as absolute } from "node:path";
 import { fileURLToPath, pathToFileURL } from "node:url";
 
+import { memoized } from "../files/by_folder.js";
 import { isComponent, isPage } from "../files/file_kinds.js";
 import { readRegularFile } from "../files/regular_file.js";
 import { isReport } from "../files/report_pages.js";
 import { urlOfPath } from "../files/urls.js";
 import { loaderOf } from "./conventions.js";
+import { commentsOf, literalOf, literalsOf } from "./literals.js";
 import { looseCalls, looseImports } from "./loose_references.js";
 import { Candidates } from "./name_patterns.js";
 import { NamedPaths } from "./named_paths.js";
 import { isAlias, isRelative, tailOf } from "./names.js";
-import { Positions } from "./positions.js";
+import { positionsIn } from "./positions.js";
 import { isRunKind } from "./references.js";
 import { searchedText } from "./scripts.js";
-import { TextLiterals } from "./text_literals.js";
 import type { Perhaps } from "./entry_points.js";
-import type { LooseReference } from "./folder_loaders.js";
-import type { Reason, ReasonKind, Reference } from "./graph.cjs";
+import type { Ends, Reason, ReasonKind, Reference } from "./graph.cjs";
+import type { Parts } from "./literals.js";
 import type { ModuleGraph } from "./module_graph.js";
 import type { Resolver } from "./resolver.js";
 
@@ -56,23 +57,16 @@ export class Reasons {
     this.#paths = new NamedPaths(this.#candidates, project.resolver);
   }
 
-  /**
-   * @param starts keys of modules that are taken for reached
-   * @returns why each other module may be reached, by their keys
-   */
+  /** Why each module may be reached, by their keys; the starts are keys that are taken for reached. */
   find(starts: string[]): Map<string, Reason> {
     const { pages, perhaps } = this.#project;
-    starts.forEach((key) => this.#todo.add(key));
-    pages.forEach((path) => this.#todo.add(pathToFileURL(path).href));
-    for (const { specifier, isExcluded } of this.#graph.modules) {
-      if (isExcluded) {
-        this.#todo.add(specifier);
-      }
-    }
+    const excluded = this.#graph.modules.filter(({ isExcluded }) => isExcluded).map(({ specifier }) => specifier);
+    this.#todo = new Set([...starts, ...pages.map((path) => pathToFileURL(path).href), ...excluded]);
     this.#takeConventions();
     for (const { kind, path, from, text } of perhaps) {
-      const paths = path === undefined ? this.#paths.ofLiteral(text, from) : [path];
-      paths.forEach((each) => this.#add(urlOfPath(each), { kind, module: urlOfPath(from), text }));
+      const literals = path === undefined ? [literalOf(text)].flat() : [];
+      const paths = path === undefined ? literals.flatMap((each) => this.#paths.of(from, each)) : [path];
+      this.#add(paths.map(urlOfPath), { kind, module: urlOfPath(from), text });
     }
     // Files that are added meanwhile follow.
     for (const key of this.#todo) {
@@ -84,23 +78,19 @@ export class Reasons {
   /** What frameworks load by its path. */
   #takeConventions() {
     const { resolver } = this.#project;
-    const loaders: Map<string, ReturnType<typeof loaderOf>> = new Map();
+    const loaderIn = memoized((folder: string) => loaderOf(resolver.listedFor(join(folder, "package.json"))));
     for (const { specifier } of this.#graph.modules.filter((each) => this.#isOpen(each.specifier))) {
       const path = fileURLToPath(specifier);
-      const folder = resolver.packageOf(path);
-      const loader = folder === undefined ? undefined : loaders.get(folder) ?? loaderOf(resolver.listedFor(path));
-      if (folder !== undefined && loader) {
-        loaders.set(folder, loader);
-        const text = loader(relative(folder, path));
-        const module = urlOfPath(join(folder, "package.json"));
-        this.#add(specifier, text === undefined ? undefined : { kind: "convention", module, text });
-      }
+      const folder = resolver.packageOf(path) ?? "";
+      const text = folder && loaderIn(folder)(relative(folder, path));
+      const module = urlOfPath(join(folder, "package.json"));
+      this.#add(text ? [specifier] : [], { kind: "convention", module, text });
     }
   }
 
   #search(key: string) {
     const module = this.#graph.module(key);
-    const { references, fault } = module ?? { references: [] as Reference[], fault: undefined };
+    const references = module?.references ?? [];
     if (module && !this.#reached.has(key)) {
       this.#takeEdges(key);
     }
@@ -108,9 +98,7 @@ export class Reasons {
     this.#takeSources(key);
     const text = textOf(key);
     if (text !== undefined) {
-      const loose = module && !fault ? looseCalls(text) : looseImports(text, kindOfText(key, fault));
-      loose.forEach((each) => this.#takeLoose(key, text, each));
-      this.#takeLiterals(key, text, references);
+      this.#takeText(key, text, references);
     }
   }
 
@@ -119,72 +107,62 @@ export class Reasons {
     const isExcluded = this.#graph.module(key)?.isExcluded;
     const kind = isExcluded ? "excluded" : isPage(fileURLToPath(key)) ? "script" : "import";
     for (const edge of this.#graph.edgesFrom(key).filter(({ to }) => to !== key)) {
-      const { reference: { range: [start], specifier } } = this.#graph.mentionOf(edge);
-      this.#add(edge.to, { kind, module: key, position: start, text: specifier });
+      const { reference: { range: [position], specifier } } = this.#graph.mentionOf(edge);
+      this.#add([edge.to], { kind, module: key, position, text: specifier });
     }
   }
 
   /** What is built of other files: those are in use that have the same path below `src`. */
   #takeSources(key: string) {
     const source = this.#graph.module(key)?.source;
-    if (source !== undefined) {
-      this.#add(source, { kind: "output", module: key });
-      return;
-    }
-    const paths = this.#project.resolver.likelySources(fileURLToPath(key));
-    for (const path of paths.flatMap((each) => this.#candidates.named(each, "/"))) {
-      this.#add(urlOfPath(path), { kind: "output", module: key });
-    }
+    const likely = source === undefined ? this.#project.resolver.likelySources(fileURLToPath(key)) : [];
+    const paths = likely.flatMap((each) => this.#candidates.named(each, "/"));
+    this.#add([source ?? [], paths.map(urlOfPath)].flat(), { kind: "output", module: key });
   }
 
-  /**
-   * The known parts of an argument; other conditions and platforms; a bundler's alias; a file that isn't read
-   * as a module.
-   */
+  /** The known parts of an argument; other conditions and platforms; a bundler's alias; an ignored file. */
   #takeReference(key: string, { specifier, argument, range: [position], resolved }: Reference) {
     const path = fileURLToPath(key);
-    const { file } = resolved as { file?: string };
-    if (file && !this.#graph.module(file) && this.#project.isIgnored(fileURLToPath(file))) {
+    const { file } = resolved as Ends;
+    const target = file === undefined ? [] : [fileURLToPath(file)];
+    if (file && !this.#graph.module(file) && target.some(this.#project.isIgnored)) {
       this.#todo.add(file);
     }
-    const add = (kind: Reason["kind"], paths: string[], text = specifier) => {
-      paths.forEach((each) => this.#add(urlOfPath(each), { kind, module: key, position, text }));
+    const add = (kind: ReasonKind, paths: string[], text = specifier) => {
+      this.#add(paths.map(urlOfPath), { kind, module: key, position, text });
     };
     if (argument) {
       const parts = argument.map((part) => (part.type === "string" ? part.value : undefined));
       add("template", this.#candidates.matching(parts, dirname(path)), shown(parts));
     }
-    if (specifier !== undefined) {
-      const target = file && fileURLToPath(file);
-      add("condition", this.#project.resolver.others(specifier, path, target));
-      if (isRelative(specifier)) {
-        const named = [absolute(dirname(path), specifier), target ?? []].flat();
-        add("condition", named.flatMap((each) => this.#candidates.ofPlatforms(each)));
-      } else if (!file && isAlias(specifier)) {
-        add("alias", this.#candidates.ending(tailOf(specifier)));
-      }
+    if (specifier === undefined) {
+      return;
+    }
+    add("condition", this.#project.resolver.others(specifier, path, target[0]));
+    if (isRelative(specifier)) {
+      const named = [absolute(dirname(path), specifier), ...target];
+      add("condition", named.flatMap((each) => this.#candidates.ofPlatforms(each)));
+    } else if (!file && isAlias(specifier)) {
+      add("alias", this.#candidates.ending(tailOf(specifier)));
     }
   }
 
-  /** @param key of the module, or of the other file */
-  #takeLoose(key: string, text: string, loose: LooseReference) {
-    const { kind, parts, offset } = loose;
-    const open = this.#paths.of(fileURLToPath(key), loose).map(urlOfPath).filter((to) => this.#isOpen(to));
-    if (open.length > 0) {
-      const position = new Positions(text).of(offset);
-      open.forEach((to) => this.#add(to, { kind, module: key, position, text: shown(parts) }));
-    }
-  }
-
-  /** @param references whose names are known without the text */
-  #takeLiterals(key: string, text: string, references: Reference[]) {
-    const literals = new TextLiterals(text, references);
-    for (const literal of literals.all) {
-      const paths = this.#paths.ofParts(literal, fileURLToPath(key));
-      const open = paths.map(urlOfPath).filter((to) => this.#isOpen(to));
-      const position = open.length > 0 ? literals.positionOf(literal) : undefined;
-      if (position) {
-        open.forEach((to) => this.#add(to, { kind: "text", module: key, position, text: shown(literal.parts) }));
+  /** The calls and string literals of a text; and its imports, where it wasn't parsed. */
+  #takeText(key: string, text: string, references: Reference[]) {
+    const path = fileURLToPath(key);
+    const module = this.#graph.module(key);
+    const isScript = isPage(path) || isComponent(path) || extname(path) === "";
+    const kind = module?.fault ? "fault" : isScript ? "script" : "ignored";
+    const calls = module && !module.fault ? looseCalls(text) : looseImports(text, kind);
+    const positionOf = positionsIn(text);
+    let isOther: ReturnType<typeof otherLiterals> | undefined;
+    for (const loose of [...calls, ...literalsOf(text)]) {
+      const open = this.#paths.of(path, loose).map(urlOfPath).filter((to) => this.#isOpen(to));
+      if (open.length > 0) {
+        const position = positionOf(loose.offset);
+        isOther ??= otherLiterals(text, references);
+        const isMeant = !loose.form.startsWith("literal") || isOther(loose.offset, position);
+        this.#add(isMeant ? open : [], { kind: loose.kind, module: key, position, text: shown(loose.parts) });
       }
     }
   }
@@ -194,25 +172,24 @@ export class Reasons {
     return !this.#reached.has(key) && !this.#found.has(key) && this.#graph.module(key) !== undefined;
   }
 
-  #add(key: string, reason: Reason | undefined) {
-    if (reason && this.#isOpen(key)) {
+  #add(keys: string[], reason: Reason) {
+    for (const key of keys.filter((each) => this.#isOpen(each))) {
       this.#found.set(key, reason);
       this.#todo.add(key);
     }
   }
 }
 
-function shown(parts: (string | undefined)[]) {
-  return parts.map((each) => each ?? "${..}").join("");
+/** Whether a literal is in no comment of a text, and isn't the name of a reference. */
+function otherLiterals(text: string, references: Reference[]) {
+  const named = references.filter(({ specifier }) => specifier !== undefined);
+  const known = new Set(named.map(({ range: [start] }) => start.join(":")));
+  const isInComment = commentsOf(text);
+  return (offset: number, position: number[]) => !known.has(position.join(":")) && !isInComment(offset);
 }
 
-/** @param fault of the module */
-function kindOfText(key: string, fault?: object): ReasonKind {
-  if (fault) {
-    return "fault";
-  }
-  const path = fileURLToPath(key);
-  return isPage(path) || isComponent(path) || extname(path) === "" ? "script" : "ignored";
+function shown(parts: Parts) {
+  return parts.map((each) => each ?? "${..}").join("");
 }
 
 /** @returns nothing where the file can't be read */

@@ -2,10 +2,9 @@
 
 import { resolve as absolute } from "node:path";
 
-import { readProject } from "../../graph/project_graph.js";
+import { readProject } from "../../graph/read_graph.js";
 import { FileReporter, ahead, namedPaths, readOptions, saveCache } from "./read_files.js";
-import type { ProjectGraph } from "../../graph/project_graph.js";
-import type { ReadFile } from "../../graph/read_graph.js";
+import type { ProjectGraph, ReadFile } from "../../graph/read_graph.js";
 import type { ResolverOptions } from "../../graph/resolver.js";
 import type { Values } from "./command_line.js";
 import type { Run } from "./read_files.js";
