@@ -67,49 +67,40 @@ function shortestWay(start: number, end: number, component: Set<number>, next: n
   return wayTo([...before.keys()].find((node) => next[node].includes(end)) as number, before);
 }
 
-/** A number after that of each node. */
-const CLOSED = 2 ** 31 - 1;
-
-/** The strongly connected components in which there is an edge, by Tarjan's search, whose recursion is a list. */
+/** The strongly connected components in which there is an edge, by Kosaraju's two searches. */
 function components(next: number[][]): number[][] {
+  const back: number[][] = next.map(() => []);
+  next.forEach((all, from) => all.forEach((to) => back[to].push(from)));
+  const isKnown = new Uint8Array(next.length);
   const found: number[][] = [];
-  /** When each node was entered, from one on; 0 for a node that wasn't, `CLOSED` once its component is known. */
-  const order = new Int32Array(next.length);
-  const low = new Int32Array(next.length);
-  const open: number[] = [];
-  /** From the root to the node that is looked at, with how many of its edges were. */
-  const path: { node: number, at: number }[] = [];
-  let count = 0;
-  const enter = (node: number) => {
-    count++;
-    order[node] = count;
-    low[node] = count;
-    open.push(node);
-    path.push({ node, at: 0 });
-  };
-  const leave = (node: number) => {
-    path.pop();
-    path.slice(-1).forEach(({ node: parent }) => (low[parent] = Math.min(low[parent], low[node])));
-    if (low[node] === order[node]) {
-      const component = open.splice(open.lastIndexOf(node));
-      component.forEach((each) => (order[each] = CLOSED));
+  for (const root of leavingOrder(next).reverse()) {
+    if (!isKnown[root]) {
+      const component = [...ways([root], (node) => back[node].filter((each) => !isKnown[each])).keys()];
+      component.forEach((each) => (isKnown[each] = 1));
       found.push(component.sort((one, other) => one - other));
-    }
-  };
-  for (const root of next.keys()) {
-    if (order[root] === 0) {
-      enter(root);
-    }
-    for (let top = path.at(-1); top; top = path.at(-1)) {
-      const to = next[top.node][top.at++];
-      if (to === undefined) {
-        leave(top.node);
-      } else if (order[to] === 0) {
-        enter(to);
-      } else {
-        low[top.node] = Math.min(low[top.node], order[to]);
-      }
     }
   }
   return found.filter(([node, ...others]) => others.length > 0 || next[node].includes(node));
+}
+
+/** The nodes in the order in which a search into depth leaves them, whose recursion is a list. */
+function leavingOrder(next: number[][]): number[] {
+  const order: number[] = [];
+  const isEntered = new Uint8Array(next.length);
+  for (const root of next.keys()) {
+    /** From the root to the node that is looked at, with how many of its edges were. */
+    const path = isEntered[root] ? [] : [{ node: root, at: 0 }];
+    isEntered[root] = 1;
+    for (let top = path.at(-1); top; top = path.at(-1)) {
+      const to = next[top.node][top.at++];
+      if (to === undefined) {
+        order.push(top.node);
+        path.pop();
+      } else if (!isEntered[to]) {
+        isEntered[to] = 1;
+        path.push({ node: to, at: 0 });
+      }
+    }
+  }
+  return order;
 }

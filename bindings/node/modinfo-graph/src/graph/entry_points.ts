@@ -95,7 +95,10 @@ async function ofPackage(folder: string, conditions: readonly string[], resolver
   exported.perhaps.forEach(({ path, text }) => {
     found.perhaps.push({ kind: "condition", path: absolute(path), from, text });
   });
-  textsOf(values).forEach((text) => found.perhaps.push({ kind: "text", from, text }));
+  const forTools = Object.fromEntries(Object.entries(values).filter(([member]) => !NO_TEXTS.has(member)));
+  for (const text of textsIn(forTools).filter((each) => /[/*]/.test(each))) {
+    found.perhaps.push({ kind: "text", from, text });
+  }
   return { ...found, absent: found.absent.map((name) => `${manifest}: ${name}`) };
 }
 
@@ -138,8 +141,7 @@ function readManifest(path: string): Record<string, unknown> {
 /** The modules that a member of a package.json names; what `browser` has in the place of others is no entry. */
 function namesIn(value: unknown, member: string): string[] {
   const texts = isObject(value) && ["browser", "react-native"].includes(member) ? [] : textsIn(value);
-  return texts.filter((name) => !isDeclaration(name) && (isModule(name) || !/\.\w+$/.test(name)))
-    .map((name) => (isPath(name) ? name : `./${name}`));
+  return texts.filter((name) => !isDeclaration(name) && (isModule(name) || !/\.\w+$/.test(name))).map(asPath);
 }
 
 /** The words of a line of commands that may name a module which runs. */
@@ -147,14 +149,11 @@ function wordsOf(line: unknown): string[] {
   const commands = typeof line === "string" ? line.split(/[;&|]+/) : [];
   const words = commands.map((command) => command.replace(BEFORE, "").match(WORD) ?? [])
     .flatMap(([name = "", ...others]) => (READERS.has(name) ? [] : [name, ...others]));
-  return words.filter((word) => isModule(word) || /^[\w.-]+\/[\w./-]*\w$/.test(word))
-    .map((word) => (isPath(word) ? word : `./${word}`));
+  return words.filter((word) => isModule(word) || /^[\w.-]+\/[\w./-]*\w$/.test(word)).map(asPath);
 }
 
-/** The texts of members that tools read. */
-function textsOf(values: Record<string, unknown>): string[] {
-  const members = Object.entries(values).filter(([member]) => !NO_TEXTS.has(member));
-  return textsIn(Object.fromEntries(members)).filter((text) => /[/*]/.test(text));
+function asPath(name: string) {
+  return isPath(name) ? name : `./${name}`;
 }
 
 /** The relative names that a script imports, as far as they are known as a whole. */

@@ -47,11 +47,8 @@ export type Resolution =
   | { class: "unknown" };
 
 /** What a resolution may have. */
-export interface Ends {
+export interface Ends extends Partial<Record<"file" | "types" | "package", string>> {
   class: Resolution["class"];
-  file?: string;
-  types?: string;
-  package?: string;
   by?: Rules;
 }
 

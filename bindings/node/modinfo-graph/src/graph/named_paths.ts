@@ -9,110 +9,83 @@ import type { LooseReference, Parts } from "./literals.js";
 import type { Candidates } from "./name_patterns.js";
 import type { Resolver } from "./resolver.js";
 
+interface Among {
+  candidates: Candidates;
+  resolver: Resolver;
+}
+
 /** What jest writes for the folder of its configuration. */
 const ROOT_DIR = /^<rootDir>\//;
 
 /** The folders that a server may have for its root, in the folder of a package. */
 const SERVED = ["", "public", "static"];
 
-/** Each method is given the path of the file that has the name. */
-export class NamedPaths {
-  #candidates;
-  #resolver;
-
-  constructor(candidates: Candidates, resolver: Resolver) {
-    this.#candidates = candidates;
-    this.#resolver = resolver;
+/** @param from the path of the file that has the name */
+export function filesNamed(from: string, { kind, parts, form, isFile }: LooseReference, among: Among): string[] {
+  const { candidates, resolver } = among;
+  const [name = "", ...others] = parts;
+  const folder = dirname(from);
+  const root = resolver.packageOf(from) ?? folder;
+  const isOfRoot = kind === "new Worker" || (name.startsWith("/") && kind !== "__dirname");
+  const served = isOfRoot ? [process.cwd(), ...SERVED.map((each) => join(root, each))] : [];
+  const folders = [...new Set([folder, ...served])];
+  const literal = name.replace(ROOT_DIR, "./");
+  const ofLiteral = literal === name ? [...new Set([folder, root])] : [root];
+  const globbed = (glob: string, bases: string[]) => {
+    return bases.flatMap((base) => candidates.globbed(plainGlob(glob), base));
+  };
+  switch (form) {
+    case "literal":
+      return others.length > 0
+        ? candidates.matching([literal, ...others], folder)
+        : fileOf(literal.replace(/^\/+/, ""), ofLiteral, among);
+    case "literal glob":
+      return globbed(literal.includes("/") ? literal : `**/${literal}`, ofLiteral);
+    case "glob":
+      return isPath(name) || name.startsWith("*") ? globbed(name, folders) : globbed(`**/${tailOf(name)}`, [root]);
+    case "folder":
+      return folders.flatMap((base) => candidates.below(name, base));
+    case "amd":
+      return ofAmd(name, folder, among, resolver.packageOf(from) ?? process.cwd());
+    default:
+      return parts.includes(undefined)
+        ? folders.flatMap((base) => candidates.matching(atFolder(parts, isFile), base))
+        : ofName(parts.join(""), from, folders, among, isFile);
   }
+}
 
-  of(from: string, { kind, parts, form, isFile }: LooseReference): string[] {
-    const folders = this.#foldersOf(from, parts[0], kind);
-    const [name = ""] = parts;
-    switch (form) {
-      case "literal":
-      case "literal glob":
-        return this.#ofLiteral(parts, form === "literal glob", from);
-      case "glob":
-        return isPath(name) || name.startsWith("*")
-          ? this.#globbed(name, folders)
-          : this.#globbed(`**/${tailOf(name)}`, [this.#packageOf(from)]);
-      case "folder":
-        return folders.flatMap((folder) => this.#candidates.below(name, folder));
-      case "amd":
-        return this.#ofAmd(name, from);
-      default:
-        return parts.includes(undefined)
-          ? folders.flatMap((folder) => this.#candidates.matching(atFolder(parts, isFile), folder))
-          : this.#ofName(parts.join(""), from, folders, isFile);
-    }
-  }
+function ofName(
+  name: string, from: string, folders: string[], { candidates, resolver }: Among, isFile: boolean = false,
+): string[] {
+  const isOfFile = isPath(name) || name.startsWith(".") || isFile;
+  const path = isOfFile ? undefined : resolver.fileOf(name, from);
+  // The `src` of a page is a URL: without a slash it leads to a file beside the page.
+  const named = path === undefined && (isOfFile || isPage(from)) ? folders : [];
+  return [path ?? [], named.flatMap((folder) => candidates.named(name.replace(/^\/+/, ""), folder))].flat();
+}
 
-  #globbed(glob: string, folders: string[]): string[] {
-    return folders.flatMap((folder) => this.#candidates.globbed(plainGlob(glob), folder));
+/** What a name leads to from the first of some folders from which it leads to a file. */
+function fileOf(name: string, folders: string[], { candidates, resolver }: Among): string[] {
+  const found = folders.map((folder) => candidates.named(name, folder));
+  if (found.every((each) => each.length === 0)) {
+    return [];
   }
+  const files = folders.map((folder, at) => {
+    const path = resolver.fileOf(isRelative(name) ? name : `./${name}`, join(folder, "package.json"));
+    return path === undefined ? found[at] : [path];
+  });
+  return files.find((each) => each.length > 0) ?? [];
+}
 
-  #ofName(name: string, from: string, folders: string[], isFile: boolean = false): string[] {
-    const isOfFile = isPath(name) || name.startsWith(".") || isFile;
-    const path = isOfFile ? undefined : this.#resolver.fileOf(name, from);
-    if (path !== undefined) {
-      return [path];
-    }
-    // The `src` of a page is a URL: without a slash it leads to a file beside the page.
-    const named = isOfFile || isPage(from) ? folders : [];
-    return named.flatMap((folder) => this.#candidates.named(name.replace(/^\/+/, ""), folder));
-  }
-
-  #ofLiteral([first = "", ...others]: Parts, isGlob: boolean, from: string): string[] {
-    const name = first.replace(ROOT_DIR, "./");
-    const folders = [...new Set([...(name === first ? [dirname(from)] : []), this.#packageOf(from)])];
-    if (isGlob) {
-      return this.#globbed(name.includes("/") ? name : `**/${name}`, folders);
-    }
-    return others.length > 0
-      ? this.#candidates.matching([name, ...others], dirname(from))
-      : this.#ofFile(name.replace(/^\/+/, ""), folders);
-  }
-
-  /** What a name leads to from the first of some folders from which it leads to a file. */
-  #ofFile(name: string, folders: string[]): string[] {
-    const found = folders.map((folder) => this.#candidates.named(name, folder));
-    if (found.every((each) => each.length === 0)) {
-      return [];
-    }
-    const files = folders.map((folder, at) => {
-      const path = this.#resolver.fileOf(isRelative(name) ? name : `./${name}`, join(folder, "package.json"));
-      return path === undefined ? found[at] : [path];
-    });
-    return files.find((each) => each.length > 0) ?? [];
-  }
-
-  /**
-   * What a name of AMD leads to: from the folder of its file, or from one above.
-   * @param written perhaps with the name of a plugin before
-   */
-  #ofAmd(written: string, from: string): string[] {
-    const name = written.slice(written.lastIndexOf("!") + 1);
-    const root = this.#resolver.packageOf(from) ?? process.cwd();
-    let folder = dirname(from);
-    let found = this.#candidates.named(name, folder);
-    while (found.length === 0 && !isRelative(name) && folder !== root && folder !== dirname(folder)) {
-      folder = dirname(folder);
-      found = this.#candidates.named(name, folder);
-    }
-    return found;
-  }
-
-  /** The folders from which a name is looked for, by its first part. */
-  #foldersOf(from: string, first: string | undefined, kind: string) {
-    const isOfRoot = kind === "new Worker" || (first?.startsWith("/") && kind !== "__dirname");
-    const served = isOfRoot ? [process.cwd(), ...SERVED.map((each) => join(this.#packageOf(from), each))] : [];
-    return [...new Set([dirname(from), ...served])];
-  }
-
-  /** The folder of the package of a file, else its own. */
-  #packageOf(from: string): string {
-    return this.#resolver.packageOf(from) ?? dirname(from);
-  }
+/**
+ * What a name of AMD leads to: from a folder, or from one above up to the root.
+ * @param written perhaps with the name of a plugin before
+ */
+function ofAmd(written: string, folder: string, among: Among, root: string): string[] {
+  const name = written.slice(written.lastIndexOf("!") + 1);
+  const found = among.candidates.named(name, folder);
+  const isLast = isRelative(name) || folder === root || folder === dirname(folder);
+  return found.length > 0 || isLast ? found : ofAmd(name, dirname(folder), among, root);
 }
 
 /** @param isFile whether a name without a dot at its beginning is a path */

@@ -40,98 +40,92 @@ const INSTALLED = /^.*\/node_modules\/((?:@[^/]+\/)?[^/]+)\//s;
  *   named: a package.json counts that is in one of them, or is the nearest of a module
  */
 export function packageUse(graph: ModuleGraph, project: { pages: string[], paths: string[] }): PackageUse {
-  const packages = new Packages();
-  return { unlisted: packages.unlistedIn(graph), ...packages.unusedIn(graph, project) };
+  const lists = listings();
+  const found: PackageUse = { unlisted: unlistedIn(graph, lists), unused: [], mayBeUsed: [] };
+  const nearest = graph.listed.flatMap(({ specifier }) => lists.above(fileURLToPath(specifier))[0] ?? []);
+  const named = project.paths.flatMap((path) => lists.manifests.of(absolute(path)) ?? []);
+  const reasonOf = packageReasons(lists.files, lists.manifests, graph.modules, project.pages);
+  for (const manifest of new Set([...named, ...nearest])) {
+    const used = lists.usedBelow(manifest);
+    const url = urlOfPath(manifest.path);
+    const listed = MAY_BE_UNUSED.flatMap((list) => packagesIn(manifest, [list]).map((name) => ({ list, name })));
+    for (const { list, name } of listed.filter((each) => !used.has(each.name))) {
+      const reason = reasonOf(name, manifest, used);
+      const unused = { package: name, manifest: url, list };
+      if (reason) {
+        found.mayBeUsed.push({ ...unused, reason });
+      } else {
+        found.unused.push(unused);
+      }
+    }
+  }
+  return found;
 }
 
-class Packages {
-  #files = new RegularFiles();
-  #manifests = new PackageManifests(this.#files);
-  #projects: Map<string, Project> = new Map();
-  /** What the modules below a manifest import. */
-  #usedOf = memoized((_manifest: Manifest) => new Set<string>());
-
-  constructor() {
-    this.#files.addAllWithoutLinks();
-  }
-
-  unlistedIn(graph: ModuleGraph): Unlisted[] {
-    const found: Map<string, Unlisted> = new Map();
-    for (const { specifier: module, references, isExcluded } of graph.modules) {
-      const path = fileURLToPath(module);
-      for (const reference of INSTALLED.test(path) ? [] : references) {
-        const name = this.#packageOf(reference, path);
-        const isListed = name === undefined || this.#take(name, path);
-        if (!isListed && !isExcluded && reference.resolved.class !== "builtin") {
-          const [nearest] = this.#manifestsOf(path);
-          const key = `${nearest?.path} ${name}`;
-          const { by, ...unlisted } = found.get(key) ??
-            { package: name, ...(nearest && { manifest: urlOfPath(nearest.path) }), by: [] };
-          const isKnown = by.some((each) => each.module === module);
-          found.set(key, { ...unlisted, by: isKnown ? by : [...by, { module, reference }] });
-        }
-      }
-    }
-    return [...found.values()];
-  }
-
-  /** The package that a module needs, or the built-in module whose name a package may have. */
-  #packageOf({ specifier = "", resolved }: Reference, path: string): string | undefined {
-    const { class: kind, package: installed, file, by } = resolved as Ends;
-    const { name: own } = packageOf(specifier) ?? {};
-    const target = file && fileURLToPath(file);
-    if (installed !== undefined || specifier.startsWith("#")) {
-      return installed ?? (target && INSTALLED.exec(target)?.[1]);
-    }
-    const isFound = own !== undefined && target && (by === "node" || by === "bundler");
-    const isWorkspace = isFound && this.#manifestsOf(target)[0]?.name === own;
-    const isListed = kind === "missing" && this.#isListed(own ?? "", path);
-    return kind === "builtin" || isListed || isWorkspace ? own : undefined;
-  }
-
-  /** Counts a package as used by a module, and returns whether a package.json lists it, or has its name. */
-  #take(name: string, path: string): boolean {
-    this.#manifestsOf(path).forEach((manifest) => this.#usedOf(manifest).add(name));
-    return this.#isListed(name, path) || this.#isListed(typesOf(name), path);
-  }
-
-  #isListed(name: string, path: string) {
-    return this.#manifestsOf(path).some((each) => each.name === name || packagesIn(each, LISTS).includes(name));
-  }
-
-  /** The manifests with a name or a list in a folder and above it, in its project, the nearest first. */
-  #manifestsIn = byFolder<Manifest[]>((folder, above) => {
-    const { project = folder } = projectOf(folder, this.#files, this.#projects);
-    this.#files.addProject(project);
-    const own = this.#manifests.of(folder);
+/** The package.json files of projects, and what modules import. */
+function listings() {
+  const files = new RegularFiles();
+  files.addAllWithoutLinks();
+  const manifests = new PackageManifests(files);
+  const projects: Map<string, Project> = new Map();
+  const inFolder = byFolder<Manifest[]>((folder, inParent) => {
+    const { project = folder } = projectOf(folder, files, projects);
+    files.addProject(project);
+    const own = manifests.of(folder);
     const isOfPackage = own && (own.name !== undefined || packagesIn(own, LISTS).length > 0);
-    return [...(isOfPackage ? [own] : []), ...((folder === project ? undefined : above()) ?? [])];
+    return [...(isOfPackage ? [own] : []), ...((folder === project ? undefined : inParent()) ?? [])];
   });
+  /** The manifests with a name or a list above a file, in its project, the nearest first. */
+  const above = (path: string) => inFolder(dirname(path));
+  /** Whether a package.json above a file lists a package, or has its name. */
+  const isListed = (name: string, path: string) => {
+    return above(path).some((each) => each.name === name || packagesIn(each, LISTS).includes(name));
+  };
+  /** The packages that the modules below a manifest import. */
+  const usedBelow = memoized((_manifest: Manifest) => new Set<string>());
+  return { files, manifests, above, isListed, usedBelow };
+}
 
-  #manifestsOf(path: string): Manifest[] {
-    return this.#manifestsIn(dirname(path));
-  }
+type Listings = ReturnType<typeof listings>;
 
-  unusedIn(
-    graph: ModuleGraph, { pages, paths }: { pages: string[], paths: string[] },
-  ): Pick<PackageUse, "unused" | "mayBeUsed"> {
-    const nearest = graph.listed.flatMap(({ specifier }) => this.#manifestsOf(fileURLToPath(specifier))[0] ?? []);
-    const named = paths.flatMap((path) => this.#manifests.of(absolute(path)) ?? []);
-    const reasonOf = packageReasons(this.#files, this.#manifests, graph.modules, pages);
-    const found: Pick<PackageUse, "unused" | "mayBeUsed"> = { unused: [], mayBeUsed: [] };
-    for (const manifest of new Set([...named, ...nearest])) {
-      const used = this.#usedOf(manifest);
-      const lists = MAY_BE_UNUSED.flatMap((list) => packagesIn(manifest, [list]).map((name) => ({ list, name })));
-      for (const { list, name } of lists.filter((each) => !used.has(each.name))) {
-        const reason = reasonOf(name, manifest, used);
-        const unused = { package: name, manifest: urlOfPath(manifest.path), list };
-        if (reason) {
-          found.mayBeUsed.push({ ...unused, reason });
-        } else {
-          found.unused.push(unused);
-        }
+/** Counts what modules import as used, and returns what isn't listed. */
+function unlistedIn(graph: ModuleGraph, lists: Listings): Unlisted[] {
+  const found: Map<string, Unlisted> = new Map();
+  for (const { specifier: module, references, isExcluded } of graph.modules) {
+    const path = fileURLToPath(module);
+    for (const reference of INSTALLED.test(path) ? [] : references) {
+      const name = packageNamed(reference, path, lists);
+      if (name === undefined) {
+        continue;
+      }
+      lists.above(path).forEach((manifest) => lists.usedBelow(manifest).add(name));
+      const isListed = [name, typesOf(name)].some((each) => lists.isListed(each, path));
+      if (!isListed && !isExcluded && reference.resolved.class !== "builtin") {
+        const [nearest] = lists.above(path);
+        const key = `${nearest?.path} ${name}`;
+        const { by, ...unlisted } = found.get(key) ??
+          { package: name, ...(nearest && { manifest: urlOfPath(nearest.path) }), by: [] };
+        const isKnown = by.some((each) => each.module === module);
+        found.set(key, { ...unlisted, by: isKnown ? by : [...by, { module, reference }] });
       }
     }
-    return found;
   }
+  return [...found.values()];
+}
+
+/**
+ * The package that a module needs, or the built-in module whose name a package may have.
+ * @param path of the module
+ */
+function packageNamed({ specifier = "", resolved }: Reference, path: string, lists: Listings): string | undefined {
+  const { class: kind, package: installed, file, by } = resolved as Ends;
+  const { name: own } = packageOf(specifier) ?? {};
+  const target = file && fileURLToPath(file);
+  if (installed !== undefined || specifier.startsWith("#")) {
+    return installed ?? (target && INSTALLED.exec(target)?.[1]);
+  }
+  const isFound = own !== undefined && target && (by === "node" || by === "bundler");
+  const isWorkspace = isFound && lists.above(target)[0]?.name === own;
+  const isListed = kind === "missing" && lists.isListed(own ?? "", path);
+  return kind === "builtin" || isListed || isWorkspace ? own : undefined;
 }

@@ -8,12 +8,7 @@ import { extname } from "node:path";
 import { isComponent, isPage, mediaTypeOfLanguage, mediaTypeOfMime } from "../files/file_kinds.js";
 import { scriptTags } from "./tags.js";
 import type { MediaType } from "modinfo";
-
-/** Offsets in a text. */
-interface Range {
-  start: number;
-  end: number;
-}
+import type { Range } from "./tags.js";
 
 /** The `src` of a script, with the range of its quotes. */
 export type Source = Range & { name: string };
@@ -69,7 +64,10 @@ export function scriptsOf(text: string, path: string): Scripts {
   for (const { attributes, start, end } of scriptTags(text, before.length, ending !== ".vue")) {
     const source = attributes.get("src");
     const type = attributes.get("type")?.value ?? "";
-    const mediaType = mediaTypeOf(attributes.get("lang")?.value ?? "", type, standard);
+    const language = attributes.get("lang")?.value ?? "";
+    const ofType = type === "" || type === "module" ? standard : mediaTypeOfMime(type);
+    // Without one it is no script of a module.
+    const mediaType = language === "" ? ofType : mediaTypeOfLanguage(language);
     if (type.toLowerCase() === "importmap") {
       all.importMaps.push(text.slice(start, end));
     } else if (mediaType && source) {
@@ -103,14 +101,6 @@ function textOf(text: string, ranges: Range[]): string {
     at = end;
     return before + text.slice(start, end);
   }).join("");
-}
-
-/** Nothing for what is no script of a module; `language` is that of a component's script. */
-function mediaTypeOf(language: string, type: string, standard: MediaType): MediaType | undefined {
-  if (language !== "") {
-    return mediaTypeOfLanguage(language);
-  }
-  return type === "" || type === "module" ? standard : mediaTypeOfMime(type);
 }
 
 /** The imports and exports of MDX: from a line that begins with one to the next empty line. */

@@ -1,19 +1,13 @@
 /** The scripts of a text in HTML, or in a language of components like it. */
 
-interface Attribute {
-  value: string;
-  /** The offset of the value, with quotes */
+/** Offsets in a text. */
+export interface Range {
   start: number;
   end: number;
 }
 
-interface ScriptTag {
-  /** By their names in lower case */
-  attributes: Map<string, Attribute>;
-  /** The offset of what is in the tag */
-  start: number;
-  end: number;
-}
+/** Attributes by their names in lower case, whose ranges have the quotes, and the range of what is in the tag. */
+type ScriptTag = Range & { attributes: Map<string, Range & { value: string }> };
 
 /** A comment, or a tag whose content isn't searched for others. */
 const RAW = /<!--|<(script|style|textarea|title|xmp)(?=[\s/>])/gi;
@@ -54,7 +48,7 @@ export function* scriptTags(text: string, from: number, isWhole: boolean): Gener
 
 /** The rest of a tag, which may have no end. */
 function tagAt(text: string, from: number) {
-  const attributes: Map<string, Attribute> = new Map();
+  const attributes: ScriptTag["attributes"] = new Map();
   let end = from;
   ATTRIBUTE.lastIndex = from;
   for (let found = ATTRIBUTE.exec(text); found; found = ATTRIBUTE.exec(text)) {

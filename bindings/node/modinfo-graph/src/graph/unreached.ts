@@ -4,7 +4,7 @@
  */
 
 import { describedBeside, isDeclaration } from "../files/file_kinds.js";
-import { Reasons } from "./reasons.js";
+import { reasonsOf } from "./reasons.js";
 import type { Mention, Reason, Unreached } from "./graph.cjs";
 import type { ModuleGraph } from "./module_graph.js";
 import type { Project } from "./reasons.js";
@@ -23,7 +23,7 @@ export function unreachedOf(graph: ModuleGraph, listed: string[], project: Proje
   if (asked.length === 0) {
     return { unreached: [], mayBeReached: [], byTypes: [] };
   }
-  const reasons = new Reasons(graph, reached, project).find([...reached]);
+  const reasons = reasonsOf(graph, reached, project, [...reached]);
   return classed(asked, reasons, typeMentions(graph, [...entries, ...reasons.keys()]));
 }
 
@@ -32,7 +32,7 @@ export function unledOf(graph: ModuleGraph, listed: string[], project: Project):
   const all = graph.withTypes();
   const keys = graph.modules.map(({ specifier }) => specifier);
   const led = new Set(keys.flatMap((key) => all.edgesFrom(key).map(({ to }) => to).filter((to) => to !== key)));
-  const reasons = new Reasons(graph, led, project).find(keys);
+  const reasons = reasonsOf(graph, led, project, keys);
   return classed(listed.filter((key) => !led.has(key)), reasons, new Map());
 }
 
