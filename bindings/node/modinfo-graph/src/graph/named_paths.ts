@@ -9,6 +9,7 @@ import type { LooseReference, Parts } from "./literals.js";
 import type { Candidates } from "./name_patterns.js";
 import type { Resolver } from "./resolver.js";
 
+/** The files that are looked for, and what finds them by the rules of node. */
 interface Among {
   candidates: Candidates;
   resolver: Resolver;
@@ -20,7 +21,10 @@ const ROOT_DIR = /^<rootDir>\//;
 /** The folders that a server may have for its root, in the folder of a package. */
 const SERVED = ["", "public", "static"];
 
-/** @param from the path of the file that has the name */
+/**
+ * The files that a string literal, a call or a tag names.
+ * @param from the path of the file that has it
+ */
 export function filesNamed(from: string, { kind, parts, form, isFile }: LooseReference, among: Among): string[] {
   const { candidates, resolver } = among;
   const [name = "", ...others] = parts;

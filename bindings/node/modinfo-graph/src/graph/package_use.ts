@@ -3,7 +3,7 @@
 import { dirname, resolve as absolute } from "node:path";
 import { fileURLToPath } from "node:url";
 
-import { byFolder, memoized } from "../files/by_folder.js";
+import { memoized } from "../files/by_folder.js";
 import { RegularFiles } from "../files/regular_files.js";
 import { urlOfPath } from "../files/urls.js";
 import { PackageManifests } from "./package_manifests.js";
@@ -68,12 +68,12 @@ function listings() {
   files.addAllWithoutLinks();
   const manifests = new PackageManifests(files);
   const projects: Map<string, Project> = new Map();
-  const inFolder = byFolder<Manifest[]>((folder, inParent) => {
+  const inFolder: (folder: string) => Manifest[] = memoized((folder) => {
     const { project = folder } = projectOf(folder, files, projects);
     files.addProject(project);
     const own = manifests.of(folder);
     const isOfPackage = own && (own.name !== undefined || packagesIn(own, LISTS).length > 0);
-    return [...(isOfPackage ? [own] : []), ...((folder === project ? undefined : inParent()) ?? [])];
+    return [...(isOfPackage ? [own] : []), ...(folder === project ? [] : inFolder(dirname(folder)))];
   });
   /** The manifests with a name or a list above a file, in its project, the nearest first. */
   const above = (path: string) => inFolder(dirname(path));
