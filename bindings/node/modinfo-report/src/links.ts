@@ -4,8 +4,7 @@ import { relative } from "node:path";
 import { fileURLToPath } from "node:url";
 
 import { isDeclaration } from "modinfo-graph/internal/files/file_kinds.js";
-import { textOfArgument } from "modinfo-graph/internal/graph/arguments.js";
-import { isRunKind } from "modinfo-graph/internal/graph/references.js";
+import { isRunKind, textOfArgument } from "modinfo-graph/internal/graph/references.js";
 import { Manifests } from "./manifests.js";
 import type { Ends, Resolution } from "modinfo-graph";
 import type { Kind } from "modinfo-graph/internal/graph/kinds.js";

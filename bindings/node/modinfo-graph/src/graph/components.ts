@@ -2,19 +2,17 @@
 
 import { resolve as absolute } from "node:path";
 
-import { isComponent, isPage } from "../files/file_kinds.js";
+import { isPage } from "../files/file_kinds.js";
 import { readRegularText } from "../files/regular_file.js";
 import { isReport } from "../files/report_pages.js";
 import { urlOfPath } from "../files/urls.js";
 import { FileFault, faultOf } from "../runtime/faults.js";
-import { Positions } from "./positions.js";
+import { positionsIn } from "./positions.js";
 import { scriptsOf } from "./scripts.js";
 import type { DependencyDescriptor, ModuleInfo } from "modinfo";
 import type { FileResult } from "../files/read_files.js";
 import type { Texts } from "../files/texts.js";
-import type { Scripts, Source } from "./scripts.js";
-
-const NONE: Scripts = { scripts: [], sources: [], importMaps: [] };
+import type { Source } from "./scripts.js";
 
 /** The most bytes of a component or a page. */
 const MOST_BYTES = 2 ** 24;
@@ -23,21 +21,15 @@ const MOST_BYTES = 2 ** 24;
 const LISTS = ["dependencies", "tsReferences", "jsdocImports"] as const;
 const SINGLE = ["selfTypesSpecifier", "jsxImportSource", "jsxImportSourceTypes"] as const;
 
-/** @returns whether a file is read by its scripts */
-export function hasScripts(path: string): boolean {
-  return isComponent(path) || isPage(path);
-}
-
 /**
- * @param path of a component or a page
- * @returns `value` is a `ModuleInfo` of the scripts that can be
- *   read, with `isUrl` in what the `src` of a page's script names. `fault` is that of the first script that
- *   can't be read. Neither for a page without scripts, and for a report that was made before
+ * Reads a component or a page. `value` is a `ModuleInfo` of the scripts that can be read, with `isUrl` in what the
+ * `src` of a page's script names; `fault` is that of the first script that can't be read. A page without scripts,
+ * and a report that was made before, has neither.
  */
 export async function readComponent(path: string, texts: Texts): Promise<Pick<FileResult, "value" | "fault">> {
   try {
     const text = readRegularText(path, MOST_BYTES);
-    const { scripts, sources } = isReport(text) ? NONE : scriptsOf(text, path);
+    const { scripts, sources } = isReport(text) ? { scripts: [], sources: [] } : scriptsOf(text, path);
     if (isPage(path) && scripts.length + sources.length === 0) {
       return {};
     }
@@ -60,14 +52,11 @@ function merged(infos: ModuleInfo[]): ModuleInfo {
   return Object.fromEntries(found);
 }
 
-/**
- * @param sources in the order of the text
- * @param isUrl whether they are URLs, and not names of modules
- */
+/** @param isUrl whether sources, which are in the order of the text, are URLs and not names of modules */
 function dependenciesOf(text: string, sources: Source[], isUrl: boolean): DependencyDescriptor[] {
-  const positions = new Positions(text);
+  const positionOf = positionsIn(text);
   return sources.map(({ name, start, end }) => ({
     type: "static", kind: "import", sideEffect: true, specifier: name,
-    specifierRange: [positions.of(start), positions.of(end)], ...(isUrl && { isUrl }),
+    specifierRange: [positionOf(start), positionOf(end)], ...(isUrl && { isUrl }),
   }));
 }

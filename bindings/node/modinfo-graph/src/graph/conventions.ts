@@ -21,11 +21,7 @@ const LOADED = new Map([
   ["gatsby", ["src/pages/**", "gatsby-*"]],
 ]);
 
-/**
- * @param packages that a package.json lists
- * @returns the framework that loads the file at a path from the folder of
- *   the package.json
- */
+/** Returns which of the packages that a package.json lists loads the file at a path from its folder. */
 export function loaderOf(packages: string[]): (path: string) => string | undefined {
   const loaders = packages.flatMap((name) => (LOADED.get(name) ?? []).map((glob) => {
     return { name, matches: globMatcher(glob) };

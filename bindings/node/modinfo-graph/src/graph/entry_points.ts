@@ -34,8 +34,6 @@ export interface Perhaps {
   text: string;
 }
 
-const NONE: EntryPoints = { files: [], absent: [], texts: [], perhaps: [] };
-
 /** The members of a package.json that name modules, and of tools, whose files may be missing. */
 const MEMBERS = ["main", "module", "bin", "browser"];
 const OF_TOOLS = ["unpkg", "jsdelivr", "react-native", "source", "svelte", "jsnext:main"];
@@ -59,9 +57,8 @@ const READERS = new Set([
 ]);
 
 /**
- * @param paths of modules, of pages, and of folders with a package.json
+ * The entries of modules, pages, and folders with a package.json, each file once.
  * @param conditions of `exports` besides node's
- * @returns each file once
  * @throws {EntryFault} a folder names no entry that is there
  */
 export async function entryPoints(
@@ -69,18 +66,17 @@ export async function entryPoints(
 ): Promise<EntryPoints> {
   const all: EntryPoints[] = [];
   for (const path of paths) {
-    const isPackage = isFolder(path);
-    all.push(isPackage ? await ofPackage(path, conditions, resolver) : { ...NONE, files: [path] });
+    const found = { files: [path], absent: [], texts: [], perhaps: [] };
+    all.push(isFolder(path) ? await ofPackage(path, conditions, resolver) : found);
   }
-  const once = (member: "files" | "absent" | "texts") => {
-    return [...new Set(all.flatMap((each) => each[member]))];
-  };
+  const once = (member: "files" | "absent" | "texts") => [...new Set(all.flatMap((each) => each[member]))];
   const perhaps = all.flatMap((each) => each.perhaps);
   return { files: once("files"), absent: once("absent"), texts: once("texts"), perhaps };
 }
 
 async function ofPackage(folder: string, conditions: readonly string[], resolver: Resolver): Promise<EntryPoints> {
   const manifest = join(folder, "package.json");
+  const from = absolute(manifest);
   const values = readManifest(manifest);
   const own = (member: string) => (Object.hasOwn(values, member) ? values[member] : undefined);
   const exported = await exportedFiles(own("exports"), folder, conditions);
@@ -89,21 +85,45 @@ async function ofPackage(folder: string, conditions: readonly string[], resolver
   const others = OF_TOOLS.flatMap((member) => namesIn(own(member), member));
   const scripts = own("scripts");
   const words = Object.values(isObject(scripts) ? scripts : {}).flatMap(wordsOf);
-  const found = new Followed(resolver);
-  found.add({ from: manifest, names });
-  found.add({ from: manifest, names: [...others, ...words], isOptional: true });
-  const files = [...exported.files, ...found.files];
-  const absent = [...exported.absent, ...found.absent];
-  if (files.length === 0) {
-    const what = absent.length > 0 ? `files not found: ${absent.join(", ")}` : "it names no module";
+  const found: EntryPoints = { files: exported.files, absent: exported.absent, texts: [], perhaps: [] };
+  follow({ from: manifest, names }, found, resolver, false);
+  follow({ from: manifest, names: [...others, ...words] }, found, resolver, true);
+  if (found.files.length === 0) {
+    const what = found.absent.length > 0 ? `files not found: ${found.absent.join(", ")}` : "it names no module";
     throw new EntryFault(`${manifest}: ${what}`);
   }
-  const from = absolute(manifest);
-  const perhaps: Perhaps[] = exported.perhaps.map(({ path, text }) => {
-    return { kind: "condition", path: absolute(path), from, text };
+  exported.perhaps.forEach(({ path, text }) => {
+    found.perhaps.push({ kind: "condition", path: absolute(path), from, text });
   });
-  textsOf(values).forEach((text) => perhaps.push({ kind: "text", from, text }));
-  return { files, absent: absent.map((name) => `${manifest}: ${name}`), texts: [...found.texts], perhaps };
+  const forTools = Object.fromEntries(Object.entries(values).filter(([member]) => !NO_TEXTS.has(member)));
+  for (const text of textsIn(forTools).filter((each) => /[/*]/.test(each))) {
+    found.perhaps.push({ kind: "text", from, text });
+  }
+  return { ...found, absent: found.absent.map((name) => `${manifest}: ${name}`) };
+}
+
+/**
+ * Adds the files that names lead to, and those that scripts without an ending among them import.
+ * @param isOptional whether they may be missing
+ */
+function follow(
+  start: { from: string, names: string[] }, found: EntryPoints, resolver: Resolver, isOptional: boolean,
+) {
+  const todo = [start];
+  // What is added meanwhile follows.
+  for (const { from, names } of todo) {
+    for (const name of names) {
+      const path = fileAt(join(dirname(from), name)) ?? resolver.fileOf(name, from);
+      if (path === undefined) {
+        found.absent.push(...(isOptional ? [] : [name]));
+      } else if (isModule(path) || isComponent(path)) {
+        found.files.push(path);
+      } else if (extname(path) === "" && !found.texts.includes(path)) {
+        found.texts.push(path);
+        todo.push({ from: path, names: importedBy(path) });
+      }
+    }
+  }
 }
 
 function readManifest(path: string): Record<string, unknown> {
@@ -118,80 +138,35 @@ function readManifest(path: string): Record<string, unknown> {
   return isObject(values) ? values : {};
 }
 
-/**
- * The modules that a member of a package.json names. What `browser` and `react-native` have in the place of others
- * is no entry.
- */
+/** The modules that a member of a package.json names; what `browser` has in the place of others is no entry. */
 function namesIn(value: unknown, member: string): string[] {
   const texts = isObject(value) && ["browser", "react-native"].includes(member) ? [] : textsIn(value);
-  return texts.filter((name) => !isDeclaration(name) && (isModule(name) || !/\.\w+$/.test(name)))
-    .map((name) => (isPath(name) ? name : `./${name}`));
+  return texts.filter((name) => !isDeclaration(name) && (isModule(name) || !/\.\w+$/.test(name))).map(asPath);
 }
 
-/**
- * @param line of commands
- * @returns its words that may name a module which runs
- */
+/** The words of a line of commands that may name a module which runs. */
 function wordsOf(line: unknown): string[] {
   const commands = typeof line === "string" ? line.split(/[;&|]+/) : [];
   const words = commands.map((command) => command.replace(BEFORE, "").match(WORD) ?? [])
     .flatMap(([name = "", ...others]) => (READERS.has(name) ? [] : [name, ...others]));
-  return words.filter((word) => isModule(word) || /^[\w.-]+\/[\w./-]*\w$/.test(word))
-    .map((word) => (isPath(word) ? word : `./${word}`));
+  return words.filter((word) => isModule(word) || /^[\w.-]+\/[\w./-]*\w$/.test(word)).map(asPath);
 }
 
-/** @returns the texts of members that tools read */
-function textsOf(values: Record<string, unknown>): string[] {
-  const members = Object.entries(values).filter(([member]) => !NO_TEXTS.has(member));
-  return textsIn(Object.fromEntries(members)).filter((text) => /[/*]/.test(text));
+function asPath(name: string) {
+  return isPath(name) ? name : `./${name}`;
 }
 
-/** The files that names in a package.json lead to, and those that scripts without an ending among them import. */
-class Followed {
-  files: string[] = [];
-  absent: string[] = [];
-  texts: Set<string> = new Set();
-  #resolver;
-
-  constructor(resolver: Resolver) {
-    this.#resolver = resolver;
-  }
-
-  /** @param start `isOptional` if they may be missing */
-  add(start: { from: string, names: string[], isOptional?: boolean }) {
-    const todo = [start];
-    // What is added meanwhile follows.
-    for (const { from, names, isOptional } of todo) {
-      for (const name of names) {
-        const path = fileAt(join(dirname(from), name)) ?? this.#resolver.fileOf(name, from);
-        if (path === undefined) {
-          this.absent.push(...(isOptional ? [] : [name]));
-        } else if (isModule(path) || isComponent(path)) {
-          this.files.push(path);
-        } else if (extname(path) === "" && !this.texts.has(path)) {
-          this.texts.add(path);
-          todo.push({ from: path, names: importedBy(path), isOptional });
-        }
-      }
-    }
-  }
-}
-
-/**
- * @param path of a script
- * @returns the relative names that it imports, as far as they are known as a whole
- */
+/** The relative names that a script imports, as far as they are known as a whole. */
 function importedBy(path: string): string[] {
   try {
-    return looseImports(String(readRegularFile(path)), "script").filter(({ kind }) => kind === "script")
-      .flatMap(({ parts: [name, ...others] }) => (name !== undefined && others.length === 0 ? [name] : []))
-      .filter(isRelative);
+    const imports = looseImports(String(readRegularFile(path)), "script").filter(({ kind }) => kind === "script");
+    return imports.flatMap(({ parts }) => (parts.length === 1 ? parts.join("") : [])).filter(isRelative);
   } catch {
     return [];
   }
 }
 
-/** @returns the path of a module with one of the endings, or of an index of the folder */
+/** The path of a module with one of the endings, or of an index of the folder. */
 function fileAt(path: string): string | undefined {
   return [path, join(path, "index")].flatMap((each) => ["", ...MODULE_ENDINGS].map((ending) => each + ending))
     .find(isFile);

@@ -7,10 +7,7 @@ import { GlobFault, globMatcher } from "../files/globs.js";
 import type { Ends, Mention, Reference } from "./graph.cjs";
 import type { ModuleGraph } from "./module_graph.js";
 
-/**
- * `to` is the URL of a file, or the name of a package; `way` is a shortest one from an entry to it, or else from
- * the module
- */
+/** `to` is a file's URL, or a package's name; `way` a shortest one from an entry to it, or from the module. */
 export interface Forbidden {
   rule: string;
   mention: Mention;
@@ -19,18 +16,17 @@ export interface Forbidden {
 }
 
 /**
- * @param entries keys
  * @param rules as "FROM:TO", of which both are globs, and the second one may be that of packages' names
- * @returns in the order of the rules
  * @throws {GlobFault}
  */
 export function forbiddenEdges(graph: ModuleGraph, entries: string[], rules: string[]): Forbidden[] {
+  const chainTo = graph.chains(entries);
   return rules.flatMap((rule) => {
     const { isFrom, targetOf } = readRule(rule);
     const found = graph.mentions((each, module) => isFrom(module) && targetOf(each) !== undefined);
     return found.map((mention) => {
       const to = targetOf(mention.reference) as string;
-      const before = graph.chain(entries, mention.module).map(({ module }) => module);
+      const before = chainTo(mention.module).map(({ module }) => module);
       return { rule, mention, to, way: [...(before.length > 0 ? before : [mention.module]), to] };
     });
   });

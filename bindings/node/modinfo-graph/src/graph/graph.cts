@@ -37,16 +37,8 @@ export type Resolution =
   | { class: "asset"; file: string; types?: string; by?: Rules }
   /** A file or folder that a link or a path leads to, in no folder of the project. Nothing is read there. */
   | { class: "outside"; target: string }
-  /** A module of node's own. */
-  | { class: "builtin" }
-  /** A `data:` URL. */
-  | { class: "data" }
-  /** A name of `npm:`, as in Deno. */
-  | { class: "npm" }
-  /** A name of `jsr:`, as in Deno. */
-  | { class: "jsr" }
-  /** Another URL that isn't a file's, as `https:`. */
-  | { class: "url" }
+  /** A module of node's own; a `data:` URL; a name of `npm:` or `jsr:`, as in Deno; another URL, as `https:`. */
+  | { class: "builtin" } | { class: "data" } | { class: "npm" } | { class: "jsr" } | { class: "url" }
   /** `browser` of a package.json has `false` for it. */
   | { class: "disabled" }
   /** Nothing was found, or the name can be none: it is empty, has a NUL or more than 4,096 characters. */
@@ -55,33 +47,23 @@ export type Resolution =
   | { class: "unknown" };
 
 /** What a resolution may have. */
-export interface Ends {
+export interface Ends extends Partial<Record<"file" | "types" | "package", string>> {
   class: Resolution["class"];
-  file?: string;
-  types?: string;
-  package?: string;
   by?: Rules;
 }
 
-/** A reference of one of these kinds runs the module that it names. */
-export type RunKind =
-  /** `import` and `export .. from`. */
-  | "static"
-  /** `import(..)`. */
-  | "dynamic"
-  /** `require(..)`, `import name = require(..)`. */
-  | "require"
-  /** `@jsxImportSource`. */
-  | "jsx";
+/**
+ * A reference of one of these kinds runs the module that it names: `import` and `export .. from`; `import(..)`;
+ * `require(..)` and `import name = require(..)`; `@jsxImportSource`.
+ */
+export type RunKind = "static" | "dynamic" | "require" | "jsx";
 
-/** A reference of one of these kinds names a module for its types alone. */
-export type TypeKind =
-  /** `import type`, `declare module`, `@ts-types`, and all that a declaration file imports. */
-  | "type"
-  /** `import(..)` and `@import` in a JSDoc comment. */
-  | "jsdoc"
-  /** A triple-slash reference. */
-  | "reference";
+/**
+ * A reference of one of these kinds names a module for its types alone: `import type`, `declare module`,
+ * `@ts-types`, and all that a declaration file imports; `import(..)` and `@import` in a JSDoc comment; a
+ * triple-slash reference.
+ */
+export type TypeKind = "type" | "jsdoc" | "reference";
 
 export type ReferenceKind = RunKind | TypeKind;
 
@@ -141,33 +123,25 @@ export interface Cycle {
   perhapsOfTypes?: true;
 }
 
-/** Why a module may be reached though nothing that is known as a whole leads to it. */
+/**
+ * Why a module may be reached though nothing that is known as a whole leads to it:
+ *
+ * - `template`: the known parts of an argument match its path;
+ * - `new URL` and those after it up to `__dirname`: a call or a name that a search finds in the text of a module;
+ * - `text`: a string literal has its name, or is a glob that matches it;
+ * - `condition`: `imports`, `exports` or `browser` of a package.json have it for other conditions; or it is for a
+ *   platform;
+ * - `alias`: a name of a bundler's alias ends as its path does;
+ * - `output`: a file in a folder of outputs has the same path;
+ * - `convention`: a framework that package.json lists loads files of this path;
+ * - `script`: a script of a page, or one without an ending that a package.json names;
+ * - `fault`, `ignored`: a file that can't be parsed, or an ignored one, has its name;
+ * - `excluded`, `import`: an excluded file, or a module that may be reached itself, leads to it.
+ */
 export type ReasonKind =
-  /** The known parts of an argument match its path. */
-  | "template"
-  /** A call or a name that a search finds in the text of a module. */
-  | "new URL" | "new Worker" | "require.resolve" | "import.meta.resolve" | "import.meta.glob" | "require.context"
-  | "jest.mock" | "__dirname"
-  /** A string literal has its name, or is a glob that matches it. */
-  | "text"
-  /** `imports`, `exports` or `browser` of a package.json have it for other conditions; or it is for a platform. */
-  | "condition"
-  /** A name of a bundler's alias ends as its path does. */
-  | "alias"
-  /** A file in a folder of outputs has the same path. */
-  | "output"
-  /** A framework that package.json lists loads files of this path. */
-  | "convention"
-  /** A script of a page, or one without an ending that a package.json names. */
-  | "script"
-  /** A file that can't be parsed has its name. */
-  | "fault"
-  /** An excluded file leads to it. */
-  | "excluded"
-  /** An ignored file has its name. */
-  | "ignored"
-  /** A module that may be reached itself leads to it. */
-  | "import";
+  | "template" | "new URL" | "new Worker" | "require.resolve" | "import.meta.resolve" | "import.meta.glob"
+  | "require.context" | "jest.mock" | "__dirname" | "text" | "condition" | "alias" | "output" | "convention"
+  | "script" | "fault" | "excluded" | "ignored" | "import";
 
 export interface Reason {
   kind: ReasonKind;

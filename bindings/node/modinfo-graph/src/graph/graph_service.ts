@@ -3,36 +3,12 @@
 import { ProgramEnd } from "modinfo/internal/core/errors.cjs";
 import { checkProgram } from "../files/program.js";
 import { checkKnown, readJobs } from "../runtime/call_options.js";
-import { readProject } from "./project_graph.js";
+import { readProject } from "./read_graph.js";
 import { RESOLVER_OPTIONS, pathOf, readResolverOptions } from "./resolve_service.js";
 import { unledOf, unreachedOf } from "./unreached.js";
 import type { Signal, Url } from "modinfo";
 import type { GraphOptions } from "../options.cjs";
-import type { Graph, ResolveHook, Unreached } from "./graph.cjs";
-import type { ModuleGraph } from "./module_graph.js";
-import type { KeyOf } from "./reach.js";
-import type { Project } from "./reasons.js";
-import type { ResolverOptions } from "./resolver.js";
-
-interface GraphTask {
-  /** absolute */
-  paths: string[];
-  /** absolute */
-  entries: string[];
-  /** globs */
-  exclude: string[];
-  /** globs */
-  ignore: string[];
-  gitignore: boolean;
-  all: boolean;
-  types: boolean;
-  dynamic: boolean;
-  jobs: number;
-  resolver: ResolverOptions;
-  resolve?: ResolveHook;
-  /** The path of `modinfo` */
-  program: string;
-}
+import type { Graph } from "./graph.cjs";
 
 const OPTIONS = [
   "paths", "entries", "exclude", "ignore", "gitignore", "all", "types", "dynamic", "jobs", "resolve",
@@ -40,14 +16,11 @@ const OPTIONS = [
 ];
 
 /** @throws {TypeError} with what is wrong */
-export function readGraphOptions(
-  options: GraphOptions | undefined, standard: { program: string, jobs: number },
-): GraphTask {
+export function readGraphOptions(options: GraphOptions = {}, standard: { program: string, jobs: number }) {
   checkKnown(options, OPTIONS);
-  const { gitignore = false, all = false, types = false, dynamic = true } = options ?? {};
-  const { resolve } = options ?? {};
-  const jobs = readJobs(options?.jobs ?? standard.jobs);
-  const { paths = [], entries = [], exclude = [], ignore = [] } = options ?? {};
+  const { paths = [], entries = [], exclude = [], ignore = [], resolve } = options;
+  const { gitignore = false, all = false, types = false, dynamic = true } = options;
+  const jobs = readJobs(options.jobs ?? standard.jobs);
   if (![paths, entries, exclude, ignore].every(Array.isArray) || paths.length + entries.length === 0) {
     throw new TypeError("paths or entries must be given; paths, entries, exclude and ignore must be arrays");
   }
@@ -61,75 +34,29 @@ export function readGraphOptions(
     paths: paths.map((path) => pathOf(path, "a path")),
     entries: entries.map((path) => pathOf(path, "an entry")),
     exclude: exclude.map(String), ignore: ignore.map(String), gitignore, all, types, dynamic, jobs, resolve,
-    resolver: { types, ...readResolverOptions(options ?? {}) },
+    resolver: { types, ...readResolverOptions(options) },
     program: standard.program,
   };
 }
 
-/**
- * @param signal ends the reading
- * @returns rejected with an `EntryFault`, a `GlobFault` or a `GitFault`
- */
-export async function graphOf(task: GraphTask, signal?: Signal): Promise<Graph> {
+/** @returns rejected with an `EntryFault`, a `GlobFault` or a `GitFault` */
+export async function graphOf(task: ReturnType<typeof readGraphOptions>, signal?: Signal): Promise<Graph> {
   const { paths, program } = task;
   await checkProgram(program).catch(({ message }) => {
     throw new ProgramEnd(message);
   });
-  const { graph, named, ...project } = await readProject({
+  const read = await readProject({
     ...task, roots: paths, excluded: true, signal, onRead: () => signal?.throwIfAborted(),
   });
-  return new FileGraph(graph, named, project);
-}
-
-/** The graph as callers have it. */
-class FileGraph implements Graph {
-  #graph;
-  #named;
-  #project;
-
-  /** @param named the keys of the files of the paths */
-  constructor(graph: ModuleGraph, named: string[], project: Project & { keyOf: KeyOf }) {
-    this.#graph = graph;
-    this.#named = named;
-    this.#project = project;
-  }
-
-  get entries() {
-    const { entries } = this.#project;
-    return entries.length > 0 ? entries : undefined;
-  }
-
-  get modules() {
-    return this.#graph.listed;
-  }
-
-  cycles() {
-    return this.#graph.cycles();
-  }
-
-  async unreached(): Promise<Unreached> {
-    const classesOf = this.entries ? unreachedOf : unledOf;
-    return classesOf(this.#graph, this.#named, this.#project);
-  }
-
-  why(file: string | Url) {
-    return this.#graph.chain(this.#project.entries, this.#keyOf(file));
-  }
-
-  dependents(file: string | Url) {
-    return this.#graph.dependents(this.#keyOf(file));
-  }
-
-  missing() {
-    return this.#graph.missing();
-  }
-
-  toJSON() {
-    const { entries, modules } = this;
-    return { ...(entries && { entries }), modules };
-  }
-
-  #keyOf(file: string | Url) {
-    return this.#project.keyOf(pathOf(file, "a file"));
-  }
+  const { graph, named, entries } = read;
+  const keyOf = (file: string | Url) => read.keyOf(pathOf(file, "a file"));
+  return {
+    ...(entries.length > 0 && { entries }),
+    modules: graph.listed,
+    cycles: () => graph.cycles(),
+    unreached: async () => (entries.length > 0 ? unreachedOf : unledOf)(graph, named, read),
+    why: (file) => graph.chain(entries, keyOf(file)),
+    dependents: (file) => graph.dependents(keyOf(file)),
+    missing: () => graph.missing(),
+  };
 }

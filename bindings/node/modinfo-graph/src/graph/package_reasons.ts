@@ -6,6 +6,7 @@
 import { basename, join } from "node:path";
 import { fileURLToPath } from "node:url";
 
+import { memoized } from "../files/by_folder.js";
 import { globalFolders } from "../files/file_kinds.js";
 import { readRegularFile } from "../files/regular_file.js";
 import { urlOfPath } from "../files/urls.js";
@@ -22,6 +23,16 @@ export interface PackageReason {
   /** The script, or the package whose peer it is */
   text?: string;
 }
+
+/** A file that is searched. */
+interface Text {
+  /** Its path */
+  file: string;
+  text: string;
+}
+
+/** The members of a package.json that list what its project itself needs. */
+const LISTS = ["dependencies", "devDependencies"];
 
 /** The most bytes of a configuration that is searched. */
 const MAX_BYTES = 2 ** 20;
@@ -43,135 +54,97 @@ const OTHERS = new Set([
 /** A package that configurations name without its tool, as `eslint-plugin-react` and `@babel/preset-env`. */
 const OF_TOOL = /^(?:(@([^/]+))\/)?(?:([a-z]+)-)?(?:plugin|config|preset)(?:-(.+))?$/;
 
-/**
- * @param name of a package
- * @returns the package that has its types
- */
+/** The package that has the types of another one. */
 export function typesOf(name: string): string {
   return `@types/${name.replace(/^@/, "").replace("/", "__")}`;
 }
 
-export class PackageReasons {
-  #files;
-  #manifests;
-  #folders;
-  #modules;
-  #pages;
-  /** Configurations by folders. */
-  #configurations: Map<string, { file: string, text: string }[]> = new Map();
-  /** Of modules and pages. */
-  #texts: { file: string, text: string }[] | undefined;
-
-  constructor(
-    files: RegularFiles, manifests: PackageManifests,
-    { modules, pages }: { modules: GraphModule[], pages: string[] },
-  ) {
-    this.#files = files;
-    this.#manifests = manifests;
-    this.#folders = new PackageFolders(files, globalFolders);
-    this.#modules = modules;
-    this.#pages = pages;
-  }
-
-  /**
-   * @param name of a package
-   * @param manifest that lists it
-   * @param used the packages and built-in modules that are imported
-   */
-  find(name: string, manifest: Manifest, used: Set<string>): PackageReason | undefined {
-    const found = this.#ofTypes(name, manifest, used) ?? this.#ofScripts(name, manifest) ??
-      this.#ofConfigurations(name, manifest) ?? this.#ofPeers(name, manifest) ?? this.#ofTexts(name);
-    return found && { ...found, file: urlOfPath(found.file) };
-  }
-
-  /** The types of what is used, and those of a tool that is listed. */
-  #ofTypes(name: string, manifest: Manifest, used: Set<string>): PackageReason | undefined {
-    const { dependencies, devDependencies, peerDependencies } = manifest.members;
-    const lists = [dependencies, devDependencies, peerDependencies].filter(isObject);
-    const all = [...used, "node", ...lists.flatMap((each) => Object.keys(each))];
-    const text = all.find((each) => typesOf(each) === name);
-    return text === undefined ? undefined : { kind: "types", file: manifest.path, text };
-  }
-
-  /** A script calls a program of it. */
-  #ofScripts(name: string, manifest: Manifest): PackageReason | undefined {
-    const { scripts } = manifest.members;
-    const calls = wordsPattern(this.#programsOf(name, manifest));
-    const found = Object.entries(isObject(scripts) ? scripts : {}).find(([, line]) => {
-      return typeof line === "string" && calls.test(line);
-    });
-    return found && { kind: "bin", file: manifest.path, text: found[0] };
-  }
-
-  /** @returns the name, and those of its programs where it is installed */
-  #programsOf(name: string, manifest: Manifest): string[] {
-    const bin = this.#installed(name, manifest)?.members.bin;
-    return [name, ...(isObject(bin) ? Object.keys(bin) : [basename(name)])];
-  }
-
-  #installed(name: string, { folder }: Manifest): Manifest | undefined {
-    const own = this.#folders.required(name, folder);
-    return own === undefined ? undefined : this.#manifests.of(own);
-  }
-
-  #ofConfigurations(name: string, manifest: Manifest): PackageReason | undefined {
-    const words = wordsPattern([name]);
-    const [, scope, scopeName, own, rest] = OF_TOOL.exec(name) ?? [];
-    const tool = own ?? scopeName;
-    const short = [scope, rest].filter((each) => each !== undefined).join("/");
-    const shorts = tool === undefined || short === "" ? undefined : wordsPattern([short], "(?:plugin:)?");
-    const isNamed = ({ file, text }: { file: string, text: string }) => {
-      return isOfTool(basename(file), name) || words.test(text) ||
-        (shorts?.test(text) && (file + text).includes(tool));
-    };
-    const file = this.#configurationsOf(manifest).find(isNamed)?.file;
-    return file === undefined ? undefined : { kind: "configuration", file };
-  }
-
-  #configurationsOf({ folder, path, members }: Manifest) {
-    let found = this.#configurations.get(folder);
-    if (!found) {
-      const own = Object.entries(members).filter(([member]) => !OTHERS.has(member));
-      const files = FOLDERS.map((each) => join(folder, each)).flatMap((each) => {
-        return this.#files.filesIn(each).map((name) => join(each, name));
-      });
-      found = [
-        { file: path, text: JSON.stringify(Object.fromEntries(own)) },
-        ...textsOf(files.filter((file) => CONFIGURATION.test(basename(file)) && !LOCK.test(basename(file)))),
-      ];
-      this.#configurations.set(folder, found);
-    }
-    return found;
-  }
-
-  /** Another package that is listed needs it beside itself. */
-  #ofPeers(name: string, manifest: Manifest): PackageReason | undefined {
-    const { dependencies, devDependencies } = manifest.members;
-    const listed = [dependencies, devDependencies].filter(isObject).flatMap((each) => Object.keys(each));
-    const text = listed.find((each) => {
-      const peers = this.#installed(each, manifest)?.members.peerDependencies;
-      return isObject(peers) && Object.hasOwn(peers, name);
-    });
-    return text === undefined ? undefined : { kind: "peer", file: manifest.path, text };
-  }
-
-  /** A string of a module, a page or a style sheet. */
-  #ofTexts(name: string): PackageReason | undefined {
-    this.#texts ??= textsOf([...new Set([...this.#modules.flatMap(pathsOf), ...this.#pages])]);
-    const quoted = new RegExp(`["'\`]~?${escaped(name)}(?:/[^"'\`\\n]*)?["'\`]`);
-    const file = this.#texts.find(({ text }) => quoted.test(text))?.file;
-    return file === undefined ? undefined : { kind: "text", file };
-  }
+/** The packages in some lists of a package.json. */
+export function packagesIn({ members }: Manifest, lists: string[]): string[] {
+  const found = lists.map((list) => (Object.hasOwn(members, list) ? members[list] : undefined));
+  return found.filter(isObject).flatMap((each) => Object.keys(each));
 }
 
-/** @returns the paths of a module, and of the style sheets that it imports */
+/** Returns a function that finds why a package may be used. It reads each text once. */
+export function packageReasons(
+  files: RegularFiles, manifests: PackageManifests, modules: GraphModule[], pages: string[],
+) {
+  const folders = new PackageFolders(files, globalFolders);
+  const installed = (name: string, { folder }: Manifest) => {
+    const own = folders.required(name, folder);
+    return own === undefined ? undefined : manifests.of(own);
+  };
+  const configurationsOf = memoized((manifest: Manifest) => configurations(manifest, files));
+  let texts: Text[] | undefined;
+  /**
+   * @param manifest that lists the package
+   * @param used the packages and built-in modules that are imported
+   */
+  return (name: string, manifest: Manifest, used: Set<string>): PackageReason | undefined => {
+    const ofText = (kind: PackageReason["kind"], text: string | undefined) => {
+      return text === undefined ? undefined : { kind, file: urlOfPath(manifest.path), text };
+    };
+    const ofFile = (kind: PackageReason["kind"], file: string | undefined) => {
+      return file === undefined ? undefined : { kind, file: urlOfPath(file) };
+    };
+    const needs = (listed: string) => {
+      const own = installed(listed, manifest);
+      return own !== undefined && packagesIn(own, ["peerDependencies"]).includes(name);
+    };
+    // The types of what is used, and those of a tool that is listed.
+    const types = [...used, "node", ...packagesIn(manifest, [...LISTS, "peerDependencies"])];
+    return ofText("types", types.find((each) => typesOf(each) === name)) ??
+      ofText("bin", scriptCalling(name, manifest, installed(name, manifest)?.members.bin)) ??
+      ofFile("configuration", configurationNaming(name, configurationsOf(manifest))) ??
+      ofText("peer", packagesIn(manifest, LISTS).find(needs)) ??
+      ofFile("text", textNaming(name, texts ??= textsOf([...new Set([...modules.flatMap(pathsOf), ...pages])])));
+  };
+}
+
+/** The script of a package.json that calls a program of a package, which has its name, or names in its `bin`. */
+function scriptCalling(name: string, { members: { scripts } }: Manifest, bin: unknown): string | undefined {
+  const calls = wordsPattern([name, ...(isObject(bin) ? Object.keys(bin) : [basename(name)])]);
+  const lines = Object.entries(isObject(scripts) ? scripts : {});
+  return lines.find(([, line]) => typeof line === "string" && calls.test(line))?.[0];
+}
+
+/** The path of a configuration that names a package. */
+function configurationNaming(name: string, texts: Text[]): string | undefined {
+  const words = wordsPattern([name]);
+  const [, scope, scopeName, own, rest] = OF_TOOL.exec(name) ?? [];
+  const tool = own ?? scopeName;
+  const short = [scope, rest].filter((each) => each !== undefined).join("/");
+  const shorts = tool === undefined || short === "" ? undefined : wordsPattern([short], "(?:plugin:)?");
+  const isNamed = ({ file, text }: Text) => {
+    return isOfTool(basename(file), name) || words.test(text) ||
+      (shorts?.test(text) && (file + text).includes(tool));
+  };
+  return texts.find(isNamed)?.file;
+}
+
+/** The path of a text that has a package's name as a string. */
+function textNaming(name: string, texts: Text[]): string | undefined {
+  const quoted = new RegExp(`["'\`]~?${escaped(name)}(?:/[^"'\`\\n]*)?["'\`]`);
+  return texts.find(({ text }) => quoted.test(text))?.file;
+}
+
+function configurations({ folder, path, members }: Manifest, files: RegularFiles): Text[] {
+  const own = Object.entries(members).filter(([member]) => !OTHERS.has(member));
+  const named = FOLDERS.map((each) => join(folder, each)).flatMap((each) => {
+    return files.filesIn(each).filter((name) => CONFIGURATION.test(name) && !LOCK.test(name))
+      .map((name) => join(each, name));
+  });
+  return [{ file: path, text: JSON.stringify(Object.fromEntries(own)) }, ...textsOf(named)];
+}
+
+/** The paths of a module, and of the style sheets that it imports. */
 function pathsOf({ specifier, references }: GraphModule): string[] {
   const assets = references.flatMap(({ resolved }) => (resolved.class === "asset" ? [resolved.file] : []));
   return [specifier, ...assets.filter((url) => STYLES.test(url))].map((url) => fileURLToPath(url));
 }
 
-/** @returns without those that can't be read */
-function textsOf(paths: string[]): { file: string, text: string }[] {
+/** The texts of files, without those that can't be read. */
+function textsOf(paths: string[]): Text[] {
   return paths.flatMap((file) => {
     try {
       return [{ file, text: String(readRegularFile(file, MAX_BYTES)) }];
@@ -181,20 +154,14 @@ function textsOf(paths: string[]): { file: string, text: string }[] {
   });
 }
 
-/**
- * Whether a file is the configuration of a tool by its name, as tsconfig.json, .eslintrc and jest.config.js.
- * @param name of a package
- */
+/** Whether a file configures the tool of a package by its name, as tsconfig.json, .eslintrc, jest.config.js. */
 function isOfTool(file: string, name: string) {
   const [, word] = /^\.?([a-z][a-z-]*?)(?:rc)?(?:\.|$)/.exec(file) ?? [];
   return word === name || [`@${word}/core`, `@${word}/cli`].includes(name) ||
     (name === "typescript" && word === "tsconfig");
 }
 
-/**
- * @param before a pattern of what may be before a word
- * @returns matches a word that is no part of another one; a path may follow it
- */
+/** Matches a word that is no part of another one; a path may follow it, and a pattern may be before it. */
 function wordsPattern(words: string[], before: string = ""): RegExp {
   return new RegExp(`(?<![\\w@./-])${before}(?:${words.map(escaped).join("|")})(?![\\w.-])`);
 }

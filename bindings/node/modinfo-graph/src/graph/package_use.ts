@@ -3,12 +3,12 @@
 import { dirname, resolve as absolute } from "node:path";
 import { fileURLToPath } from "node:url";
 
+import { memoized } from "../files/by_folder.js";
 import { RegularFiles } from "../files/regular_files.js";
 import { urlOfPath } from "../files/urls.js";
 import { packageOf } from "./names.js";
 import { PackageManifests } from "./package_manifests.js";
-import { PackageReasons, typesOf } from "./package_reasons.js";
-import { isObject } from "./package_targets.js";
+import { packageReasons, packagesIn, typesOf } from "./package_reasons.js";
 import { projectsOf } from "./projects.js";
 import type { Ends, Mention, Reference } from "./graph.cjs";
 import type { ModuleGraph } from "./module_graph.js";
@@ -39,145 +39,92 @@ const INSTALLED = /^.*\/node_modules\/((?:@[^/]+\/)?[^/]+)\//s;
  *   named: a package.json counts that is in one of them, or is the nearest of a module
  */
 export function packageUse(graph: ModuleGraph, project: { pages: string[], paths: string[] }): PackageUse {
-  return new Packages(graph, project).use();
-}
-
-class Packages {
-  #graph;
-  #project;
-  #files = new RegularFiles();
-  #manifests = new PackageManifests(this.#files);
-  #projectOf = projectsOf(this.#files);
-  /** By folders, those of them and above, the nearest first. */
-  #above: Map<string, Manifest[]> = new Map();
-  /** What the modules below each manifest import. */
-  #used: Map<Manifest, Set<string>> = new Map();
-
-  constructor(graph: ModuleGraph, project: { pages: string[], paths: string[] }) {
-    this.#graph = graph;
-    this.#project = project;
-    this.#files.addAllWithoutLinks();
-  }
-
-  use(): PackageUse {
-    const unlisted: Map<string, Unlisted> = new Map();
-    for (const { specifier: module, references, isExcluded } of this.#graph.modules) {
-      const path = fileURLToPath(module);
-      for (const reference of INSTALLED.test(path) ? [] : references) {
-        const name = this.#packageOf(reference, path);
-        const isListed = name === undefined || this.#take(name, path);
-        if (!isListed && !isExcluded && reference.resolved.class !== "builtin") {
-          const [nearest] = this.#manifestsOf(path);
-          const manifest = nearest && urlOfPath(nearest.path);
-          addMention(unlisted, { package: name, ...(manifest && { manifest }) }, { module, reference });
-        }
+  const lists = listings();
+  const found: PackageUse = { unlisted: unlistedIn(graph, lists), unused: [], mayBeUsed: [] };
+  const nearest = graph.listed.flatMap(({ specifier }) => lists.above(fileURLToPath(specifier))[0] ?? []);
+  const named = project.paths.flatMap((path) => lists.manifests.of(absolute(path)) ?? []);
+  const reasonOf = packageReasons(lists.files, lists.manifests, graph.modules, project.pages);
+  for (const manifest of new Set([...named, ...nearest])) {
+    const used = lists.usedBelow(manifest);
+    const url = urlOfPath(manifest.path);
+    const listed = MAY_BE_UNUSED.flatMap((list) => packagesIn(manifest, [list]).map((name) => ({ list, name })));
+    for (const { list, name } of listed.filter((each) => !used.has(each.name))) {
+      const reason = reasonOf(name, manifest, used);
+      const unused = { package: name, manifest: url, list };
+      if (reason) {
+        found.mayBeUsed.push({ ...unused, reason });
+      } else {
+        found.unused.push(unused);
       }
     }
-    return { unlisted: [...unlisted.values()], ...this.#unused() };
   }
+  return found;
+}
 
-  /**
-   * @param path of its module
-   * @returns the package that it needs, or the built-in module whose name a package may have
-   */
-  #packageOf({ specifier = "", resolved }: Reference, path: string): string | undefined {
-    const { class: name, package: installed, file, by } = resolved as Ends;
-    const { name: own } = packageOf(specifier) ?? {};
-    if (installed !== undefined) {
-      return installed;
-    }
-    const target = file && fileURLToPath(file);
-    if (specifier.startsWith("#")) {
-      return target && INSTALLED.exec(target)?.[1];
-    }
-    if (name === "builtin" || name === "missing") {
-      return name === "builtin" || this.#isListed(own ?? "", path) ? own : undefined;
-    }
-    const isWorkspace = target && (by === "node" || by === "bundler") && own !== undefined;
-    return isWorkspace && this.#manifestsOf(target)[0]?.name === own ? own : undefined;
-  }
+/** The package.json files of projects, and what modules import. */
+function listings() {
+  const files = new RegularFiles();
+  files.addAllWithoutLinks();
+  const manifests = new PackageManifests(files);
+  const projectOf = projectsOf(files);
+  const inFolder: (folder: string) => Manifest[] = memoized((folder) => {
+    const { project = folder } = projectOf(folder);
+    files.addProject(project);
+    const own = manifests.of(folder);
+    const isOfPackage = own && (own.name !== undefined || packagesIn(own, LISTS).length > 0);
+    return [...(isOfPackage ? [own] : []), ...(folder === project ? [] : inFolder(dirname(folder)))];
+  });
+  /** The manifests with a name or a list above a file, in its project, the nearest first. */
+  const above = (path: string) => inFolder(dirname(path));
+  /** Whether a package.json above a file lists a package, or has its name. */
+  const isListed = (name: string, path: string) => {
+    return above(path).some((each) => each.name === name || packagesIn(each, LISTS).includes(name));
+  };
+  /** The packages that the modules below a manifest import. */
+  const usedBelow = memoized((_manifest: Manifest) => new Set<string>());
+  return { files, manifests, above, isListed, usedBelow };
+}
 
-  /**
-   * Counts a package as used by a module.
-   * @param path of the module
-   * @returns whether a package.json lists it, or has its name
-   */
-  #take(name: string, path: string): boolean {
-    for (const manifest of this.#manifestsOf(path)) {
-      const used = this.#used.get(manifest) ?? new Set();
-      this.#used.set(manifest, used.add(name));
-    }
-    return this.#isListed(name, path) || this.#isListed(typesOf(name), path);
-  }
+type Listings = ReturnType<typeof listings>;
 
-  #isListed(name: string, path: string) {
-    return this.#manifestsOf(path).some((manifest) => {
-      return manifest.name === name || LISTS.some((list) => namesIn(manifest, list).includes(name));
-    });
-  }
-
-  /**
-   * @param path of a file
-   * @returns those with a name or a list above it, in its project
-   */
-  #manifestsOf(path: string): Manifest[] {
-    const folder = dirname(path);
-    const { project = folder } = this.#projectOf(folder);
-    this.#files.addProject(project);
-    return this.#manifestsAbove(folder, project);
-  }
-
-  #manifestsAbove(folder: string, project: string): Manifest[] {
-    let found = this.#above.get(folder);
-    if (!found) {
-      const own = this.#manifests.of(folder);
-      const isOfPackage = own && (own.name !== undefined || LISTS.some((list) => namesIn(own, list).length > 0));
-      const others = folder === project || dirname(folder) === folder
-        ? []
-        : this.#manifestsAbove(dirname(folder), project);
-      found = isOfPackage ? [own, ...others] : others;
-      this.#above.set(folder, found);
-    }
-    return found;
-  }
-
-  #unused(): Pick<PackageUse, "unused" | "mayBeUsed"> {
-    const files = this.#graph.listed.map(({ specifier }) => fileURLToPath(specifier));
-    const nearest = files.flatMap((path) => this.#manifestsOf(path)[0] ?? []);
-    const named = this.#project.paths.flatMap((path) => this.#manifests.of(absolute(path)) ?? []);
-    const reasons = new PackageReasons(this.#files, this.#manifests, {
-      modules: this.#graph.modules, pages: this.#project.pages,
-    });
-    const found: Pick<PackageUse, "unused" | "mayBeUsed"> = { unused: [], mayBeUsed: [] };
-    for (const manifest of new Set([...named, ...nearest])) {
-      const used = this.#used.get(manifest) ?? new Set();
-      for (const list of MAY_BE_UNUSED) {
-        for (const name of namesIn(manifest, list).filter((each) => !used.has(each))) {
-          const reason = reasons.find(name, manifest, used);
-          const unused = { package: name, manifest: urlOfPath(manifest.path), list };
-          if (reason) {
-            found.mayBeUsed.push({ ...unused, reason });
-          } else {
-            found.unused.push(unused);
-          }
-        }
+/** Counts what modules import as used, and returns what isn't listed. */
+function unlistedIn(graph: ModuleGraph, lists: Listings): Unlisted[] {
+  const found: Map<string, Unlisted> = new Map();
+  for (const { specifier: module, references, isExcluded } of graph.modules) {
+    const path = fileURLToPath(module);
+    for (const reference of INSTALLED.test(path) ? [] : references) {
+      const name = packageNamed(reference, path, lists);
+      if (name === undefined) {
+        continue;
+      }
+      lists.above(path).forEach((manifest) => lists.usedBelow(manifest).add(name));
+      const isListed = [name, typesOf(name)].some((each) => lists.isListed(each, path));
+      if (!isListed && !isExcluded && reference.resolved.class !== "builtin") {
+        const [nearest] = lists.above(path);
+        const key = `${nearest?.path} ${name}`;
+        const { by, ...unlisted } = found.get(key) ??
+          { package: name, ...(nearest && { manifest: urlOfPath(nearest.path) }), by: [] };
+        const isKnown = by.some((each) => each.module === module);
+        found.set(key, { ...unlisted, by: isKnown ? by : [...by, { module, reference }] });
       }
     }
-    return found;
   }
+  return [...found.values()];
 }
 
-/** @param mention is added where it is the first one of its file */
-function addMention(found: Map<string, Unlisted>, unlisted: Omit<Unlisted, "by">, mention: Mention) {
-  const key = `${unlisted.manifest} ${unlisted.package}`;
-  const { by } = found.get(key) ?? { by: [] as Mention[] };
-  if (!by.some(({ module }) => module === mention.module)) {
-    found.set(key, { ...unlisted, by: [...by, mention] });
+/**
+ * The package that a module needs, or the built-in module whose name a package may have.
+ * @param path of the module
+ */
+function packageNamed({ specifier = "", resolved }: Reference, path: string, lists: Listings): string | undefined {
+  const { class: kind, package: installed, file, by } = resolved as Ends;
+  const { name: own } = packageOf(specifier) ?? {};
+  const target = file && fileURLToPath(file);
+  if (installed !== undefined || specifier.startsWith("#")) {
+    return installed ?? (target && INSTALLED.exec(target)?.[1]);
   }
-}
-
-/** @returns the packages of a list */
-function namesIn({ members }: Manifest, list: string): string[] {
-  const packages = Object.hasOwn(members, list) ? members[list] : undefined;
-  return isObject(packages) ? Object.keys(packages) : [];
+  const isFound = own !== undefined && target && (by === "node" || by === "bundler");
+  const isWorkspace = isFound && lists.above(target)[0]?.name === own;
+  const isListed = kind === "missing" && lists.isListed(own ?? "", path);
+  return kind === "builtin" || isListed || isWorkspace ? own : undefined;
 }

@@ -17,22 +17,18 @@ const DOT_HEAD = `digraph modules {
 `;
 
 /** Graphviz's attributes by the kinds of edges. */
-const DOT_STYLES = new Map<string, string>(KINDS.map(({ kind, light, dot }) => {
-  return [kind, `color="${light}", ${dot}`];
+const DOT_STYLES = new Map<string, string>(KINDS.map((each) => {
+  return [each.kind, `color="${each.light}", ${each.dot}`];
 }));
 
 type Edge<Key> = { from: Key, to: Key, kind: string };
 
-/**
- * @param keys of the modules
- * @returns in Graphviz's language; each edge of a kind between two modules is once in it
- */
+/** @returns in Graphviz's language; each edge of a kind between two modules is once in it */
 export function dotText<Key>(keys: Key[], edges: Edge<Key>[], label: (key: Key) => string): string {
-  const numbers = numbered(keys);
-  const lines = [
-    ...keys.map((key) => `  ${numbers.get(key)} [label=${quoted(label(key))}];`),
-    ...edges.map(({ from, to, kind }) => `  ${numbers.get(from)} -> ${numbers.get(to)} [${styleOf(kind)}];`),
-  ];
+  const lines = linesOf(keys, edges, (name, key) => `${name} [label=${quoted(label(key))}];`, (from, to, kind) => {
+    const style = DOT_STYLES.get(kind) ?? "style=dashed";
+    return `${from} -> ${to} [${PLAIN.has(kind) ? style : `${style}, label=${kind}`}];`;
+  });
   return `${DOT_HEAD}${[...new Set(lines)].join("\n")}\n}\n`;
 }
 
@@ -41,39 +37,29 @@ export function isDot(text: string): boolean {
   return text.startsWith(DOT_HEAD.slice(0, DOT_HEAD.indexOf("\n")));
 }
 
-/**
- * @param keys of the modules
- * @returns in the language of Mermaid
- */
+/** @returns in the language of Mermaid */
 export function mermaidText<Key>(keys: Key[], edges: Edge<Key>[], label: (key: Key) => string): string {
-  const numbers = numbered(keys);
-  const lines = [
-    ...keys.map((key) => `  ${numbers.get(key)}["${mermaidLabel(label(key))}"]`),
-    ...edges.map(({ from, to, kind }) => {
-      const arrow = PLAIN.has(kind) ? "-->" : `-. ${kind} .->`;
-      return `  ${numbers.get(from)} ${arrow} ${numbers.get(to)}`;
-    }),
-  ];
+  const lines = linesOf(keys, edges, (name, key) => `${name}["${mermaidLabel(label(key))}"]`, (from, to, kind) => {
+    return `${from} ${PLAIN.has(kind) ? "-->" : `-. ${kind} .->`} ${to}`;
+  });
   return `flowchart LR\n${lines.join("\n")}\n`;
 }
 
-/** @returns their names in a picture */
-function numbered<Key>(keys: Key[]): Map<Key, string> {
-  return new Map(keys.map((key, number) => [key, `m${number}`]));
-}
-
-function styleOf(kind: string) {
-  const style = DOT_STYLES.get(kind) ?? "style=dashed";
-  return PLAIN.has(kind) ? style : `${style}, label=${kind}`;
+/** The lines of modules and edges, by their names in a picture. */
+function linesOf<Key>(
+  keys: Key[], edges: Edge<Key>[], ofModule: (name: string, key: Key) => string,
+  ofEdge: (from: string | undefined, to: string | undefined, kind: string) => string,
+): string[] {
+  const names = new Map(keys.map((key, number) => [key, `m${number}`]));
+  return [
+    ...keys.map((key) => ofModule(String(names.get(key)), key)),
+    ...edges.map(({ from, to, kind }) => ofEdge(names.get(from), names.get(to), kind)),
+  ].map((line) => `  ${line}`);
 }
 
 /** Quotes a text as a label, in which Graphviz reads backslashes and entities of HTML. */
 export function quoted(text: string): string {
-  const escaped = text
-    .replace(CONTROLS, "\ufffd")
-    .replace(/\\/g, "\\\\")
-    .replace(/"/g, '\\"')
-    .replace(/&/g, "&amp;");
+  const escaped = text.replace(CONTROLS, "\ufffd").replace(/[\\"]/g, "\\$&").replace(/&/g, "&amp;");
   return `"${escaped}"`;
 }
 

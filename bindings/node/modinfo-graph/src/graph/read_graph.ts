@@ -1,23 +1,29 @@
-/** Reads files into a graph. */
+/** Reads what paths name, and what entries lead to, into a graph: for the commands and for the service. */
 
 import { resolve as absolute } from "node:path";
 import { fileURLToPath } from "node:url";
 
-import { isComponent, isDeclaration, isModule } from "../files/file_kinds.js";
+import { exclusionsOf } from "../files/exclusions.js";
+import { isComponent, isDeclaration, isModule, isPage } from "../files/file_kinds.js";
+import { findFiles } from "../files/find_files.js";
 import { readFiles } from "../files/read_files.js";
-import { hasScripts, readComponent } from "./components.js";
+import { readComponent } from "./components.js";
+import { entryPoints } from "./entry_points.js";
 import { ModuleGraph } from "./module_graph.js";
-import { isRunKind, referencesOf } from "./references.js";
-import { Walk } from "./walk.js";
-import type { ModuleInfo, Url } from "modinfo";
+import { canonicalUrls } from "./reach.js";
+import { counts, referencesOf } from "./references.js";
+import { Resolver } from "./resolver.js";
+import type { ModuleInfo } from "modinfo";
 import type { Found } from "../files/find_files.js";
 import type { FileResult, ReadOptions } from "../files/read_files.js";
 import type { Texts } from "../files/texts.js";
-import type { GraphModule, Reference, ResolveHook } from "./graph.cjs";
+import type { Ends, GraphModule, ResolveHook } from "./graph.cjs";
 import type { KeyOf } from "./reach.js";
-import type { Resolver } from "./resolver.js";
+import type { Project } from "./reasons.js";
+import type { Counted } from "./references.js";
+import type { ResolverOptions } from "./resolver.js";
 
-interface ReadModule {
+export interface ReadFile extends Pick<FileResult, "path" | "isLeft" | "fault"> {
   /** The file's `ModuleInfo`, in which each object that names a module has `resolved`; none with a fault */
   info?: ModuleInfo;
   /** None with a fault */
@@ -26,123 +32,176 @@ interface ReadModule {
   notices?: string[];
 }
 
-export type ReadFile = Pick<FileResult, "path" | "isLeft" | "fault"> & ReadModule;
-
-export type GraphOptions = ReadOptions & GraphWords;
-
-interface GraphWords {
-  resolver: Resolver;
-  keyOf: KeyOf;
-  /** Whether edges of types, JSDoc and references count */
-  types?: boolean;
-  /** Whether edges of `import(..)` count; true where it is missing */
-  dynamic?: boolean;
-  /** Whether files are read that the named ones lead to */
-  follow?: boolean;
-  /** Whether those of installed packages are among them */
+interface ProjectTask extends ReadOptions, Counted {
+  paths: AsyncIterable<string> | Iterable<string>;
+  /** Those of the paths that are known before, below which links may lead */
+  roots: string[];
+  /** paths */
+  entries: string[];
+  /** Globs, as `exclusionsOf` takes them */
+  exclude?: string[];
+  ignore?: string[];
+  gitignore?: boolean;
+  /** Whether links to files below no root are followed */
+  links?: boolean;
+  /** Whether excluded files are read too, for what they lead to */
+  excluded?: boolean;
+  /** Whether what entries lead to in installed packages is read too */
   all?: boolean;
-  /** Whether a module isn't listed */
-  isExcluded?: (path: string) => boolean;
-  /** Whether a file isn't followed */
-  isIgnored?: (path: string) => boolean;
+  resolver: ResolverOptions;
   /** Is asked first what a name leads to */
   resolve?: ResolveHook;
   /** Hands the files on, and may look them up ahead */
   ahead?: (files: AsyncIterable<Found>) => AsyncIterable<Found>;
   /** Is called for each file in turn */
-  onRead?: (result: ReadFile) => void;
+  onRead?: (result: ReadFile, isExcluded: boolean) => void;
 }
 
-export async function readGraph(named: AsyncIterable<Found>, options: GraphOptions): Promise<ModuleGraph> {
-  const { types, dynamic, resolve, keyOf } = options;
-  const graph = new ModuleGraph({ types, dynamic });
-  const walk = new Walk(named, keyOf);
+/** A task, with what its files are read by: whether a module isn't listed, and whether a file isn't followed. */
+type Reading = Omit<ProjectTask, "resolver"> & Pick<Project, "isIgnored" | "resolver"> & {
+  keyOf: KeyOf,
+  isExcluded: (path: string) => boolean,
+};
+
+export type ProjectGraph = Awaited<ReturnType<typeof readProject>>;
+
+/**
+ * @returns rejected with an `EntryFault`, a `GlobFault` or a `GitFault`; `named` has the keys of the files of the
+ *   paths, `absent` what names an entry that isn't there
+ */
+export async function readProject(task: ProjectTask) {
+  const { paths, roots, all, links: follow, excluded, resolver: options } = task;
+  const { isExcluded, isIgnored, isKept, isLeftOut } = await exclusionsOf(task, [...roots, ...task.entries]);
+  const resolver = new Resolver(options);
+  const { files, absent, texts, perhaps } = await entryPoints(task.entries, options.conditions ?? [], resolver);
+  const search = { all, follow, roots, isExcluded: isLeftOut, components: true, ...(excluded && { isKept }) };
+  const keyOf = canonicalUrls();
+  const named: string[] = [];
+  const pages: string[] = [];
+  async function* allFiles() {
+    for await (const file of findFiles(paths, search)) {
+      if (isPage(file.path)) {
+        pages.push(absolute(file.path));
+      } else if (!file.error && !file.isLeft && !file.isExcluded) {
+        named.push(keyOf(file.path, file.real));
+      }
+      yield file;
+    }
+    yield* findFiles(files, {});
+  }
+  const reading = { ...task, resolver, keyOf, isExcluded, isIgnored };
+  const graph = await readGraph(allFiles(), reading, files.length > 0);
+  pages.push(...texts.map((path) => absolute(path)));
+  const project: Project = { entries: files.map((path) => keyOf(path)), perhaps, pages, isIgnored, resolver };
+  return { ...project, graph, named, absent, keyOf };
+}
+
+/** @param follow whether files are read that the named ones lead to */
+async function readGraph(named: AsyncIterable<Found>, reading: Reading, follow: boolean): Promise<ModuleGraph> {
+  const { types, dynamic, resolve, keyOf, ahead = (files) => files } = reading;
+  const modules = new Map<string, GraphModule>();
+  const { files, pass } = walk(named, keyOf);
   const seen = new Set<string>();
-  for await (const file of readFiles(options.ahead?.(walk) ?? walk, { ...options, readOther })) {
-    const module = moduleOf(file, options);
+  const readOther = (path: string, texts: Texts) => {
+    return isComponent(path) || isPage(path) ? readComponent(path, texts) : undefined;
+  };
+  for await (const file of readFiles(ahead(files), { ...reading, readOther })) {
+    const module = moduleOf(file, reading);
     if (module && resolve) {
       await resolveBy(resolve, module, keyOf);
     }
     if (module) {
-      graph.add(module);
+      modules.set(module.specifier, module);
     }
-    walk.pass(module ? pathsToFollow(module, options, seen) : []);
+    pass(module && follow ? pathsToFollow(module, reading, seen) : []);
   }
-  return graph;
+  return new ModuleGraph({ types, dynamic }, modules);
 }
 
-function readOther(path: string, texts: Texts) {
-  return hasScripts(path) ? readComponent(path, texts) : undefined;
+/**
+ * Each file once, by the first path that leads to it: those that are named, then those that these lead to.
+ * @returns for each of the files `pass` has to be called with the paths of those that it leads to, in the order of
+ *   the files: then the order of those that are found is always the same
+ */
+function walk(named: AsyncIterable<Found>, keyOf: KeyOf) {
+  const paths: string[] = [];
+  const passed = new Set<string>();
+  let underWay = 0;
+  let wake = () => {};
+  /** Counts a file that is under way from now on, if it is the first one. */
+  const isFirst = (file: Found) => {
+    // A link that isn't followed is reported, and its file may have another path.
+    const key = file.isLeft ? undefined : keyOf(file.path, file.real);
+    const isNew = key === undefined || !passed.has(key);
+    underWay += Number(isNew);
+    passed.add(key ?? "");
+    return isNew;
+  };
+  async function* files(): AsyncGenerator<Found, void> {
+    for await (const file of named) {
+      if (isFirst(file)) {
+        yield file;
+      }
+    }
+    for (let at = 0; at < paths.length || underWay > 0;) {
+      if (at === paths.length) {
+        await new Promise<void>((resolve) => (wake = resolve));
+      } else if (isFirst({ path: paths[at++] })) {
+        yield { path: paths[at - 1] };
+      }
+    }
+  }
+  const pass = (found: string[]) => {
+    underWay--;
+    found.forEach((path) => paths.push(path));
+    wake();
+  };
+  return { files: files(), pass };
 }
 
 /** @returns nothing for a link that isn't followed, and for a page without scripts */
 function moduleOf(
-  { path, real, info, value, isLeft, fault }: FileResult, { resolver, keyOf, isExcluded, onRead }: GraphOptions,
+  { path, real, info, value, isLeft, fault }: FileResult, { resolver, keyOf, isExcluded, onRead }: Reading,
 ): GraphModule | undefined {
   if (!info && !value && !isLeft && !fault) {
     return undefined;
   }
   const json: ModuleInfo | undefined = value ?? (info && JSON.parse(String(info)));
-  const read = json && resolved({ path, real }, json, { resolver, keyOf });
-  onRead?.({ path, isLeft, fault, info: json, module: read?.module, notices: read?.notices });
-  if (isLeft) {
-    return undefined;
-  }
-  const module = { ...(read?.module ?? { specifier: keyOf(path), references: [] }), ...(fault && { fault }) };
-  return isExcluded?.(path) ? { ...module, isExcluded: true } : module;
-}
-
-/** @param info a `ModuleInfo` */
-function resolved(
-  { path, real }: Pick<FileResult, "path" | "real">, info: ModuleInfo,
-  { resolver, keyOf }: Pick<GraphOptions, "resolver" | "keyOf">,
-): { module: GraphModule, notices: string[] } {
   const file = path === real ? path : absolute(path);
-  const references = referencesOf(resolver.resolveInfo(info, file, real), { isDeclaration: isDeclaration(file) });
   const specifier = keyOf(file, real);
-  const source = resolver.sourceOf(real ?? fileURLToPath(specifier));
+  const named = json ? resolver.resolveInfo(json, file, real) : [];
+  const references = referencesOf(named, { isDeclaration: isDeclaration(file) });
+  const source = json && resolver.sourceOf(real ?? fileURLToPath(specifier));
   const module = { specifier, references, ...(source !== undefined && { source: keyOf(source) }) };
-  return { module, notices: resolver.takeNotices() };
+  const known = json && { info: json, module, notices: resolver.takeNotices() };
+  onRead?.({ path, isLeft, fault, ...known }, isExcluded(path));
+  return isLeft ? undefined : {
+    ...module, ...(fault && { fault }), ...(isExcluded(path) && { isExcluded: true as const }),
+  };
 }
 
-/** Replaces what the names of a module lead to by what a hook returns. */
-async function resolveBy(
-  resolve: ResolveHook, { specifier: from, references }: GraphModule, keyOf: GraphOptions["keyOf"],
-) {
+/** Replaces what the names of a module lead to by what a hook returns: a path, or the URL of a file. */
+async function resolveBy(resolve: ResolveHook, { specifier: from, references }: GraphModule, keyOf: KeyOf) {
   for (const reference of references) {
     const { specifier, kind } = reference;
     const found = specifier === undefined ? undefined : await resolve(specifier, from, { kind });
     if (found !== undefined) {
-      const file = found && keyOf(pathOf(found));
+      const text = typeof found === "string" ? found : found?.href;
+      const file = text && keyOf(text.startsWith("file:") ? fileURLToPath(text) : text);
       reference.resolved = file ? { class: "file", file } : { class: "missing" };
     }
   }
 }
 
-/** @param found a path or the URL of a file */
-function pathOf(found: string | Url) {
-  const text = typeof found === "string" ? found : found.href;
-  return text.startsWith("file:") ? fileURLToPath(text) : absolute(text);
-}
-
 /** @param seen the URLs that were followed, to which others are added */
-function pathsToFollow(
-  { references, source }: GraphModule, { follow, types, dynamic, all, isIgnored = () => false }: GraphOptions,
-  seen: Set<string>,
-): string[] {
-  if (!follow) {
-    return [];
-  }
-  const isFollowed = ({ kind, resolved }: Reference) => {
-    const counts = isRunKind(kind) ? kind !== "dynamic" || dynamic !== false : types;
-    return counts && (resolved.class === "file" || (all && resolved.class === "package"));
-  };
-  const urls = references.filter(isFollowed).flatMap(({ resolved }) => {
-    const found = resolved as { file?: string, types?: string };
-    return [found.file ?? [], (types && found.types) || []].flat();
+function pathsToFollow({ references, source }: GraphModule, task: Reading, seen: Set<string>): string[] {
+  const urls = references.filter((each) => counts(each, task)).flatMap(({ resolved: found }) => {
+    const { class: kind, file, types } = found as Ends;
+    const isFollowed = kind === "file" || (task.all && kind === "package");
+    return isFollowed ? [file, task.types ? types : undefined] : [];
   });
-  const others = [...urls, source ?? []].flat().filter((url) => !seen.has(url));
+  const others = [...urls, source].flatMap((url) => (url === undefined || seen.has(url) ? [] : url));
   others.forEach((url) => seen.add(url));
   const isRead = (path: string) => isModule(path) || isComponent(path);
-  return others.map((url) => fileURLToPath(url)).filter((path) => isRead(path) && !isIgnored(path));
+  return others.map((url) => fileURLToPath(url)).filter((path) => isRead(path) && !task.isIgnored(path));
 }

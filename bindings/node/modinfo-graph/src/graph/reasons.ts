@@ -5,22 +5,23 @@
 import { dirname, extname, join, relative, resolve as absolute } from "node:path";
 import { fileURLToPath, pathToFileURL } from "node:url";
 
+import { memoized } from "../files/by_folder.js";
 import { isComponent, isPage } from "../files/file_kinds.js";
 import { readRegularFile } from "../files/regular_file.js";
 import { isReport } from "../files/report_pages.js";
 import { urlOfPath } from "../files/urls.js";
 import { loaderOf } from "./conventions.js";
+import { commentsOf, literalOf, literalsOf } from "./literals.js";
 import { looseCalls, looseImports } from "./loose_references.js";
 import { Candidates } from "./name_patterns.js";
-import { NamedPaths } from "./named_paths.js";
+import { filesNamed } from "./named_paths.js";
 import { isAlias, isRelative, tailOf } from "./names.js";
-import { Positions } from "./positions.js";
+import { positionsIn } from "./positions.js";
 import { isRunKind } from "./references.js";
 import { searchedText } from "./scripts.js";
-import { TextLiterals } from "./text_literals.js";
 import type { Perhaps } from "./entry_points.js";
-import type { LooseReference } from "./folder_loaders.js";
-import type { Reason, ReasonKind, Reference } from "./graph.cjs";
+import type { Ends, GraphModule, Reason, Reference } from "./graph.cjs";
+import type { Parts } from "./literals.js";
 import type { ModuleGraph } from "./module_graph.js";
 import type { Resolver } from "./resolver.js";
 
@@ -36,193 +37,161 @@ export interface Project {
   resolver: Resolver;
 }
 
-export class Reasons {
-  #graph;
-  #reached;
-  #project;
-  #candidates;
-  #paths;
-  #found: Map<string, Reason> = new Map();
-  /** The keys of modules and of other files. */
-  #todo: Set<string> = new Set();
+/** Where and for what is searched; `isOpen` returns whether a module is neither reached nor found */
+interface Search {
+  graph: ModuleGraph;
+  resolver: Resolver;
+  candidates: Candidates;
+  isOpen: (key: string) => boolean;
+}
 
-  /** @param reached keys */
-  constructor(graph: ModuleGraph, reached: Set<string>, project: Project) {
-    this.#graph = graph;
-    this.#reached = reached;
-    this.#project = project;
-    const others = graph.modules.filter(({ specifier }) => !reached.has(specifier));
-    this.#candidates = new Candidates(others.map(({ specifier }) => fileURLToPath(specifier)));
-    this.#paths = new NamedPaths(this.#candidates, project.resolver);
-  }
+/** The keys of what something may lead to. */
+type Hint = Reason & { keys: string[] };
 
-  /**
-   * @param starts keys of modules that are taken for reached
-   * @returns why each other module may be reached, by their keys
-   */
-  find(starts: string[]): Map<string, Reason> {
-    const { pages, perhaps } = this.#project;
-    starts.forEach((key) => this.#todo.add(key));
-    pages.forEach((path) => this.#todo.add(pathToFileURL(path).href));
-    for (const { specifier, isExcluded } of this.#graph.modules) {
-      if (isExcluded) {
-        this.#todo.add(specifier);
+/**
+ * Why each module may be reached, by their keys.
+ * @param starts keys of modules that are taken for reached
+ */
+export function reasonsOf(
+  graph: ModuleGraph, reached: Set<string>, { pages, perhaps, isIgnored, resolver }: Project, starts: string[],
+): Map<string, Reason> {
+  const reasons = new Map<string, Reason>();
+  const isOpen = (key: string) => !reached.has(key) && !reasons.has(key) && graph.module(key) !== undefined;
+  const keys = graph.modules.map(({ specifier }) => specifier);
+  const candidates = new Candidates(keys.filter(isOpen).map((key) => fileURLToPath(key)));
+  const search = { graph, resolver, candidates, isOpen };
+  const excluded = keys.filter((key) => graph.module(key)?.isExcluded);
+  const todo = new Set([...starts, ...pages.map((path) => pathToFileURL(path).href), ...excluded]);
+  const take = (hints: Iterable<Hint>) => {
+    for (const { keys: found, ...reason } of hints) {
+      for (const key of found.filter(isOpen)) {
+        reasons.set(key, reason);
+        todo.add(key);
       }
     }
-    this.#takeConventions();
-    for (const { kind, path, from, text } of perhaps) {
-      const paths = path === undefined ? this.#paths.ofLiteral(text, from) : [path];
-      paths.forEach((each) => this.#add(urlOfPath(each), { kind, module: urlOfPath(from), text }));
-    }
-    // Files that are added meanwhile follow.
-    for (const key of this.#todo) {
-      this.#search(key);
-    }
-    return this.#found;
-  }
-
-  /** What frameworks load by its path. */
-  #takeConventions() {
-    const { resolver } = this.#project;
-    const loaders: Map<string, ReturnType<typeof loaderOf>> = new Map();
-    for (const { specifier } of this.#graph.modules.filter((each) => this.#isOpen(each.specifier))) {
-      const path = fileURLToPath(specifier);
-      const folder = resolver.packageOf(path);
-      const loader = folder === undefined ? undefined : loaders.get(folder) ?? loaderOf(resolver.listedFor(path));
-      if (folder !== undefined && loader) {
-        loaders.set(folder, loader);
-        const text = loader(relative(folder, path));
-        const module = urlOfPath(join(folder, "package.json"));
-        this.#add(specifier, text === undefined ? undefined : { kind: "convention", module, text });
+  };
+  take(ofConventions(keys, search));
+  take(perhaps.map((each) => ofManifest(each, search)));
+  // What is added meanwhile follows.
+  for (const key of todo) {
+    const module = graph.module(key);
+    take(module && !reached.has(key) ? ofEdges(module, search) : []);
+    for (const reference of module?.references.filter(({ kind }) => isRunKind(kind)) ?? []) {
+      const { file } = reference.resolved as Ends;
+      if (file && !graph.module(file) && isIgnored(fileURLToPath(file))) {
+        todo.add(file);
       }
+      take(ofReference(key, reference, search));
     }
+    take([ofSources(key, search)]);
+    take(ofText(key, search));
   }
+  return reasons;
+}
 
-  #search(key: string) {
-    const module = this.#graph.module(key);
-    const { references, fault } = module ?? { references: [] as Reference[], fault: undefined };
-    if (module && !this.#reached.has(key)) {
-      this.#takeEdges(key);
-    }
-    references.filter(({ kind }) => isRunKind(kind)).forEach((each) => this.#takeReference(key, each));
-    this.#takeSources(key);
-    const text = textOf(key);
-    if (text !== undefined) {
-      const loose = module && !fault ? looseCalls(text) : looseImports(text, kindOfText(key, fault));
-      loose.forEach((each) => this.#takeLoose(key, text, each));
-      this.#takeLiterals(key, text, references);
-    }
-  }
-
-  /** What a module names that isn't reached itself. */
-  #takeEdges(key: string) {
-    const isExcluded = this.#graph.module(key)?.isExcluded;
-    const kind = isExcluded ? "excluded" : isPage(fileURLToPath(key)) ? "script" : "import";
-    for (const edge of this.#graph.edgesFrom(key).filter(({ to }) => to !== key)) {
-      const { reference: { range: [start], specifier } } = this.#graph.mentionOf(edge);
-      this.#add(edge.to, { kind, module: key, position: start, text: specifier });
-    }
-  }
-
-  /** What is built of other files: those are in use that have the same path below `src`. */
-  #takeSources(key: string) {
-    const source = this.#graph.module(key)?.source;
-    if (source !== undefined) {
-      this.#add(source, { kind: "output", module: key });
-      return;
-    }
-    const paths = this.#project.resolver.likelySources(fileURLToPath(key));
-    for (const path of paths.flatMap((each) => this.#candidates.named(each, "/"))) {
-      this.#add(urlOfPath(path), { kind: "output", module: key });
-    }
-  }
-
-  /**
-   * The known parts of an argument; other conditions and platforms; a bundler's alias; a file that isn't read
-   * as a module.
-   */
-  #takeReference(key: string, { specifier, argument, range: [position], resolved }: Reference) {
+/** What frameworks load by its path. */
+function* ofConventions(keys: string[], { resolver, isOpen }: Search): Generator<Hint, void> {
+  const loaderIn = memoized((folder: string) => loaderOf(resolver.listedFor(join(folder, "package.json"))));
+  for (const key of keys.filter(isOpen)) {
     const path = fileURLToPath(key);
-    const { file } = resolved as { file?: string };
-    if (file && !this.#graph.module(file) && this.#project.isIgnored(fileURLToPath(file))) {
-      this.#todo.add(file);
-    }
-    const add = (kind: Reason["kind"], paths: string[], text = specifier) => {
-      paths.forEach((each) => this.#add(urlOfPath(each), { kind, module: key, position, text }));
-    };
-    if (argument) {
-      const parts = argument.map((part) => (part.type === "string" ? part.value : undefined));
-      add("template", this.#candidates.matching(parts, dirname(path)), shown(parts));
-    }
-    if (specifier !== undefined) {
-      const target = file && fileURLToPath(file);
-      add("condition", this.#project.resolver.others(specifier, path, target));
-      if (isRelative(specifier)) {
-        const named = [absolute(dirname(path), specifier), target ?? []].flat();
-        add("condition", named.flatMap((each) => this.#candidates.ofPlatforms(each)));
-      } else if (!file && isAlias(specifier)) {
-        add("alias", this.#candidates.ending(tailOf(specifier)));
-      }
-    }
-  }
-
-  /** @param key of the module, or of the other file */
-  #takeLoose(key: string, text: string, loose: LooseReference) {
-    const { kind, parts, offset } = loose;
-    const open = this.#paths.of(fileURLToPath(key), loose).map(urlOfPath).filter((to) => this.#isOpen(to));
-    if (open.length > 0) {
-      const position = new Positions(text).of(offset);
-      open.forEach((to) => this.#add(to, { kind, module: key, position, text: shown(parts) }));
-    }
-  }
-
-  /** @param references whose names are known without the text */
-  #takeLiterals(key: string, text: string, references: Reference[]) {
-    const literals = new TextLiterals(text, references);
-    for (const literal of literals.all) {
-      const paths = this.#paths.ofParts(literal, fileURLToPath(key));
-      const open = paths.map(urlOfPath).filter((to) => this.#isOpen(to));
-      const position = open.length > 0 ? literals.positionOf(literal) : undefined;
-      if (position) {
-        open.forEach((to) => this.#add(to, { kind: "text", module: key, position, text: shown(literal.parts) }));
-      }
-    }
-  }
-
-  /** Whether a module is neither reached nor found. */
-  #isOpen(key: string) {
-    return !this.#reached.has(key) && !this.#found.has(key) && this.#graph.module(key) !== undefined;
-  }
-
-  #add(key: string, reason: Reason | undefined) {
-    if (reason && this.#isOpen(key)) {
-      this.#found.set(key, reason);
-      this.#todo.add(key);
+    const folder = resolver.packageOf(path) ?? "";
+    const text = folder && loaderIn(folder)(relative(folder, path));
+    if (text) {
+      yield { keys: [key], kind: "convention", module: urlOfPath(join(folder, "package.json")), text };
     }
   }
 }
 
-function shown(parts: (string | undefined)[]) {
+/** What a package.json names for other conditions, or in a text. */
+function ofManifest({ kind, path, from, text }: Perhaps, search: Search): Hint {
+  const literals = path === undefined ? [literalOf(text)].flat() : [];
+  const paths = path === undefined ? literals.flatMap((each) => filesNamed(from, each, search)) : [path];
+  return { keys: paths.map(urlOfPath), kind, module: urlOfPath(from), text };
+}
+
+/** What a module names that isn't reached itself. */
+function* ofEdges({ specifier: key, isExcluded }: GraphModule, { graph }: Search): Generator<Hint, void> {
+  const kind = isExcluded ? "excluded" : isPage(fileURLToPath(key)) ? "script" : "import";
+  for (const edge of graph.edgesFrom(key).filter(({ to }) => to !== key)) {
+    const { reference: { range: [position], specifier } } = graph.mentionOf(edge);
+    yield { keys: [edge.to], kind, module: key, position, text: specifier };
+  }
+}
+
+/** What is built of other files: those are in use that have the same path below `src`. */
+function ofSources(key: string, { graph, resolver, candidates }: Search): Hint {
+  const { source } = graph.module(key) ?? {};
+  const likely = source === undefined ? resolver.likelySources(fileURLToPath(key)) : [];
+  const paths = likely.flatMap((each) => candidates.named(each, "/"));
+  return { keys: [source ?? [], paths.map(urlOfPath)].flat(), kind: "output", module: key };
+}
+
+/** The known parts of an argument; other conditions and platforms; a bundler's alias. */
+function* ofReference(
+  key: string, { specifier, argument, range: [position], resolved }: Reference, { resolver, candidates }: Search,
+): Generator<Hint, void> {
+  const path = fileURLToPath(key);
+  const { file } = resolved as Ends;
+  const target = file === undefined ? [] : [fileURLToPath(file)];
+  const hint = (kind: Reason["kind"], paths: string[], text = specifier) => {
+    return { keys: paths.map(urlOfPath), kind, module: key, position, text };
+  };
+  if (argument) {
+    const parts = argument.map((part) => (part.type === "string" ? part.value : undefined));
+    yield hint("template", candidates.matching(parts, dirname(path)), shown(parts));
+  }
+  if (specifier === undefined) {
+    return;
+  }
+  yield hint("condition", resolver.others(specifier, path, target[0]));
+  if (isRelative(specifier)) {
+    const named = [absolute(dirname(path), specifier), ...target];
+    yield hint("condition", named.flatMap((each) => candidates.ofPlatforms(each)));
+  } else if (!file && isAlias(specifier)) {
+    yield hint("alias", candidates.ending(tailOf(specifier)));
+  }
+}
+
+/** The calls and string literals of a text; and its imports, where it wasn't parsed. */
+function* ofText(key: string, search: Search): Generator<Hint, void> {
+  const path = fileURLToPath(key);
+  const { references = [], fault } = search.graph.module(key) ?? {};
+  const isParsed = search.graph.module(key) !== undefined && !fault;
+  const isScript = isPage(path) || isComponent(path) || extname(path) === "";
+  const kind = fault ? "fault" : isScript ? "script" : "ignored";
+  const text = textOf(path);
+  const positionOf = positionsIn(text);
+  let isOther: ReturnType<typeof otherLiterals> | undefined;
+  for (const loose of [...(isParsed ? looseCalls(text) : looseImports(text, kind)), ...literalsOf(text)]) {
+    const open = filesNamed(path, loose, search).map(urlOfPath).filter(search.isOpen);
+    if (open.length > 0) {
+      const position = positionOf(loose.offset);
+      isOther ??= otherLiterals(text, references);
+      const isMeant = !loose.form.startsWith("literal") || isOther(loose.offset, position);
+      yield { keys: isMeant ? open : [], kind: loose.kind, module: key, position, text: shown(loose.parts) };
+    }
+  }
+}
+
+/** Whether a literal is in no comment of a text, and isn't the name of a reference. */
+function otherLiterals(text: string, references: Reference[]) {
+  const named = references.filter(({ specifier }) => specifier !== undefined);
+  const known = new Set(named.map(({ range: [start] }) => start.join(":")));
+  const isInComment = commentsOf(text);
+  return (offset: number, position: number[]) => !known.has(position.join(":")) && !isInComment(offset);
+}
+
+function shown(parts: Parts) {
   return parts.map((each) => each ?? "${..}").join("");
 }
 
-/** @param fault of the module */
-function kindOfText(key: string, fault?: object): ReasonKind {
-  if (fault) {
-    return "fault";
-  }
-  const path = fileURLToPath(key);
-  return isPage(path) || isComponent(path) || extname(path) === "" ? "script" : "ignored";
-}
-
-/** @returns nothing where the file can't be read */
-function textOf(key: string): string | undefined {
+/** The text of a file, empty where it can't be read. */
+function textOf(path: string): string {
   try {
-    const path = fileURLToPath(key);
     const text = String(readRegularFile(path));
     // The scripts of an earlier report are no part of the project.
-    return isReport(text) ? undefined : searchedText(text, path);
+    return isReport(text) ? "" : searchedText(text, path);
   } catch {
-    return undefined;
+    return "";
   }
 }

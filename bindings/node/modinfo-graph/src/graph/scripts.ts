@@ -6,25 +6,16 @@
 import { extname } from "node:path";
 
 import { isComponent, isPage, mediaTypeOfLanguage, mediaTypeOfMime } from "../files/file_kinds.js";
-import { Tags } from "./tags.js";
+import { scriptTags } from "./tags.js";
 import type { MediaType } from "modinfo";
+import type { Range } from "./tags.js";
 
-interface Script {
-  /** Up to the script's end */
-  text: string;
-  mediaType: MediaType;
-}
-
-/** The `src` of a script */
-export interface Source {
-  name: string;
-  /** Its offset in the file, with quotes */
-  start: number;
-  end: number;
-}
+/** The `src` of a script, with the range of its quotes. */
+export type Source = Range & { name: string };
 
 export interface Scripts {
-  scripts: Script[];
+  /** Each text is up to the script's end. */
+  scripts: { text: string, mediaType: MediaType }[];
   sources: Source[];
   /** The JSON of each */
   importMaps: string[];
@@ -39,55 +30,44 @@ const FRONT_MATTER = /^(\ufeff?\s*---[^\S\n]*\r?\n)([^]*?)^---[^\S\n]*$/m;
 /** The beginning of code in Markdown, and that of an import or an export in MDX. */
 const FENCE = /^\s*(`{3,}|~{3,})/;
 const DECLARATION = /^(?:import|export)(?=[\s{*"'])/;
-const COMMENTS = [["<!--", "-->"], ["{/*", "*/}"]];
+
+/** Those of a page, and those of MDX. */
+const COMMENTS = [/<!--[^]*?(-->|$)/g, /\{\/\*[^]*?(\*\/\}|$)/g];
 
 /** The media types of the scripts that have no word for it. */
 const STANDARD = new Map<string, MediaType>([[".astro", "TypeScript"], [".mdx", "Jsx"]]);
 
 /**
- * @param text of a component or a page
- * @param path of its file
+ * @param path of a component or a page
  * @throws {RangeError} the texts would take too much memory
  */
 export function scriptsOf(text: string, path: string): Scripts {
   const ending = extname(path).toLowerCase();
   const standard = STANDARD.get(ending) ?? "JavaScript";
+  const all: Scripts = { scripts: [], sources: [], importMaps: [] };
+  const add = (ranges: Range[], mediaType: MediaType) => {
+    all.scripts.push({ text: textOf(text, ranges), mediaType });
+  };
   if (ending === ".mdx") {
     // They are one module.
     const blocks = blocksOf(COMMENTS.reduce(withoutComments, text));
-    return { scripts: blocks.length > 0 ? [textOf(text, blocks, standard)] : [], sources: [], importMaps: [] };
+    if (blocks.length > 0) {
+      add(blocks, standard);
+    }
+    return all;
   }
   const [before = "", opening = "", front = ""] = (ending === ".astro" && FRONT_MATTER.exec(text)) || [];
-  const range = { start: opening.length, end: opening.length + front.length };
-  const scripts = before === "" ? [] : [textOf(text, [range], standard)];
-  const tags = new Tags(text, { from: before.length, isWhole: ending !== ".vue" });
-  return withTags(text, tags, { scripts, standard });
-}
-
-/**
- * @param path of its file
- * @returns the text with blanks in place of what no program reads: comments of a page, and prose
- */
-export function searchedText(text: string, path: string): string {
-  if (!isComponent(path) && !isPage(path)) {
-    return text;
+  if (before !== "") {
+    add([{ start: opening.length, end: opening.length + front.length }], standard);
   }
-  const [comments] = COMMENTS;
-  return path.toLowerCase().endsWith(".mdx")
-    ? scriptsOf(text, path).scripts.map((each) => each.text).join("")
-    : withoutComments(text, comments);
-}
-
-/** @param options scripts before the tags */
-function withTags(
-  text: string, tags: Tags, { scripts, standard }: { scripts: Script[], standard: MediaType },
-): Scripts {
-  const all: Scripts = { scripts, sources: [], importMaps: [] };
   let length = 0;
-  for (const { attributes, start, end } of tags.scripts()) {
+  for (const { attributes, start, end } of scriptTags(text, before.length, ending !== ".vue")) {
     const source = attributes.get("src");
     const type = attributes.get("type")?.value ?? "";
-    const mediaType = mediaTypeOf(attributes.get("lang")?.value ?? "", type, standard);
+    const language = attributes.get("lang")?.value ?? "";
+    const ofType = type === "" || type === "module" ? standard : mediaTypeOfMime(type);
+    // Without one it is no script of a module.
+    const mediaType = language === "" ? ofType : mediaTypeOfLanguage(language);
     if (type.toLowerCase() === "importmap") {
       all.importMaps.push(text.slice(start, end));
     } else if (mediaType && source) {
@@ -97,40 +77,35 @@ function withTags(
       if (length > MOST_CHARACTERS) {
         throw new RangeError("too many scripts to read");
       }
-      all.scripts.push(textOf(text, [{ start, end }], mediaType));
+      add([{ start, end }], mediaType);
     }
   }
   return all;
 }
 
-/**
- * @param ranges ascending
- * @returns what is in the ranges, with as many characters in each line before it
- */
-function textOf(text: string, ranges: { start: number, end: number }[], mediaType: MediaType): Script {
-  let at = 0;
-  const parts = ranges.flatMap(({ start, end }) => {
-    const before = text.slice(at, start).replace(NO_LINE_BREAK, " ");
-    at = end;
-    return [before, text.slice(start, end)];
-  });
-  return { text: parts.join(""), mediaType };
+/** A text with blanks in place of what no program reads: comments of a page, and prose. */
+export function searchedText(text: string, path: string): string {
+  if (!isComponent(path) && !isPage(path)) {
+    return text;
+  }
+  return path.toLowerCase().endsWith(".mdx")
+    ? scriptsOf(text, path).scripts.map((each) => each.text).join("")
+    : withoutComments(text, COMMENTS[0]);
 }
 
-/**
- * @param language of a component's script
- * @returns nothing for what is no script of a module
- */
-function mediaTypeOf(language: string, type: string, standard: MediaType): MediaType | undefined {
-  if (language !== "") {
-    return mediaTypeOfLanguage(language);
-  }
-  return type === "" || type === "module" ? standard : mediaTypeOfMime(type);
+/** What is in ascending ranges, with as many characters in each line before it. */
+function textOf(text: string, ranges: Range[]): string {
+  let at = 0;
+  return ranges.map(({ start, end }) => {
+    const before = text.slice(at, start).replace(NO_LINE_BREAK, " ");
+    at = end;
+    return before + text.slice(start, end);
+  }).join("");
 }
 
 /** The imports and exports of MDX: from a line that begins with one to the next empty line. */
-function blocksOf(text: string): { start: number, end: number }[] {
-  const blocks = [];
+function blocksOf(text: string): Range[] {
+  const blocks: Range[] = [];
   let [at, fence, isOpen, isFree] = [0, "", false, true];
   for (const line of text.split("\n")) {
     const [, mark = ""] = FENCE.exec(line) ?? [];
@@ -151,20 +126,7 @@ function blocksOf(text: string): { start: number, end: number }[] {
   return blocks;
 }
 
-/**
- * @param marks of the beginning and the end of a comment
- * @returns the text with blanks in place of comments, as long as before; a comment without an end stays
- */
-function withoutComments(text: string, [opening, closing]: string[]): string {
-  const parts = [];
-  let from = 0;
-  for (let start = text.indexOf(opening); start >= 0; start = text.indexOf(opening, from)) {
-    const end = text.indexOf(closing, start + opening.length);
-    if (end < 0) {
-      break;
-    }
-    parts.push(text.slice(from, start), text.slice(start, end + closing.length).replace(/[^\n]/g, " "));
-    from = end + closing.length;
-  }
-  return [...parts, text.slice(from)].join("");
+/** The text with blanks in place of comments, as long as before; a comment without an end stays. */
+function withoutComments(text: string, comments: RegExp): string {
+  return text.replace(comments, (comment, end) => (end === "" ? comment : comment.replace(/[^\n]/g, " ")));
 }

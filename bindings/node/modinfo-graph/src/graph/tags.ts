@@ -1,19 +1,13 @@
 /** The scripts of a text in HTML, or in a language of components like it. */
 
-interface Attribute {
-  value: string;
-  /** The offset of the value, with quotes */
+/** Offsets in a text. */
+export interface Range {
   start: number;
   end: number;
 }
 
-interface ScriptTag {
-  /** By their names in lower case */
-  attributes: Map<string, Attribute>;
-  /** The offset of what is in the tag */
-  start: number;
-  end: number;
-}
+/** Attributes by their names in lower case, whose ranges have the quotes, and the range of what is in the tag. */
+type ScriptTag = Range & { attributes: Map<string, Range & { value: string }> };
 
 /** A comment, or a tag whose content isn't searched for others. */
 const RAW = /<!--|<(script|style|textarea|title|xmp)(?=[\s/>])/gi;
@@ -27,98 +21,60 @@ const TAG_END = /\s*\/?>/y;
 /** After how many tags without an end no more are looked at. */
 const MOST_OPEN = 100;
 
-export class Tags {
-  #text;
-  #at;
-  #isWhole;
-  #open = 0;
-  #hasComments = true;
-
-  /** @param options from which offset; whether scripts inside of others count */
-  constructor(text: string, { from, isWhole }: { from: number, isWhole: boolean }) {
-    this.#text = text;
-    this.#at = from;
-    this.#isWhole = isWhole;
-  }
-
-  *scripts(): Generator<ScriptTag, void> {
-    for (let found = this.#next(); found; found = this.#next()) {
-      const [whole, name] = found;
-      this.#at = found.index + whole.length;
-      if (name === undefined) {
-        this.#skipComment(found.index);
-        continue;
-      }
-      const tag = this.#tag();
-      const start = this.#at;
-      const end = tag?.isEmpty ? start : this.#content(name);
-      if (tag && name.toLowerCase() === "script") {
-        yield { attributes: tag.attributes, start, end };
-      }
+/** @param isWhole whether scripts inside of others count */
+export function* scriptTags(text: string, from: number, isWhole: boolean): Generator<ScriptTag, void> {
+  const pattern = new RegExp(isWhole ? RAW : ANY);
+  let [open, hasComments] = [0, true];
+  pattern.lastIndex = from;
+  for (let found = pattern.exec(text); found; found = pattern.exec(text)) {
+    const { 1: name, index } = found;
+    if (name === undefined) {
+      // `<!-->` is a comment too, and one without an end is none.
+      const end = hasComments ? text.indexOf("-->", index + 2) : -1;
+      hasComments = end >= 0;
+      pattern.lastIndex = Math.max(pattern.lastIndex, end + 3);
+      continue;
+    }
+    const { attributes, end: start, isEnded, isEmpty } = tagAt(text, pattern.lastIndex);
+    const content = isEmpty && !isWhole ? [start, start] : contentAt(text, start, name, isWhole);
+    open += Number(!content);
+    const [end, next] = content ?? [start, open < MOST_OPEN ? start : text.length];
+    pattern.lastIndex = next;
+    if (isEnded && name.toLowerCase() === "script") {
+      yield { attributes, start, end };
     }
   }
+}
 
-  #next() {
-    const pattern = this.#isWhole ? RAW : ANY;
-    pattern.lastIndex = this.#at;
-    return pattern.exec(this.#text);
+/** The rest of a tag, which may have no end. */
+function tagAt(text: string, from: number) {
+  const attributes: ScriptTag["attributes"] = new Map();
+  let end = from;
+  ATTRIBUTE.lastIndex = from;
+  for (let found = ATTRIBUTE.exec(text); found; found = ATTRIBUTE.exec(text)) {
+    const [, name, written = ""] = found;
+    end = ATTRIBUTE.lastIndex;
+    const value = /^["']/.test(written) ? written.slice(1, -1) : written;
+    const key = name.toLowerCase();
+    attributes.set(key, attributes.get(key) ?? { value, start: end - written.length, end });
   }
+  TAG_END.lastIndex = end;
+  const [mark] = TAG_END.exec(text) ?? [];
+  const isEmpty = mark?.endsWith("/>") ?? false;
+  return { attributes, end: end + (mark ?? "").length, isEnded: mark !== undefined, isEmpty };
+}
 
-  /** @param start of a comment; one without an end is none */
-  #skipComment(start: number) {
-    // `<!-->` is a comment too.
-    const end = this.#hasComments ? this.#text.indexOf("-->", start + 2) : -1;
-    this.#hasComments = end >= 0;
-    this.#at = Math.max(this.#at, end + 3);
-  }
-
-  /**
-   * The rest of a tag.
-   * @returns nothing where it has no end
-   */
-  #tag(): { attributes: Map<string, Attribute>, isEmpty: boolean } | undefined {
-    const attributes = new Map();
-    for (let found = this.#match(ATTRIBUTE); found; found = this.#match(ATTRIBUTE)) {
-      const [whole, name, written = ""] = found;
-      const end = found.index + whole.length;
-      const value = /^["']/.test(written) ? written.slice(1, -1) : written;
-      const key = name.toLowerCase();
-      if (!attributes.has(key)) {
-        attributes.set(key, { value, start: end - written.length, end });
-      }
+/** The offsets of the end of what is in a tag's element, and of that after it; nothing where it has none. */
+function contentAt(text: string, start: number, name: string, isWhole: boolean): [number, number] | undefined {
+  const isText = /^(?:script|style)$/i.test(name) || isWhole;
+  const pattern = new RegExp(`<(/?)${name.replace(/\./g, "\\.")}(?=[\\s/>])[^>]*`, "gi");
+  pattern.lastIndex = start;
+  let depth = 1;
+  for (const { 0: whole, 1: isEnd, index = 0 } of text.matchAll(pattern)) {
+    depth += isEnd ? -1 : Number(!isText && !whole.endsWith("/"));
+    if (depth === 0) {
+      return [index, index + whole.length];
     }
-    const end = this.#match(TAG_END);
-    return end ? { attributes, isEmpty: !this.#isWhole && end[0].endsWith("/>") } : undefined;
   }
-
-  /** @returns what is at the offset, which goes on after it */
-  #match(pattern: RegExp): RegExpExecArray | null {
-    pattern.lastIndex = this.#at;
-    const found = pattern.exec(this.#text);
-    this.#at = found ? pattern.lastIndex : this.#at;
-    return found;
-  }
-
-  /**
-   * @param name of the tag that begins before the offset, which goes on after the end of its element
-   * @returns the offset of the end; that of the beginning where there is none
-   */
-  #content(name: string): number {
-    const isText = /^(?:script|style)$/i.test(name) || this.#isWhole;
-    const pattern = new RegExp(`<(/?)${name.replace(/\./g, "\\.")}(?=[\\s/>])[^>]*`, "gi");
-    const start = this.#at;
-    pattern.lastIndex = start;
-    let depth = 1;
-    for (let found = pattern.exec(this.#text); found; found = pattern.exec(this.#text)) {
-      const [whole, isEnd] = found;
-      depth += isEnd ? -1 : Number(!isText && !whole.endsWith("/"));
-      if (depth === 0) {
-        this.#at = pattern.lastIndex;
-        return found.index;
-      }
-    }
-    this.#open++;
-    this.#at = this.#open < MOST_OPEN ? start : this.#text.length;
-    return start;
-  }
+  return undefined;
 }
