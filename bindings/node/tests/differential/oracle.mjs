@@ -2,6 +2,7 @@
 
 import { estreeDocument } from "../../modinfo/dist/index.js";
 import { Pool } from "../../modinfo-graph/dist/runtime/pool.js";
+import { processesOf } from "../../modinfo-graph/dist/runtime/processes.js";
 import { documentCommand, lineOf } from "../equipment/document_command.mjs";
 import { ACORN, PARSERS, TYPESCRIPT_PARSER, parsed } from "../estree_parsers.mjs";
 import { MODINFO } from "../run_commands.mjs";
@@ -11,7 +12,7 @@ import { SYNTAX } from "./program.mjs";
 /** @typedef {import("./program.mjs").Module} Module */
 
 export class Oracle {
-  #pool = new Pool(documentCommand(MODINFO, "analyze --estree"), 1);
+  #pool = new Pool(processesOf(documentCommand(MODINFO, "analyze --estree")), 1);
 
   /**
    * By acorn, where it doesn't read a text or its media type by TypeScript.
@@ -38,9 +39,9 @@ export class Oracle {
     return lines;
   }
 
-  /** @returns {Promise<void>} */
+  /** Ends the process. */
   close() {
-    return this.#pool.close();
+    this.#pool.kill();
   }
 
   /**
