@@ -177,7 +177,7 @@ for (const [mediaType, dependencies] of Object.entries(DEPENDENCIES)) {
         different.push({ ...module, expected, line: lines[at] });
       }
     }
-    await oracle.close();
+    oracle.close();
     assert.deepEqual(different, []);
   });
 }

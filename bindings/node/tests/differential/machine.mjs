@@ -86,7 +86,7 @@ async function differencesOf(context, compared, linesOf) {
       }
     }
   }
-  await oracle.close();
+  oracle.close();
   for (const [what, number] of Object.entries(counts)) {
     context.diagnostic(`${what}: ${number}`);
   }

@@ -56,7 +56,7 @@ test(`changed files, seed ${SEED}`, { skip }, async () => {
       different.push({ ...module, expected, line: lines[at] });
     }
   }
-  await oracle.close();
+  oracle.close();
   assert.deepEqual(different, []);
   assert.ok(refused * 100 <= COUNT * MOST_REFUSED, `${refused} texts are refused that a parser reads`);
 });
