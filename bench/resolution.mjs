@@ -24,7 +24,7 @@ import { join } from "node:path";
 import { fileURLToPath } from "node:url";
 import { parseArgs } from "node:util";
 
-import { textOfArgument } from "../bindings/node/modinfo-graph/dist/graph/arguments.js";
+import { textOfArgument } from "../bindings/node/modinfo-graph/dist/graph/references.js";
 import { Resolver } from "../bindings/node/modinfo-graph/dist/graph/resolver.js";
 import { askNode } from "../bindings/node/tests/by_node.mjs";
 import { printHelp } from "./help.mjs";
