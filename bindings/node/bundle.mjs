@@ -1,6 +1,6 @@
 /**
  * Writes the files of the package `modinfo` that are made of others: `module.js`, which has the module as text, and
- * `inline.js`, which imports that.
+ * `inline.js`, which imports `module.js`.
  *
  *     node bindings/node/bundle.mjs build/modinfo.wasm FOLDER VERSION
  *

@@ -30,7 +30,7 @@ export function globMatcher(glob: string): (path: string) => boolean {
   return (candidate) => alternatives.some((each) => matchesPath(each, candidate));
 }
 
-/** The globs without braces that a glob stands for, which is for the message of an error. */
+/** The globs without braces that a path stands for; `glob` is for the message of an error. */
 function spelledOut(path: string, glob: string): string[] {
   let found = [""];
   for (const [part, inside] of path.matchAll(/\{([^{}]*)\}|[^{]+|\{/g)) {

@@ -41,7 +41,7 @@ export function programName(): string {
   }
 }
 
-/** Whether it is the WebAssembly module, or the file of `modinfo` that has it as text. */
+/** Whether a path is that of a WebAssembly module, or of the file of `modinfo` that has the module as text. */
 export function isWasm(program: string): boolean {
   return /\.wasm$|[\\/]module\.js$/.test(program);
 }

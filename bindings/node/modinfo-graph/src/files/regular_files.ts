@@ -82,7 +82,7 @@ export class RegularFiles {
     this.#inside.clear();
   }
 
-  /** Looks at what a path leads to, which is absolute and normal, as those below. */
+  /** Looks at what a path leads to. All paths here are absolute and normal. */
   at(path: string): Entry {
     const known = this.#entries.get(path);
     if (known) {
@@ -186,7 +186,7 @@ export class RegularFiles {
   /** @param real the path, in the folder that a link leads to */
   #lookBehind(real: string, path: string): Entry {
     const entry = this.at(real);
-    // Too many links may lead to one that leads on.
+    // The links on the way to this one count too: together they may be too many.
     return entry.isLinked ? this.#followed(path) : { ...entry, isLinked: entry.kind !== "none" };
   }
 

@@ -32,7 +32,7 @@ export type Run = { found: Target, by?: Rules };
 /** `mode` is what an attribute or a comment asks for */
 export type Name = { specifier: string, syntax: Syntax, mode?: Mode };
 
-/** It is TypeScript if it is no declaration file, and not installed. */
+/** `isTypeScript` is false for a declaration file, and for an installed one. */
 export interface Importer extends Source {
   /** Absolute, without links */
   path: string;

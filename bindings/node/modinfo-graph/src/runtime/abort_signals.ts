@@ -5,7 +5,7 @@ import type { Signal } from "modinfo/internal/types/calls.cjs";
 /** By each signal what is called. It has one listener: node warns of many. */
 const calls: WeakMap<Signal, Set<() => void>> = new WeakMap();
 
-/** Calls a function once a signal is aborted. What is returned takes the call back. */
+/** Calls a function once a signal is aborted. Returns what takes the call back. */
 export function onAbort(signal: Signal | undefined, call: () => void): () => void {
   if (!signal) {
     return () => {};

@@ -33,7 +33,8 @@ export interface Functions {
   initSync(source?: object): void;
 
   /**
-   * The bytes of the module, for hosts that compile none and take a file, which `initSync` takes compiled.
+   * The bytes of the module. A host that compiles no bytes takes a file with them, and `initSync` the module that
+   * the host makes of that file.
    * @throws {Error} it can't be read
    */
   moduleBytes(): Uint8Array;
