@@ -100,7 +100,7 @@ async function lexer(texts) {
 
 const texts = readTexts();
 const core = new Core(module);
-const own = functionsOf({ load: async () => module });
+const own = functionsOf(() => module);
 await own.init();
 const acorn = require(`${FOLDER}/acorn`);
 const engines = [
