@@ -175,6 +175,25 @@ test("where the process is killed, what it held goes to another one", async () =
   service.kill();
 });
 
+test("requests to a process that reads no more print no warning", async () => {
+  const program = join(folderOf({ modinfo: "#!/bin/sh\nexec sleep 2 0<&-\n" }), "modinfo");
+  chmodSync(program, 0o755);
+  const service = new Service(program);
+  /** @type {string[]} */
+  const warnings = [];
+  const onWarning = (/** @type {Error} */ { message }) => warnings.push(message);
+  process.on("warning", onWarning);
+  const held = [];
+  for (let count = 0; count < 60; count++) {
+    held.push(outcomes([service.answer("1")]));
+    await new Promise((resolve) => setTimeout(resolve, 20));
+  }
+  service.kill();
+  assert.deepEqual((await Promise.all(held)).flat(), Array(60).fill("ProgramEnd"));
+  assert.deepEqual(warnings, []);
+  process.off("warning", onWarning);
+});
+
 /** Has no answer to a document that begins with `"wait`. */
 const WAITING = `
   for await (const line of lines) {

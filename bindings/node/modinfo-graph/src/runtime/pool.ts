@@ -96,7 +96,9 @@ export class Pool {
       queue.shift();
       place.held.push(request);
       place.length += request.text.length;
-      place.lane?.hold(true);
+      if (place.held.length === 1) {
+        place.lane?.hold(true);
+      }
       place.lane?.send(request.text);
     }
   }
@@ -136,7 +138,9 @@ export class Pool {
       request.resolve(value);
     }
     this.#deal();
-    place.lane?.hold(place.held.length > 0);
+    if (place.held.length === 0) {
+      place.lane?.hold(false);
+    }
     return true;
   }
 
