@@ -103,6 +103,9 @@ test("an argument of which too little is known is no reason", () => {
   assert.deepEqual(unreached({ "main.js": "import(`${x}/plugin.js`)", "a/plugin.ts": "", "a/other.ts": "" }), withStatus([
     "a/other.ts", "a/plugin.ts: may be reached: template of ${..}/plugin.js at main.js:1:8",
   ], 1));
+  assert.deepEqual(unreached({ "main.js": "import(`./sub/${x}.js?raw`)", "sub/d.js": "", "e.js": "" }), withStatus([
+    "e.js", "sub/d.js: may be reached: template of ./sub/${..}.js?raw at main.js:1:8",
+  ], 1));
 });
 
 /** Calls that name `./a.js` or a folder with it, and the kind of each. */

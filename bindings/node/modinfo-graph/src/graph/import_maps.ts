@@ -179,9 +179,12 @@ function urlOf(specifier: string, base: URL): string | undefined {
  * and that the name begins with. A name of `jsr:` or `npm:` has what is below it too.
  */
 function targetIn(imports: Targets, name: string): string | undefined {
+  const exact = imports.get(name);
+  if (exact !== undefined) {
+    return exact;
+  }
   const found = [...imports].filter(([key, target]) => {
-    return key === name || (key.endsWith("/") && name.startsWith(key)) ||
-      (REGISTRY.test(target) && name.startsWith(`${key}/`));
+    return (key.endsWith("/") && name.startsWith(key)) || (REGISTRY.test(target) && name.startsWith(`${key}/`));
   });
   const [best] = found.sort(([one], [other]) => other.length - one.length);
   return best && best[1] + name.slice(best[0].length);
