@@ -24,14 +24,16 @@ import { join } from "node:path";
 import { fileURLToPath } from "node:url";
 import { parseArgs } from "node:util";
 
-import { textOfArgument } from "../bindings/node/modinfo-graph/dist/graph/references.js";
-import { Resolver } from "../bindings/node/modinfo-graph/dist/graph/resolver.js";
-import { askNode } from "../bindings/node/tests/by_node.mjs";
 import { printHelp } from "./help.mjs";
-import { compareEntries } from "./resolution_by_esbuild.mjs";
-import { compareCycles } from "./resolution_cycles.mjs";
 
 printHelp(import.meta.url);
+
+// These need the built packages, which the help doesn't.
+const { textOfArgument } = await import("../bindings/node/modinfo-graph/dist/graph/references.js");
+const { Resolver } = await import("../bindings/node/modinfo-graph/dist/graph/resolver.js");
+const { askNode } = await import("../bindings/node/tests/by_node.mjs");
+const { compareEntries } = await import("./resolution_by_esbuild.mjs");
+const { compareCycles } = await import("./resolution_cycles.mjs");
 
 const FILES = fileURLToPath(new URL("../bindings/node/modinfo-graph/dist/cli/files.js", import.meta.url));
 const PACKAGES = ["@babel", "undici", "core-js", "eslint"];
