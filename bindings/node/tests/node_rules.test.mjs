@@ -67,8 +67,11 @@ function compare(queries, conditions = []) {
   return { differences, found };
 }
 
+// Node 18 finds some packages that node 20 and the resolver don't.
+const skip = Number(process.versions.node.split(".")[0]) < 20 && "an older node";
+
 for (const conditions of [[], ["special"]]) {
-  test(`random names in random packages lead where node's do, ${conditions.length} conditions added`, (context) => {
+  test(`random names in random packages lead where node's do, ${conditions.length} conditions added`, { skip }, (context) => {
     const seed = Number(process.env.SEED ?? Math.floor(Math.random() * 1e9));
     context.diagnostic(`SEED=${seed}`);
     const folder = realpathSync(mkdtempSync(join(tmpdir(), "modinfo-random-")));
