@@ -132,7 +132,7 @@ fn source_of_text(alloc: Global, text: SourceText) -> Result<ParsedSource, Fault
     Ok(text.into_source(alloc, specifier)?)
 }
 
-/// Returns whether a number is that of a media type, or 0, which stands for the media type of the specifier.
+/// Returns whether a number is that of a media type, or 0, for the media type of the specifier.
 pub fn is_media_type(number: u8) -> bool
     ensures { result ≡ is_media_type number }
 {

@@ -64,8 +64,8 @@ after_claims : (text : List ℕ) (is_typed : Bool) (context : Context) (piece : 
     → (watch.claims ≡ after.claims) ⊎ (claims_after piece watch.claims ≡ after.claims)
 after_claims text is_typed context piece watch after is =
     step_claims (is_gap piece.kind)
-    (met_by watch.duty (sight_of text piece piece.kind) context.is_after_line_end is_typed) watch after
-    (watch_met text context piece watch) (claims_after piece watch.claims) (λ duty. refl) is
+    (met_by watch.duty (sight_of text watch.claims piece piece.kind) context.is_after_line_end is_typed) watch after
+    (watch_met text is_typed context piece watch) (claims_after piece watch.claims) (λ duty. refl) is
 
 -- each claim is a piece, or is still one of the claims
 met : (text : List ℕ) (is_typed : Bool) (from : Place) (start : Watch) (pieces : List Piece) (place : Place)
@@ -85,18 +85,19 @@ met text is_typed from start pieces place watch (more {pieces = before} {place =
 no_claim : (claim : Piece) → Contains [] claim → ⊥
 no_claim claim at = omega arith
 
-claim_is_piece : (text : List ℕ) (is_typed : Bool) (from : Place) (claims pieces : List Piece) (place : Place)
-    (watch : Watch) → Watches text is_typed from (watch_start claims) pieces place watch → IsWatchEnd watch
+claim_is_piece : (text : List ℕ) (is_typed : Bool) (from : Place) (claims calls pieces : List Piece)
+    (place : Place) (watch : Watch)
+    → Watches text is_typed from (watch_start claims calls) pieces place watch → IsWatchEnd watch
     → (claim : Piece) → Contains claims claim → Contains pieces claim
-claim_is_piece text is_typed from claims pieces place watch watched end claim at =
+claim_is_piece text is_typed from claims calls pieces place watch watched end claim at =
     ⊎_elim (λ inside. inside)
     (λ left. absurd (no_claim claim (subst (λ cs. Contains cs claim) end.claims left)))
-    (met text is_typed from (watch_start claims) pieces place watch watched claim at)
+    (met text is_typed from (watch_start claims calls) pieces place watch watched claim at)
 
 -- at the end of the text each claim is a piece
-pub claims-are_pieces : (text : List ℕ) (is_typed : Bool) (from : Place) (claims pieces : List Piece)
-    (place : Place) (watch : Watch) → Watches text is_typed from (watch_start claims) pieces place watch
+pub claims-are_pieces : (text : List ℕ) (is_typed : Bool) (from : Place) (claims calls pieces : List Piece)
+    (place : Place) (watch : Watch) → Watches text is_typed from (watch_start claims calls) pieces place watch
     → IsWatchEnd watch → All (Contains pieces) claims
-claims-are_pieces text is_typed from claims pieces place watch watched end k d below =
-    claim_is_piece text is_typed from claims pieces place watch watched end (get_or claims k d)
+claims-are_pieces text is_typed from claims calls pieces place watch watched end k d below =
+    claim_is_piece text is_typed from claims calls pieces place watch watched end (get_or claims k d)
     (Contains-get_or claims k d below)

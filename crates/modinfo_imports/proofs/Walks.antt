@@ -13,21 +13,21 @@ use Rattle.modinfo_pieces.specs.declared.place.Context.{Context}
 use Rattle.modinfo_imports.proofs.ClaimedPieces.{claims-are_pieces}
 
 -- Pieces from the start lead to a place, a watch goes over them, and these are their comments.
-pub record IsWalked (text : List ℕ) (is_typed : Bool) (choices : List Choice) (claims : List Piece)
+pub record IsWalked (text : List ℕ) (is_typed : Bool) (choices : List Choice) (claims calls : List Piece)
     (place : Place) (watch : Watch) (comments : List Piece) : Type 0 where
   pub pieces : List Piece
   pub leads : Leads text (start choices) pieces place
-  pub watches : Watches text is_typed (start choices) (watch_start claims) pieces place watch
+  pub watches : Watches text is_typed (start choices) (watch_start claims calls) pieces place watch
   pub comments_are : comments ≡ filter is_comment pieces
 
-pub IsWalked-more : (text : List ℕ) (is_typed : Bool) (choices : List Choice) (claims : List Piece)
+pub IsWalked-more : (text : List ℕ) (is_typed : Bool) (choices : List Choice) (claims calls : List Piece)
     (place next : Place) (context : Context) (watch after : Watch) (comments : List Piece) (piece : Piece)
-    (new_comments : List Piece) → IsWalked text is_typed choices claims place watch comments
+    (new_comments : List Piece) → IsWalked text is_typed choices claims calls place watch comments
     → IsNext text place piece next → context ≡ context_of place
     → watch_after text is_typed context piece watch ≡ Some after
     → new_comments ≡ comments ++ filter is_comment (piece ∷ [])
-    → IsWalked text is_typed choices claims next after new_comments
-IsWalked-more text is_typed choices claims place next context watch after comments piece new_comments walked
+    → IsWalked text is_typed choices claims calls next after new_comments
+IsWalked-more text is_typed choices claims calls place next context watch after comments piece new_comments walked
     step is seen comments_are = record {
       pieces = walked.pieces ++ piece ∷ [];
       leads = more walked.leads step;
@@ -37,11 +37,11 @@ IsWalked-more text is_typed choices claims place next context watch after commen
           ∙ sym (filter-append is_comment walked.pieces (piece ∷ []));
     }
 
-pub HasFound-walked : (text : List ℕ) (is_typed : Bool) (choices : List Choice) (claims : List Piece)
+pub HasFound-walked : (text : List ℕ) (is_typed : Bool) (choices : List Choice) (claims calls : List Piece)
     (place : Place) (watch : Watch) (comments : List Piece)
-    → IsWalked text is_typed choices claims place watch comments → IsEnd text place → IsWatchEnd watch
-    → HasFound text is_typed choices claims comments
-HasFound-walked text is_typed choices claims place watch comments walked end watch_end = record {
+    → IsWalked text is_typed choices claims calls place watch comments → IsEnd text place → IsWatchEnd watch
+    → HasFound text is_typed choices claims calls comments
+HasFound-walked text is_typed choices claims calls place watch comments walked end watch_end = record {
   pieces = walked.pieces;
   are_tiles = record { end = place; leads = walked.leads; is_end = end };
   are_watched = record {
@@ -50,21 +50,21 @@ HasFound-walked text is_typed choices claims place watch comments walked end wat
     watches = walked.watches;
     is_watch_end = watch_end;
   };
-  are_pieces = claims-are_pieces text is_typed (start choices) claims walked.pieces place watch walked.watches
+  are_pieces = claims-are_pieces text is_typed (start choices) claims calls walked.pieces place watch walked.watches
       watch_end;
   comments_are = walked.comments_are;
 }
 
 -- No piece leads from the start to the start.
-pub IsWalked-none : (text : List ℕ) (is_typed : Bool) (choices : List Choice) (claims : List Piece)
+pub IsWalked-none : (text : List ℕ) (is_typed : Bool) (choices : List Choice) (claims calls : List Piece)
     (place : Place) (watch : Watch) (comments : List Piece) → place ≡ start choices
-    → watch ≡ watch_start claims → comments ≡ [] → IsWalked text is_typed choices claims place watch comments
-IsWalked-none text is_typed choices claims place watch comments is is_watch no_comments = record {
+    → watch ≡ watch_start claims calls → comments ≡ [] → IsWalked text is_typed choices claims calls place watch comments
+IsWalked-none text is_typed choices claims calls place watch comments is is_watch no_comments = record {
   pieces = [];
   leads = subst (λ (p : Place). Leads text (start choices) [] p) (sym is) none;
-  watches = subst (λ (p : Place). Watches text is_typed (start choices) (watch_start claims) [] p watch)
+  watches = subst (λ (p : Place). Watches text is_typed (start choices) (watch_start claims calls) [] p watch)
       (sym is)
-      (subst (λ (w : Watch). Watches text is_typed (start choices) (watch_start claims) [] (start choices) w)
+      (subst (λ (w : Watch). Watches text is_typed (start choices) (watch_start claims calls) [] (start choices) w)
       (sym is_watch) watch_none);
   comments_are = no_comments;
 }

@@ -1,4 +1,4 @@
--- Pieces that a tree claims to stand on, in the order of the text: each is taken away where the text has it.
+-- Pieces that a tree claims to have, in the order of the text: each is taken away where the text has it.
 use Rattle.std.specs.Prelude.{◌==◌, Bool, true, false, ◌&&◌, List, [], ◌∷◌, if◌then◌else◌}
 use Rattle.modinfo_pieces.specs.declared.piece.Piece.{Piece}
 use Rattle.modinfo_pieces.specs.declared.piece.PieceKind.{PieceKind}

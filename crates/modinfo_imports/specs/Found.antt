@@ -7,21 +7,21 @@ use Rattle.modinfo_pieces.specs.Tiles.{AreTiles, is_comment}
 use Rattle.modinfo_pieces.specs.declared.choice.Choice.{Choice}
 use Rattle.modinfo_pieces.specs.declared.piece.Piece.{Piece}
 
--- A watch goes over the pieces of a text to its end: each claim is met, and each word `import` is a claim or
--- a name.
-pub record AreWatched (text : List ℕ) (is_typed : Bool) (choices : List Choice) (claims pieces : List Piece)
-    : Type 0 where
+-- A watch goes over the pieces of a text to its end: each claim is met, and no word that a dependency begins with
+-- is lost.
+pub record AreWatched (text : List ℕ) (is_typed : Bool) (choices : List Choice)
+    (claims calls pieces : List Piece) : Type 0 where
   pub end : Place
   pub watch : Watch
-  pub watches : Watches text is_typed (start choices) (watch_start claims) pieces end watch
+  pub watches : Watches text is_typed (start choices) (watch_start claims calls) pieces end watch
   pub is_watch_end : IsWatchEnd watch
 
--- A text is pieces side by side, among them exactly these comments. Each claim is a piece, and each word
--- `import` is a claim or a name.
-pub record HasFound (text : List ℕ) (is_typed : Bool) (choices : List Choice) (claims comments : List Piece)
-    : Type 0 where
+-- A text is pieces side by side, among them exactly these comments. Each claim is a piece, and no word that a
+-- dependency begins with is lost.
+pub record HasFound (text : List ℕ) (is_typed : Bool) (choices : List Choice)
+    (claims calls comments : List Piece) : Type 0 where
   pub pieces : List Piece
   pub are_tiles : AreTiles text choices pieces
-  pub are_watched : AreWatched text is_typed choices claims pieces
+  pub are_watched : AreWatched text is_typed choices claims calls pieces
   pub are_pieces : All (Contains pieces) claims
   pub comments_are : comments ≡ filter is_comment pieces

@@ -1,4 +1,5 @@
 pub mod Claims
+pub mod Keywords
 pub mod Duties
 pub mod Watches
 pub mod Sights

@@ -1,7 +1,7 @@
--- The pieces of a text that the nodes of its tree stand on: the word that each node begins with which may
--- report a dependency, and each string, name and template of the tree.
-use Rattle.std.specs.Prelude.{ℕ, ◌+◌, ◌-◌, ◌==◌, Bool, true, false, ◌&&◌, List, [], ◌∷◌, ◌++◌, Option, Some}
-use Rattle.std.specs.Prelude.{None, codes, if◌then◌else◌, length, nat_le, option_map, slice_index}
+-- The pieces of a text that the nodes of its tree have: the word that each node begins with which may report a
+-- dependency, and each string, name and template of the tree.
+use Rattle.std.specs.Prelude.{ℕ, ◌+◌, ◌-◌, ◌==◌, Bool, true, false, ◌&&◌, ◌||◌, List, [], ◌∷◌, ◌++◌, Option, Some}
+use Rattle.std.specs.Prelude.{None, codes, if◌then◌else◌, length, nat_le, nat_lt, not, option_map, slice_index}
 use Rattle.std.specs.Prelude.{slice_range}
 use Rattle.std.specs.List.{flat_map}
 use Rattle.std.specs.List.Sorted.{IsPermutation}
@@ -16,6 +16,7 @@ use Rattle.deno_graph_source.specs.declared.tree.node.Kind.TheVariants as kinds
 use Rattle.deno_graph_source.specs.declared.tree.node.Node.{Node}
 use Rattle.deno_graph_source.specs.declared.tree.node.Program.{Program}
 use Rattle.deno_graph_source.specs.declared.tree.node.StrLit.{StrLit}
+use Rattle.modinfo_imports.specs.Keywords.{has_escape, is_import_word, may_be_require}
 use Rattle.modinfo_pieces.specs.declared.piece.Piece.{Piece}
 use Rattle.modinfo_pieces.specs.declared.piece.PieceKind.{PieceKind}
 use Rattle.modinfo_pieces.specs.declared.piece.PieceKind.TheVariants.{Punctuation, String, Template, Word}
@@ -82,10 +83,17 @@ literal_claim range literal =
     (if nat_le range.start literal.range.start && nat_le literal.range.end range.end
     then piece_at String literal.range else no_piece literal.range.start)
 
--- A name is a whole word, and isn't `import`.
-abbrev pub name_claim : List ℕ → SourceRange → Piece
-name_claim text range =
-    (if (range.end - range.start == 6) && has_word text range.start (codes "import") then no_piece range.start
+-- The bytes at a range, none if the text has no such range.
+abbrev pub bytes_at : List ℕ → SourceRange → List ℕ
+bytes_at text range =
+    (if nat_lt range.start range.end && nat_le range.end (length text) then slice_range text range.start range.end
+    else [])
+
+-- A name is a whole word, spelled as the name or with escapes, and isn't `import`.
+abbrev pub name_claim : List ℕ → SourceRange → List ℕ → Piece
+name_claim text range name =
+    (if is_import_word (bytes_at text range)
+    || not (has_escape (bytes_at text range) || bytes_eq (bytes_at text range) name) then no_piece range.start
     else piece_at Word range)
 
 -- A template without expressions is a whole one.
@@ -96,17 +104,44 @@ template_claim range (child ∷ children) = None
 -- What a value is: the string "a", the name `require`, the template `a`.
 abbrev pub value_claim : List ℕ → SourceRange → List Node → Kind → Option Piece
 value_claim text range children (kinds.Str value) = Some (piece_at String range)
-value_claim text range children (kinds.Ident name) = Some (name_claim text range)
+value_claim text range children (kinds.Ident name) = Some (name_claim text range name)
 value_claim text range children (kinds.Template values) = template_claim range children
 value_claim text range children _ = None
 
--- The pieces that a node stands on.
+-- The pieces that a node has.
 abbrev pub claims_of : List ℕ → Node → List Piece
 claims_of text node =
     option_to_list (begin_claim text (range_of node).start (kind_of node))
     ++ (option_to_list (option_map (literal_claim (range_of node)) (literal_of (kind_of node)))
     ++ option_to_list (value_claim text (range_of node) (children_of node) (kind_of node)))
 
+-- A node is a name.
+abbrev pub is_ident : Kind → Bool
+is_ident (kinds.Ident name) = true
+is_ident _ = false
+
+-- From the start of one range to the end of another.
+abbrev pub span : SourceRange → SourceRange → SourceRange
+span range other = record { start = range.start; end = other.end }
+
+-- The word that a call of a name begins with, if it may be `require`.
+abbrev pub call_word : List ℕ → SourceRange → Node → Option Piece
+call_word text range callee =
+    (if is_ident (kind_of callee) && may_be_require (bytes_at text (span range (range_of callee)))
+    then Some (piece_at Word (span range (range_of callee))) else None)
+
+-- The word of a call: `require` of `require("a")`.
+abbrev pub call_words : List ℕ → SourceRange → List Node → Kind → Option Piece
+call_words text range (callee ∷ children) (kinds.Call callees.Expr args) = call_word text range callee
+call_words text range children _ = None
+
+abbrev pub calls_of : List ℕ → Node → List Piece
+calls_of text node = option_to_list (call_words text (range_of node) (children_of node) (kind_of node))
+
 -- The claims of a tree are those of its nodes, in the order of the text.
 abbrev pub AreClaims : List ℕ → Program → List Piece → Type 0
 AreClaims text program claims = IsPermutation (flat_map (claims_of text) (nodes_of program)) claims
+
+-- The calls of a tree, likewise.
+abbrev pub AreCalls : List ℕ → Program → List Piece → Type 0
+AreCalls text program calls = IsPermutation (flat_map (calls_of text) (nodes_of program)) calls

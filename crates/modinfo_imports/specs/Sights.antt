@@ -10,4 +10,5 @@ watch_of seen parentheses = record {
   parentheses = parentheses;
   last = seen.last;
   claims = seen.claims.now;
+  calls = seen.calls.now;
 }

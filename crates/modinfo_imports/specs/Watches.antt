@@ -1,13 +1,16 @@
--- A watch over the tokens of a text: no word `import` is lost. Each is a claim of the tree, so that a node
--- begins there, or what is around the word shows that it is a name. ⏎ stands for a line end.
+-- A watch over the tokens of a text: no word that a dependency begins with is lost. A node of the tree begins
+-- there, or what is around the word shows that no dependency does. ⏎ is a line end.
 use Rattle.std.specs.Prelude.{◌≡◌, ℕ, ◌-◌, ◌==◌, Bool, true, false, not, ◌&&◌, ◌||◌, List, [], ◌∷◌, ◌++◌}
 use Rattle.std.specs.Prelude.{Option, Some, if◌then◌else◌, option_map, slice_index, slice_range}
 use Rattle.modinfo_imports.specs.Claims.{claims_after, is_claimed}
-use Rattle.modinfo_imports.specs.Duties.{is_import_word, is_method, met_by, sight_of, without_innermost}
+use Rattle.modinfo_imports.specs.Duties.{is_method, met_by, sight_of, without_innermost}
+use Rattle.modinfo_imports.specs.Keywords.{keyword_of}
 use Rattle.modinfo_pieces.specs.Openings.{is_brace}
 use Rattle.modinfo_pieces.specs.Places.{IsNext, Place, context_of}
 use Rattle.modinfo_imports.specs.declared.duty.Duty.{Duty}
 use Rattle.modinfo_imports.specs.declared.duty.Duty.TheVariants as duties
+use Rattle.modinfo_imports.specs.declared.keyword.Keyword.{Keyword}
+use Rattle.modinfo_imports.specs.declared.keyword.Keyword.TheVariants as keywords
 use Rattle.modinfo_pieces.specs.declared.piece.Piece.{Piece}
 use Rattle.modinfo_pieces.specs.declared.piece.PieceKind.{PieceKind}
 use Rattle.modinfo_pieces.specs.declared.piece.PieceKind.TheVariants.{BlockComment, Hashbang, HtmlComment}
@@ -19,16 +22,24 @@ use Rattle.modinfo_pieces.specs.declared.place.Opening.{Opening}
 use Rattle.modinfo_pieces.specs.declared.place.Opening.TheVariants.{ClosingTag, Tag}
 
 -- What is known of the tokens before a place: what the next one must be, the open parentheses from the
--- outermost method on that is named `import`, the last one's first byte, and the claims that weren't met yet.
+-- outermost method on that is named `import` or `require`, the last one's first byte, and the claims and the
+-- words of calls that weren't met yet.
 pub record Watch : Type 0 where
   pub duty : Duty
   pub parentheses : List Bool
   pub last : ℕ
   pub claims : List Piece
+  pub calls : List Piece
 
 -- At the start of a text.
-abbrev pub watch_start : List Piece → Watch
-watch_start claims = record { duty = duties.Nothing; parentheses = []; last = 0; claims = claims }
+abbrev pub watch_start : List Piece → List Piece → Watch
+watch_start claims calls = record {
+  duty = duties.Nothing;
+  parentheses = [];
+  last = 0;
+  claims = claims;
+  calls = calls;
+}
 
 -- White space, a comment or the `#!` line is no token.
 abbrev pub is_gap : PieceKind → Bool
@@ -38,15 +49,6 @@ is_gap BlockComment = true
 is_gap HtmlComment = true
 is_gap Hashbang = true
 is_gap _ = false
-
--- A word `import`.
-abbrev pub is_import : List ℕ → Piece → PieceKind → Bool
-is_import text piece Word = is_import_word (slice_range text piece.start piece.end)
-is_import text piece _ = false
-
-abbrev pub is_word : PieceKind → Bool
-is_word Word = true
-is_word _ = false
 
 -- A member's name follows: `a.import`, `a?.import`, `1..import`, not `...import("a")`.
 abbrev pub is_dot : Before → Bool
@@ -60,32 +62,40 @@ is_in_tag Tag = true
 is_in_tag ClosingTag = true
 is_in_tag _ = false
 
--- A node begins at the word before: `export import a = B.C`.
-abbrev pub is_after_claim : Duty → Bool
-is_after_claim duties.Claimed = true
-is_after_claim _ = false
-
 -- The end of an expression, or a word that isn't an operator.
 abbrev pub is_value : Before → Bool
 is_value Value = true
 is_value _ = false
 
--- A word right after the slash that ends a regular expression is in the place of its flags: `/a/import`.
-abbrev pub is_flags : Before → ℕ → Bool
-is_flags before previous = (previous == 47) && is_value before
+-- A word right after the slash that ends a regular expression is in the place of its flags: `/a/import`. The
+-- slash of a comment, `a⏎ /* b */import("c")`, isn't that of a regular expression.
+abbrev pub is_flags : Context → ℕ → ℕ → Bool
+is_flags context previous last =
+    ((previous == 47) && (last == 47)) && (is_value context.before && not context.is_after_line_end)
 
--- A word is a name by what is before it. `#import` is a name too.
-abbrev pub is_name : Opening → Before → ℕ → Duty → Bool
-is_name inside before previous duty =
-    (is_dot before || (previous == 35)) || ((is_in_tag inside || is_after_claim duty)
-    || is_flags before previous)
+-- A word is a name by what is before. `#import` is a name too.
+unfoldable pub is_name : Context → ℕ → ℕ → Bool
+is_name context previous last =
+    (is_dot context.before || (previous == 35)) || (is_in_tag context.inside || is_flags context previous last)
 
--- A method may be named after a token: after `{`, `}`, `;`, `,`, `*` or `>`, the end of a field, or a word as
+-- What a word is that isn't a name.
+abbrev pub keyword_at : List ℕ → Context → Piece → ℕ → Keyword
+keyword_at text context piece last =
+    (if is_name context (slice_index text (piece.start - 1)) last then keywords.Other
+    else keyword_of (slice_range text piece.start piece.end))
+
+-- In TypeScript a member may end at a line end after `void` or `?`: `interface A { a(): void⏎ import(b): c }`,
+-- `class A { a?⏎ import() {} }`.
+abbrev pub may_end_member : Bool → Context → ℕ → Bool
+may_end_member is_typed context last = (is_typed && context.is_after_line_end) && ((last == 118) || (last == 63))
+
+-- A method may be named after a token: after `{`, `}`, `;`, `,`, `*` or `>`, the end of a member, or a word as
 -- `get`, but not after `?`, `:`, `=`, `=>`, `(` or an operator, as `a ? import(b) : c`, `case import(b):`,
 -- `await import(b)`.
-abbrev pub may_be_method : Before → ℕ → Bool
-may_be_method before last =
-    is_value before || (((last == 123) || ((last == 125) || (last == 59)))
+abbrev pub may_be_method : Bool → Context → ℕ → Bool
+may_be_method is_typed context last =
+    (is_value context.before || may_end_member is_typed context last)
+    || (((last == 123) || ((last == 125) || (last == 59)))
     || ((last == 44) || ((last == 42) || (last == 62))))
 
 -- The last token isn't the `(` of `import (`: of no parameters nothing is asked, `import()` is no import.
@@ -98,21 +108,57 @@ abbrev pub is_byte : List ℕ → Piece → PieceKind → ℕ → Bool
 is_byte text piece Punctuation byte = slice_index text piece.start == byte
 is_byte text piece _ byte = false
 
+-- The token is a name in the list of an import or an export, as in `export { import as require }`.
+abbrev pub is_listed : Duty → Bool
+is_listed duties.AsName = true
+is_listed duties.ExportNames = true
+is_listed duties.ExportEnd = true
+is_listed _ = false
+
+-- A node begins at the word before: `export import a = B.C`.
+abbrev pub is_after_claim : Duty → Bool
+is_after_claim duties.Claimed = true
+is_after_claim (duties.Export may_be_member claimed) = claimed
+is_after_claim _ = false
+
+-- The names between `import` and `=`.
+abbrev pub is_alias : Duty → Bool
+is_alias duties.Alias = true
+is_alias _ = false
+
+-- A name isn't called: `new require("a")`, `function require() {}`, `import a = require("a")`.
+abbrev pub is_no_call : Duty → Bool
+is_no_call duties.NoCall = true
+is_no_call _ = false
+
+-- The duty after a word, by the duty before and the duty that the word has met.
+unfoldable pub duty_after_word : Keyword → Bool → Bool → Bool → Bool → Duty → Duty → Duty
+duty_after_word keywords.Import claimed called in_braces may_be_method before met =
+    (if claimed || is_after_claim before then duties.Alias
+    else duties.Import in_braces (in_braces && may_be_method))
+duty_after_word keywords.Require claimed called in_braces may_be_method before met =
+    (if called || (is_no_call before || is_alias met) then met else duties.Require (in_braces && may_be_method))
+duty_after_word keywords.Export claimed called in_braces may_be_method before met =
+    duties.Export (in_braces && not claimed) claimed
+duty_after_word keywords.Module claimed called in_braces may_be_method before met =
+    (if is_alias met then met else duties.Module)
+duty_after_word keywords.New claimed called in_braces may_be_method before met = duties.NoCall
+duty_after_word keywords.Other claimed called in_braces may_be_method before met =
+    (if claimed then duties.Claimed else met)
+
 -- The token is the `)` of a method's parameters.
 abbrev pub closes_method : List ℕ → Piece → List Bool → Bool
 closes_method text piece parentheses = is_byte text piece piece.kind 41 && is_method parentheses
 
 -- The duty after a token, by the duty that the token has met.
-unfoldable pub duty_after : List ℕ → Context → Piece → Watch → Duty → Duty
-duty_after text context piece watch met =
-    (if is_claimed piece watch.claims
-    then (if is_word piece.kind then duties.Claimed else duties.Nothing)
-    else (if is_import text piece piece.kind
-    && not (is_name context.inside context.before (slice_index text (piece.start - 1)) watch.duty)
-    then duties.Import (is_brace context.inside)
-    (is_brace context.inside && may_be_method context.before watch.last)
-    else (if closes_method text piece watch.parentheses && is_waiting watch.duty
-    then duties.Parameters else met)))
+unfoldable pub duty_after : List ℕ → Bool → Context → Piece → PieceKind → Watch → Duty → Duty
+duty_after text is_typed context piece Word watch met =
+    (if is_listed met then met
+    else duty_after_word (keyword_at text context piece watch.last) (is_claimed piece watch.claims)
+    (is_claimed piece watch.calls) (is_brace context.inside) (may_be_method is_typed context watch.last)
+    watch.duty met)
+duty_after text is_typed context piece kind watch met =
+    (if closes_method text piece watch.parentheses && is_waiting watch.duty then duties.Parameters else met)
 
 -- The token is the `(` of a method's parameters.
 abbrev pub begins_parameters : Duty → Bool
@@ -136,20 +182,21 @@ abbrev pub last_of : ℕ → ℕ → ℕ
 last_of previous byte = (if (byte == 62) && (previous == 61) then 61 else byte)
 
 -- The watch after a token, by the duty that the token has met.
-abbrev pub watch_met : List ℕ → Context → Piece → Watch → Duty → Watch
-watch_met text context piece watch met = record {
-  duty = duty_after text context piece watch met;
+abbrev pub watch_met : List ℕ → Bool → Context → Piece → Watch → Duty → Watch
+watch_met text is_typed context piece watch met = record {
+  duty = duty_after text is_typed context piece piece.kind watch met;
   parentheses = parentheses_after text piece met watch.parentheses;
   last = last_of (slice_index text (piece.start - 1)) (slice_index text piece.start);
   claims = claims_after piece watch.claims;
+  calls = claims_after piece watch.calls;
 }
 
 -- The watch after a piece, if the piece meets the duty.
 abbrev pub watch_after : List ℕ → Bool → Context → Piece → Watch → Option Watch
 watch_after text is_typed context piece watch =
     (if is_gap piece.kind then Some watch
-    else option_map (watch_met text context piece watch)
-    (met_by watch.duty (sight_of text piece piece.kind) context.is_after_line_end is_typed))
+    else option_map (watch_met text is_typed context piece watch)
+    (met_by watch.duty (sight_of text watch.claims piece piece.kind) context.is_after_line_end is_typed))
 
 -- Pieces lead from one place to another, and a watch goes over them.
 pub data Watches (text : List ℕ) (is_typed : Bool) (from : Place) (watch : Watch)
@@ -162,11 +209,18 @@ pub data Watches (text : List ℕ) (is_typed : Bool) (from : Place) (watch : Wat
 
 -- Nothing is asked of what follows.
 abbrev pub is_done : Duty → Bool
-is_done duties.Nothing = true
-is_done duties.Claimed = true
-is_done _ = false
+is_done (duties.Import in_braces may_be_method) = false
+is_done duties.As = false
+is_done duties.AsName = false
+is_done duties.Parenthesis = false
+is_done duties.Parameters = false
+is_done duties.ExportNames = false
+is_done duties.ExportStar = false
+is_done duties.ExportAs = false
+is_done duties.From = false
+is_done _ = true
 
--- At the end of a text: each claim is met, and each word `import` is a claim or a name.
+-- At the end of a text: each claim is met, and nothing more is asked.
 pub record IsWatchEnd (watch : Watch) : Type 0 where
   pub claims : watch.claims ≡ []
   pub duty : is_done watch.duty ≡ true

@@ -1,4 +1,4 @@
-//! Pieces that a tree claims to stand on, in the order of the text.
+//! Pieces that a tree claims to have, in the order of the text.
 
 ghost use Rattle.std.specs.Prelude.{◌≡◌};
 ghost use Rattle.modinfo_imports.specs.Claims.{claims_after, is_claimed, is_same, is_same_kind};

@@ -1,23 +1,35 @@
-//! What words `import` at which no node begins ask of the tokens after them.
+//! What words that dependencies may begin with ask of the tokens after them.
 
-ghost use Rattle.std.specs.Prelude.{◌≡◌, ◌∷◌, ◌<◌, ◌≤◌, MatchOption, OnOk, length};
+ghost use Rattle.std.specs.Prelude.{◌≡◌, ◌∷◌, ◌<◌, ◌≤◌, ◌&&◌, MatchOption, OnOk, length};
 ghost use Rattle.modinfo_imports.specs.Duties.{
   begins_member,
+  duty_after_alias,
+  duty_after_export,
+  duty_after_export_as,
+  duty_after_export_end,
+  duty_after_export_names,
+  duty_after_from,
   duty_after_import,
+  duty_after_module,
   duty_after_name,
+  duty_after_new,
   duty_after_parameters,
   duty_after_parenthesis,
+  duty_after_require,
+  duty_after_star,
   ends_member,
+  follows_export_word,
   follows_import,
+  follows_import_word,
   follows_name,
-  is_as,
-  is_from,
-  is_import_word,
+  follows_names,
+  follows_star,
   met_by,
+  name_of,
   sight_of,
-  sight_of_word,
 };
 
+use crate::claims::is_claimed;
 use modinfo_pieces::befores::bytes_of;
 use modinfo_pieces::bytes::byte_at;
 use modinfo_pieces::piece::{Piece, PieceKind};
@@ -29,7 +41,7 @@ use std::marker::Model;
 pub enum Duty {
     /// Anything.
     Nothing,
-    /// Anything, after a word that a node stands on.
+    /// Anything, after a word at which a node begins.
     Claimed,
     /// What follows a name, after a word `import`.
     Import {
@@ -38,35 +50,68 @@ pub enum Duty {
         /// Whether the word may be the name of a method.
         may_be_method: bool,
     },
-    /// A string, after `import from`.
-    From,
     /// Another name, after `import as`.
     As,
     /// The end of the names in braces, after `import as name`.
     AsName,
-    /// A parameter, after `import (`.
+    /// A parameter, after `import (` or `require (`.
     Parenthesis,
     /// What follows the parameters of a method.
     Parameters,
+    /// Anything but the `(` of a call, after a word `require`.
+    Require {
+        /// Whether the word may be the name of a method.
+        may_be_method: bool,
+    },
+    /// Anything, after a word `import` at which a node begins: it may be the name of an alias.
+    Alias,
+    /// Anything, after `new`, `function` or the `=` of an alias: a name isn't called.
+    NoCall,
+    /// What follows a word `export`.
+    Export {
+        /// Whether the word may be the name of a member.
+        may_be_member: bool,
+        /// Whether a node begins at the word.
+        is_claimed: bool,
+    },
+    /// A name, a comma or the brace, after `export {`.
+    ExportNames,
+    /// `from` or `as`, after `export *`.
+    ExportStar,
+    /// A name, after `export * as`.
+    ExportAs,
+    /// Anything, after the names of an export: it may be `from`.
+    ExportEnd,
+    /// The specifier of an export.
+    From,
+    /// Anything, after `module`: a string is a specifier.
+    Module,
 }
 
 /// A token, as far as duties tell tokens apart.
 #[derive(Clone, Copy)]
 pub enum Sight {
-    /// The word `from`.
-    From,
-    /// The word `as`.
-    As,
-    /// Another word.
-    Word,
-    String,
+    Word(Name),
+    String {
+        /// Whether the tree has the string.
+        is_claimed: bool,
+    },
     /// A byte of punctuation.
     Byte(u8),
     Other,
 }
 
-/// The open parentheses from the outermost method on that is named `import`: whether each is that of the
-/// parameters of such a method.
+/// A word, as far as duties tell words apart.
+#[derive(Clone, Copy)]
+pub enum Name {
+    From,
+    As,
+    Type,
+    Other,
+}
+
+/// The open parentheses from the outermost method on that is named `import` or `require`: whether each is that of
+/// the parameters of such a method.
 #[derive(Drop)]
 pub struct Parentheses {
     outermost_first: Vec<bool>,
@@ -128,50 +173,35 @@ impl Parentheses {
 
 /// Returns a token as far as duties tell tokens apart.
 #[inline(always)]
-pub fn sight_of(text: &[u8], piece: Piece) -> Sight
+#[tactic(auto, unfolding(crate::specs::Duties::sight_of))]
+pub fn sight_of(text: &[u8], claims: &[Piece], piece: Piece) -> Sight
     ensures { piece.start < piece.end → piece.end ≤ length text.now
-        → result ≡ sight_of text.now piece piece.kind }
+        → result ≡ sight_of text.now claims.now piece piece.kind }
 {
     match piece.kind {
-        PieceKind::Word => sight_of_word(bytes_of(text, piece)),
-        PieceKind::String => Sight::String,
+        PieceKind::Word => Sight::Word(name_of(bytes_of(text, piece))),
+        PieceKind::String => Sight::String {
+            is_claimed: is_claimed(piece, claims),
+        },
         PieceKind::Punctuation => Sight::Byte(byte_at(text, piece.start)),
         _ => Sight::Other,
     }
 }
 
 /// Returns a word as far as duties tell words apart.
-#[tactic(auto, unfolding(crate::specs::Duties::sight_of_word))]
-fn sight_of_word(word: &[u8]) -> Sight
-    ensures { result ≡ sight_of_word word.now }
+#[tactic(auto, unfolding(crate::specs::Duties::name_of))]
+fn name_of(word: &[u8]) -> Name
+    ensures { result ≡ name_of word.now }
 {
-    if is_from(word) {
-        Sight::From
-    } else if is_as(word) {
-        Sight::As
+    if word == b"from".as_slice() {
+        Name::From
+    } else if word == b"as".as_slice() {
+        Name::As
+    } else if word == b"type".as_slice() {
+        Name::Type
     } else {
-        Sight::Word
+        Name::Other
     }
-}
-
-fn is_from(word: &[u8]) -> bool
-    ensures { result ≡ is_from word.now }
-{
-    word == b"from".as_slice()
-}
-
-fn is_as(word: &[u8]) -> bool
-    ensures { result ≡ is_as word.now }
-{
-    word == b"as".as_slice()
-}
-
-/// Returns whether a word is `import`.
-#[inline(always)]
-pub fn is_import_word(word: &[u8]) -> bool
-    ensures { result ≡ is_import_word word.now }
-{
-    word == b"import".as_slice()
 }
 
 /// Returns what the next token must be after a token that meets a duty, or `None` if the token doesn't.
@@ -191,14 +221,31 @@ pub fn met_by(duty: Duty, sight: Sight, is_after_line_end: bool, is_typed: bool)
                 duty_after_import(may_be_method, sight)
             }
         }
-        Duty::From => match sight {
-            Sight::String => Some(Duty::Nothing),
-            _ => None,
-        },
         Duty::As => duty_after_name(sight),
         Duty::AsName => duty_after_names(sight),
         Duty::Parenthesis => duty_after_parenthesis(sight),
         Duty::Parameters => duty_after_parameters(sight, is_after_line_end, is_typed),
+        Duty::Require { may_be_method } => {
+            duty_after_require(may_be_method, sight, is_after_line_end)
+        }
+        Duty::Alias => duty_after_alias(sight),
+        Duty::NoCall => duty_after_new(sight),
+        Duty::Export {
+            may_be_member,
+            is_claimed,
+        } => {
+            if may_be_member && is_after_line_end && begins_member(sight) {
+                Some(Duty::Nothing)
+            } else {
+                duty_after_export(is_claimed, sight)
+            }
+        }
+        Duty::ExportNames => duty_after_export_names(sight),
+        Duty::ExportStar => duty_after_star(sight),
+        Duty::ExportAs => duty_after_export_as(sight),
+        Duty::ExportEnd => duty_after_export_end(sight),
+        Duty::From => duty_after_from(sight),
+        Duty::Module => duty_after_module(sight, is_after_line_end),
     }
 }
 
@@ -207,7 +254,7 @@ fn begins_member(sight: Sight) -> bool
     ensures { result ≡ begins_member sight }
 {
     match sight {
-        Sight::From | Sight::As | Sight::Word | Sight::String => true,
+        Sight::Word(_) | Sight::String { .. } => true,
         Sight::Byte(byte) => byte == b'*',
         Sight::Other => false,
     }
@@ -218,11 +265,20 @@ fn duty_after_import(may_be_method: bool, sight: Sight) -> Option<Duty>
     ensures { result ≡ duty_after_import may_be_method sight }
 {
     match sight {
-        Sight::From => Some(Duty::From),
-        Sight::As => Some(Duty::As),
-        Sight::Word | Sight::String => None,
+        Sight::Word(name) => follows_import_word(name),
+        Sight::String { .. } => None,
         Sight::Byte(byte) => follows_import(may_be_method, byte),
         Sight::Other => Some(Duty::Nothing),
+    }
+}
+
+/// Returns what the next token must be after a word `import` and another word.
+fn follows_import_word(name: Name) -> Option<Duty>
+    ensures { result ≡ follows_import_word name }
+{
+    match name {
+        Name::As => Some(Duty::As),
+        _ => None,
     }
 }
 
@@ -248,7 +304,7 @@ fn duty_after_name(sight: Sight) -> Option<Duty>
     ensures { result ≡ duty_after_name sight }
 {
     match sight {
-        Sight::From | Sight::As | Sight::Word | Sight::String => Some(Duty::AsName),
+        Sight::Word(_) | Sight::String { .. } => Some(Duty::AsName),
         _ => None,
     }
 }
@@ -268,7 +324,7 @@ fn duty_after_parenthesis(sight: Sight) -> Option<Duty>
     ensures { result ≡ duty_after_parenthesis sight }
 {
     match sight {
-        Sight::From | Sight::As | Sight::Word => Some(Duty::Nothing),
+        Sight::Word(_) => Some(Duty::Nothing),
         Sight::Byte(byte) if matches!(byte, b')' | b'{' | b'[' | b'@' | b'.') => Some(
             Duty::Nothing,
         ),
@@ -294,5 +350,169 @@ fn ends_member(sight: Sight) -> bool
     match sight {
         Sight::Byte(byte) => matches!(byte, b';' | b',' | b'}'),
         _ => false,
+    }
+}
+
+/// Returns what the next token must be after a word `require` and a token.
+fn duty_after_require(may_be_method: bool, sight: Sight, is_after_line_end: bool) -> Option<Duty>
+    ensures { result ≡ duty_after_require may_be_method sight is_after_line_end }
+{
+    match sight {
+        Sight::Byte(b'(') => {
+            if may_be_method {
+                Some(Duty::Parenthesis)
+            } else if is_after_line_end {
+                Some(Duty::Nothing)
+            } else {
+                None
+            }
+        }
+        _ => Some(Duty::Nothing),
+    }
+}
+
+/// Returns what the next token must be after a word `import`, at which a node begins, and a token.
+fn duty_after_alias(sight: Sight) -> Option<Duty>
+    ensures { result ≡ duty_after_alias sight }
+{
+    match sight {
+        Sight::Word(_) => Some(Duty::Alias),
+        Sight::Byte(b'=') => Some(Duty::NoCall),
+        _ => Some(Duty::Nothing),
+    }
+}
+
+/// Returns what the next token must be after `new` or `function` and a token.
+fn duty_after_new(sight: Sight) -> Option<Duty>
+    ensures { result ≡ duty_after_new sight }
+{
+    match sight {
+        Sight::Byte(b'*') => Some(Duty::NoCall),
+        _ => Some(Duty::Nothing),
+    }
+}
+
+/// Returns what the next token must be after a word `export` and a token.
+fn duty_after_export(is_claimed: bool, sight: Sight) -> Option<Duty>
+    ensures { result ≡ duty_after_export is_claimed sight }
+{
+    match sight {
+        Sight::Word(name) => follows_export_word(is_claimed, name),
+        Sight::Byte(b'{') => {
+            if is_claimed {
+                Some(Duty::ExportNames)
+            } else {
+                None
+            }
+        }
+        Sight::Byte(b'*') => {
+            if is_claimed {
+                Some(Duty::ExportStar)
+            } else {
+                None
+            }
+        }
+        _ => Some(Duty::Nothing),
+    }
+}
+
+/// Returns what the next token must be after a word `export` and another word.
+fn follows_export_word(is_claimed: bool, name: Name) -> Option<Duty>
+    ensures { result ≡ follows_export_word is_claimed name }
+{
+    match name {
+        Name::Type => Some(Duty::Export {
+            may_be_member: false,
+            is_claimed,
+        }),
+        _ => Some(Duty::Nothing),
+    }
+}
+
+/// Returns what the next token must be after `export {` and more tokens.
+fn duty_after_export_names(sight: Sight) -> Option<Duty>
+    ensures { result ≡ duty_after_export_names sight }
+{
+    match sight {
+        Sight::Word(_) | Sight::String { .. } | Sight::Byte(b',') => Some(Duty::ExportNames),
+        Sight::Byte(b'}') => Some(Duty::ExportEnd),
+        _ => None,
+    }
+}
+
+/// Returns what the next token must be after `export *` and a token.
+fn duty_after_star(sight: Sight) -> Option<Duty>
+    ensures { result ≡ duty_after_star sight }
+{
+    match sight {
+        Sight::Word(name) => follows_star(name),
+        _ => None,
+    }
+}
+
+/// Returns what the next token must be after `export *` and a word.
+fn follows_star(name: Name) -> Option<Duty>
+    ensures { result ≡ follows_star name }
+{
+    match name {
+        Name::From => Some(Duty::From),
+        Name::As => Some(Duty::ExportAs),
+        _ => None,
+    }
+}
+
+/// Returns what the next token must be after `export * as` and a token.
+fn duty_after_export_as(sight: Sight) -> Option<Duty>
+    ensures { result ≡ duty_after_export_as sight }
+{
+    match sight {
+        Sight::Word(_) | Sight::String { .. } => Some(Duty::ExportEnd),
+        _ => None,
+    }
+}
+
+/// Returns what the next token must be after the names of an export and a token.
+fn duty_after_export_end(sight: Sight) -> Option<Duty>
+    ensures { result ≡ duty_after_export_end sight }
+{
+    match sight {
+        Sight::Word(name) => follows_names(name),
+        _ => Some(Duty::Nothing),
+    }
+}
+
+/// Returns what the next token must be after the names of an export and a word.
+fn follows_names(name: Name) -> Option<Duty>
+    ensures { result ≡ follows_names name }
+{
+    match name {
+        Name::From => Some(Duty::From),
+        _ => Some(Duty::Nothing),
+    }
+}
+
+/// Returns what the next token must be after the `from` of an export and a token.
+fn duty_after_from(sight: Sight) -> Option<Duty>
+    ensures { result ≡ duty_after_from sight }
+{
+    match sight {
+        Sight::String { is_claimed: true } => Some(Duty::Nothing),
+        _ => None,
+    }
+}
+
+/// Returns what the next token must be after `module` and a token.
+fn duty_after_module(sight: Sight, is_after_line_end: bool) -> Option<Duty>
+    ensures { result ≡ duty_after_module sight is_after_line_end }
+{
+    match sight {
+        Sight::String { is_claimed } => {
+            if is_claimed || is_after_line_end {
+                Some(Duty::Nothing)
+            } else {
+                None
+            }
+        }
+        _ => Some(Duty::Nothing),
     }
 }

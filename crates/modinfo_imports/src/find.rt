@@ -15,23 +15,24 @@ use modinfo_pieces::places::{Spot, next_piece};
 use std::alloc::{AllocError, Global};
 
 /// Returns the comments among the pieces of a text; or the offset where the text isn't pieces side by side by
-/// these choices, or isn't what a tree claims: a claim is no piece, or a word `import` is neither a claim nor a
-/// name. The claims are in the order of the text. In a typed text methods may have no body.
+/// these choices, or isn't that of a tree: a claim is no piece, or a word that a dependency begins with is lost.
+/// The claims and the words of calls are in the order of the text. In a typed text methods may have no body.
 pub fn find(
     alloc: Global,
     text: &[u8],
     is_typed: bool,
     choices: &[Choice],
     claims: &[Piece],
+    calls: &[Piece],
 ) -> Result<Result<Vec<Piece>, usize>, AllocError>
     ensures { IfOk result (λ found. IfOk found (λ comments.
-        HasFound text.now is_typed choices.now claims.now comments.items)) }
+        HasFound text.now is_typed choices.now claims.now calls.now comments.items)) }
 {
     let mut around = Openings::new(alloc);
     let mut parentheses = Parentheses::new(alloc);
     let mut comments = Vec::new(alloc);
     let mut spot = start(choices);
-    let mut seen = watch_start(claims);
+    let mut seen = watch_start(claims, calls);
     'pieces: while spot.at < text.len() {
         let context = context_of(spot, &around);
         let Some(step) = next_piece(text, spot, &mut around)? else {

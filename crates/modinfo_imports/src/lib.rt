@@ -1,8 +1,10 @@
-//! The words `import` of a text: each is where a node of its tree begins, or is a name.
+//! The words of a text that dependencies begin with: at each a node of the tree begins, or what is around the word
+//! shows that no dependency does.
 #![tactic(auto)]
 
 pub mod claims;
 pub mod duty;
 pub mod find;
+pub mod keyword;
 pub mod nodes;
 pub mod watch;

@@ -1,4 +1,4 @@
-//! The pieces of a text that the nodes of its tree stand on.
+//! The pieces of a text that the nodes of its tree have.
 #![tactic(auto, unfolding(deno_graph_source::specs::Node::kind_of, deno_graph_source::specs::Node::range_of, deno_graph_source::specs::Node::children_of))]
 
 ghost use Rattle.std.specs.Prelude.{◌≡◌, ◌++◌, codes, IfOk, OnOk, option_map};
@@ -6,30 +6,38 @@ ghost use Rattle.std.specs.List.{flat_map};
 ghost use Rattle.std.specs.Option.{option_to_list};
 ghost use Rattle.deno_graph_source.specs.Node.{children_of, kind_of, literal_of, nodes_in, range_of};
 ghost use Rattle.modinfo_imports.specs.Nodes.{
+  AreCalls,
   AreClaims,
   alias_claim,
   begin_claim,
+  bytes_at,
   call_claim,
+  call_word,
+  call_words,
+  calls_of,
   claims_of,
   export_claim,
   has_word,
+  is_ident,
   literal_claim,
   module_claim,
   name_claim,
   no_piece,
   piece_at,
+  span,
   template_claim,
   value_claim,
   word_claim,
 };
 
+use crate::keyword::{has_escape, is_import_word, may_be_require};
 use deno_graph_base::text::SourceRange;
 use deno_graph_source::tree::{Callee, Kind, Node, Program, StrLit};
 use modinfo_pieces::bytes::byte_at;
 use modinfo_pieces::piece::{Piece, PieceKind};
 use std::alloc::{AllocError, Global};
 
-/// Returns the pieces that the nodes of a program stand on, in the order of the text.
+/// Returns the pieces that the nodes of a program have, in the order of the text.
 #[tactic(auto, unfolding(deno_graph_source::specs::Node::nodes_of))]
 pub fn claims_of(alloc: Global, text: &[u8], program: &Program) -> Result<Vec<Piece>, AllocError>
     ensures { IfOk result (λ claims. AreClaims text.now program.now claims.items) }
@@ -40,7 +48,7 @@ pub fn claims_of(alloc: Global, text: &[u8], program: &Program) -> Result<Vec<Pi
     Ok(claims)
 }
 
-/// Adds the pieces that nodes, and all nodes below them, stand on.
+/// Adds the pieces that nodes, and all nodes below them, have.
 fn claim_nodes(text: &[u8], nodes: &[Node], claims: &mut Vec<Piece>) -> Result<(), AllocError>
     ensures { OnOk result (claims.new.items
         ≡ claims.old.items ++ flat_map (claims_of text.now) (flat_map nodes_in nodes.now)) }
@@ -51,7 +59,7 @@ fn claim_nodes(text: &[u8], nodes: &[Node], claims: &mut Vec<Piece>) -> Result<(
     Ok(())
 }
 
-/// Adds the pieces that a node, and all nodes below it, stand on.
+/// Adds the pieces that a node, and all nodes below it, have.
 fn claim_below(text: &[u8], node: &Node, claims: &mut Vec<Piece>) -> Result<(), AllocError>
     ensures { OnOk result (claims.new.items
         ≡ claims.old.items ++ flat_map (claims_of text.now) (nodes_in node.now)) }
@@ -63,7 +71,7 @@ fn claim_below(text: &[u8], node: &Node, claims: &mut Vec<Piece>) -> Result<(), 
     Ok(())
 }
 
-/// Adds the pieces that a node stands on.
+/// Adds the pieces that a node has.
 fn claim_node(text: &[u8], node: &Node, claims: &mut Vec<Piece>) -> Result<(), AllocError>
     ensures { OnOk result (claims.new.items ≡ claims.old.items ++ claims_of text.now node.now) }
 {
@@ -226,20 +234,32 @@ fn value_claim(text: &[u8], range: SourceRange, children: &[Node], kind: &Kind) 
 {
     match kind {
         Kind::Str(_) => Some(piece_at(PieceKind::String, range)),
-        Kind::Ident(_) => Some(name_claim(text, range)),
+        Kind::Ident(name) => Some(name_claim(text, range, name.as_str().as_bytes())),
         Kind::Template(_) => template_claim(range, children),
         _ => None,
     }
 }
 
-/// Returns the word of a name, or no piece if the word is `import`.
-fn name_claim(text: &[u8], range: SourceRange) -> Piece
-    ensures { result ≡ name_claim text.now range }
+/// Returns the word of a name, or no piece if the word is `import` or spells another name.
+fn name_claim(text: &[u8], range: SourceRange, name: &[u8]) -> Piece
+    ensures { result ≡ name_claim text.now range name.now }
 {
-    if range.end.saturating_sub(range.start) == 6 && has_word(text, range.start, b"import") {
+    let word = bytes_at(text, range);
+    if is_import_word(word) || !(has_escape(word) || word == name) {
         no_piece(range.start)
     } else {
         piece_at(PieceKind::Word, range)
+    }
+}
+
+/// Returns the bytes at a range, none if the text has no such range.
+fn bytes_at(text: &[u8], range: SourceRange) -> &[u8]
+    ensures { result.now ≡ bytes_at text.now range }
+{
+    if range.start < range.end && range.end <= text.len() {
+        &text[range.start..range.end]
+    } else {
+        &[]
     }
 }
 
@@ -250,5 +270,96 @@ fn template_claim(range: SourceRange, children: &[Node]) -> Option<Piece>
     match children {
         [] => Some(piece_at(PieceKind::Template, range)),
         _ => None,
+    }
+}
+
+/// Returns the words of a program's calls that may be `require`, in the order of the text.
+#[tactic(auto, unfolding(deno_graph_source::specs::Node::nodes_of))]
+pub fn calls_of(alloc: Global, text: &[u8], program: &Program) -> Result<Vec<Piece>, AllocError>
+    ensures { IfOk result (λ calls. AreCalls text.now program.now calls.items) }
+{
+    let mut calls = Vec::new(alloc);
+    add_calls(text, program.body.as_slice(), &mut calls)?;
+    calls.sort_by_key(|call| call.start)?;
+    Ok(calls)
+}
+
+/// Adds the words of calls of nodes, and of all nodes below them.
+fn add_calls(text: &[u8], nodes: &[Node], calls: &mut Vec<Piece>) -> Result<(), AllocError>
+    ensures { OnOk result (calls.new.items
+        ≡ calls.old.items ++ flat_map (calls_of text.now) (flat_map nodes_in nodes.now)) }
+{
+    for node in nodes {
+        add_calls_below(text, node, calls)?;
+    }
+    Ok(())
+}
+
+/// Adds the words of calls of a node, and of all nodes below it.
+fn add_calls_below(text: &[u8], node: &Node, calls: &mut Vec<Piece>) -> Result<(), AllocError>
+    ensures { OnOk result (calls.new.items
+        ≡ calls.old.items ++ flat_map (calls_of text.now) (nodes_in node.now)) }
+{
+    add_call(text, node, calls)?;
+    for child in node.children.as_slice() {
+        add_calls_below(text, child, calls)?;
+    }
+    Ok(())
+}
+
+/// Adds the word of a call, if a node is one.
+fn add_call(text: &[u8], node: &Node, calls: &mut Vec<Piece>) -> Result<(), AllocError>
+    ensures { OnOk result (calls.new.items ≡ calls.old.items ++ calls_of text.now node.now) }
+{
+    claim(
+        call_words(text, node.range, node.children.as_slice(), &node.kind),
+        calls,
+    )
+}
+
+/// Returns the word of a call, if a node of a kind is one.
+fn call_words(text: &[u8], range: SourceRange, children: &[Node], kind: &Kind) -> Option<Piece>
+    ensures { result ≡ call_words text.now range children.now kind.now }
+{
+    match (children, kind) {
+        (
+            [callee, ..],
+            Kind::Call {
+                callee: Callee::Expr,
+                ..
+            },
+        ) => call_word(text, range, callee),
+        _ => None,
+    }
+}
+
+/// Returns the word that a call of a name begins with, if the word may be `require`.
+fn call_word(text: &[u8], range: SourceRange, callee: &Node) -> Option<Piece>
+    ensures { result ≡ call_word text.now range callee.now }
+{
+    let span = span(range, callee.range);
+    if is_ident(&callee.kind) && may_be_require(bytes_at(text, span)) {
+        Some(piece_at(PieceKind::Word, span))
+    } else {
+        None
+    }
+}
+
+/// Returns the range from the start of one to the end of another.
+fn span(range: SourceRange, other: SourceRange) -> SourceRange
+    ensures { result ≡ span range other }
+{
+    SourceRange {
+        start: range.start,
+        end: other.end,
+    }
+}
+
+fn is_ident(kind: &Kind) -> bool
+    ensures { result ≡ is_ident kind.now }
+{
+    match kind {
+        Kind::Ident(_) => true,
+        _ => false,
     }
 }

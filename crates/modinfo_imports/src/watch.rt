@@ -1,4 +1,4 @@
-//! A watch over the tokens of a text, so that no word `import` is lost.
+//! A watch over the tokens of a text, so that no word that a dependency begins with is lost.
 
 ghost use Rattle.std.specs.Prelude.{[], ◌≡◌, ◌<◌, ◌≤◌, ◌&&◌, IfOk, IfSome, OnOk, length, IsTrue, slice_index, ◌-◌};
 ghost use Rattle.modinfo_imports.specs.Duties.{met_by, sight_of};
@@ -9,20 +9,24 @@ ghost use Rattle.modinfo_imports.specs.Watches.{
   begins_parameters,
   closes_method,
   duty_after,
+  duty_after_word,
   is_after_claim,
+  is_alias,
   is_byte,
   is_done,
   is_dot,
   is_flags,
   is_gap,
-  is_import,
   is_in_tag,
+  is_listed,
   is_name,
+  is_no_call,
   is_value,
   is_waiting,
-  is_word,
+  keyword_at,
   last_of,
   may_be_method,
+  may_end_member,
   parentheses_after,
   watch_after,
   watch_start,
@@ -30,7 +34,8 @@ ghost use Rattle.modinfo_imports.specs.Watches.{
 };
 
 use crate::claims::{claims_after, is_claimed};
-use crate::duty::{Duty, Parentheses, is_import_word, met_by, sight_of};
+use crate::duty::{Duty, Parentheses, met_by, sight_of};
+use crate::keyword::{Keyword, keyword_of};
 use modinfo_pieces::befores::bytes_of;
 use modinfo_pieces::bytes::byte_at;
 use modinfo_pieces::piece::{Piece, PieceKind};
@@ -46,16 +51,19 @@ pub struct Seen<'a> {
     pub last: u8,
     /// The claims that weren't met yet.
     pub claims: &'a [Piece],
+    /// The words of calls that weren't met yet.
+    pub calls: &'a [Piece],
 }
 
 /// Returns the watch at the start of a text.
-pub fn watch_start(claims: &[Piece]) -> Seen<'_>
-    ensures { watch_of result [] ≡ watch_start claims.now }
+pub fn watch_start<'a>(claims: &'a [Piece], calls: &'a [Piece]) -> Seen<'a>
+    ensures { watch_of result [] ≡ watch_start claims.now calls.now }
 {
     Seen {
         duty: Duty::Nothing,
         last: 0,
         claims,
+        calls,
     }
 }
 
@@ -77,16 +85,17 @@ pub fn watch_piece<'a>(
     if is_gap(piece.kind) {
         return Ok(Some(seen));
     }
-    let Some(met) = met_at(text, is_typed, context, piece, seen.duty) else {
+    let Some(met) = met_at(text, is_typed, context, piece, seen) else {
         return Ok(None);
     };
     let after = Seen {
-        duty: duty_after(text, context, piece, seen, parentheses, met),
+        duty: duty_after(text, is_typed, context, piece, seen, parentheses, met),
         last: last_of(
             byte_at(text, piece.start.saturating_sub(1)),
             byte_at(text, piece.start),
         ),
         claims: claims_after(piece, seen.claims),
+        calls: claims_after(piece, seen.calls),
     };
     change(text, piece, met, parentheses)?;
     Ok(Some(after))
@@ -95,16 +104,23 @@ pub fn watch_piece<'a>(
 /// Returns what the next token must be after a token that meets a duty, or `None` if the token doesn't.
 #[inline(always)]
 #[tactic(auto, unfolding(crate::specs::Duties::met_by))]
-fn met_at(text: &[u8], is_typed: bool, context: Context, piece: Piece, duty: Duty) -> Option<Duty>
+fn met_at(
+    text: &[u8],
+    is_typed: bool,
+    context: Context,
+    piece: Piece,
+    seen: Seen<'_>,
+) -> Option<Duty>
     ensures { piece.start < piece.end → piece.end ≤ length text.now
-        → result ≡ met_by duty (sight_of text.now piece piece.kind) context.is_after_line_end is_typed }
+        → result ≡ met_by seen.entry.duty (sight_of text.now seen.entry.claims.now piece piece.kind)
+        context.is_after_line_end is_typed }
 {
-    match duty {
+    match seen.duty {
         // Nearly every token has none.
         Duty::Nothing | Duty::Claimed => Some(Duty::Nothing),
         _ => met_by(
-            duty,
-            sight_of(text, piece),
+            seen.duty,
+            sight_of(text, seen.claims, piece),
             context.is_after_line_end,
             is_typed,
         ),
@@ -131,6 +147,7 @@ fn is_gap(kind: PieceKind) -> bool
 #[tactic(auto, unfolding(crate::specs::Watches::duty_after))]
 fn duty_after(
     text: &[u8],
+    is_typed: bool,
     context: Context,
     piece: Piece,
     seen: Seen<'_>,
@@ -138,70 +155,137 @@ fn duty_after(
     met: Duty,
 ) -> Duty
     ensures { piece.start < piece.end → piece.end ≤ length text.now
-        → result ≡ duty_after text.now context piece (watch_of seen.entry parentheses.now) met }
-{
-    if is_claimed(piece, seen.claims) {
-        if is_word(piece.kind) {
-            Duty::Claimed
-        } else {
-            Duty::Nothing
-        }
-    } else if is_import(text, piece)
-        && !is_name(
-            context.inside,
-            context.before,
-            byte_at(text, piece.start.saturating_sub(1)),
-            seen.duty,
-        )
-    {
-        Duty::Import {
-            in_braces: is_brace(context.inside),
-            may_be_method: is_brace(context.inside) && may_be_method(context.before, seen.last),
-        }
-    } else if closes_method(text, piece, parentheses) && is_waiting(seen.duty) {
-        Duty::Parameters
-    } else {
-        met
-    }
-}
-
-/// Returns whether a piece is a word `import`.
-#[inline(always)]
-fn is_import(text: &[u8], piece: Piece) -> bool
-    ensures { piece.start < piece.end → piece.end ≤ length text.now
-        → result ≡ is_import text.now piece piece.kind }
+        → result ≡ duty_after text.now is_typed context piece piece.kind
+        (watch_of seen.entry parentheses.now) met }
 {
     match piece.kind {
-        PieceKind::Word => is_import_word(bytes_of(text, piece)),
-        _ => false,
+        PieceKind::Word => {
+            if is_listed(met) {
+                met
+            } else {
+                duty_after_word(
+                    keyword_at(text, context, piece, seen.last),
+                    is_claimed(piece, seen.claims),
+                    is_claimed(piece, seen.calls),
+                    is_brace(context.inside),
+                    may_be_method(is_typed, context, seen.last),
+                    seen.duty,
+                    met,
+                )
+            }
+        }
+        _ => {
+            if closes_method(text, piece, parentheses) && is_waiting(seen.duty) {
+                Duty::Parameters
+            } else {
+                met
+            }
+        }
     }
 }
 
-fn is_word(kind: PieceKind) -> bool
-    ensures { result ≡ is_word kind }
+/// Returns what a word is that isn't a name.
+#[inline(always)]
+fn keyword_at(text: &[u8], context: Context, piece: Piece, last: u8) -> Keyword
+    ensures { piece.start < piece.end → piece.end ≤ length text.now
+        → result ≡ keyword_at text.now context piece last }
 {
-    match kind {
-        PieceKind::Word => true,
-        _ => false,
+    if is_name(context, byte_at(text, piece.start.saturating_sub(1)), last) {
+        Keyword::Other
+    } else {
+        keyword_of(bytes_of(text, piece))
+    }
+}
+
+/// Returns what the next token must be after a word.
+#[inline(always)]
+#[tactic(auto, unfolding(crate::specs::Watches::duty_after_word))]
+fn duty_after_word(
+    keyword: Keyword,
+    is_claimed: bool,
+    is_call: bool,
+    in_braces: bool,
+    may_be_method: bool,
+    before: Duty,
+    met: Duty,
+) -> Duty
+    ensures { result ≡ duty_after_word keyword is_claimed is_call in_braces may_be_method before met }
+{
+    match keyword {
+        Keyword::Other => { if is_claimed { Duty::Claimed } else { met } }
+        Keyword::Import => {
+            if is_claimed || is_after_claim(before) {
+                Duty::Alias
+            } else {
+                Duty::Import {
+                    in_braces,
+                    may_be_method: in_braces && may_be_method,
+                }
+            }
+        }
+        Keyword::Require => {
+            if is_call || is_no_call(before) || is_alias(met) {
+                met
+            } else {
+                Duty::Require {
+                    may_be_method: in_braces && may_be_method,
+                }
+            }
+        }
+        Keyword::Export => Duty::Export {
+            may_be_member: in_braces && !is_claimed,
+            is_claimed,
+        },
+        Keyword::Module => { if is_alias(met) { met } else { Duty::Module } }
+        Keyword::New => Duty::NoCall,
     }
 }
 
 /// Returns whether a word is a name by what is before the word.
-fn is_name(inside: Opening, before: Before, previous: u8, duty: Duty) -> bool
-    ensures { result ≡ is_name inside before previous duty }
+#[inline(always)]
+#[tactic(auto, unfolding(crate::specs::Watches::is_name))]
+fn is_name(context: Context, previous: u8, last: u8) -> bool
+    ensures { result ≡ is_name context previous last }
 {
-    is_dot(before)
+    is_dot(context.before)
         || previous == b'#'
-        || is_in_tag(inside)
-        || is_after_claim(duty)
-        || is_flags(before, previous)
+        || is_in_tag(context.inside)
+        || is_flags(context, previous, last)
 }
 
 /// Returns whether a word is in the place of the flags of a regular expression.
-fn is_flags(before: Before, previous: u8) -> bool
-    ensures { result ≡ is_flags before previous }
+fn is_flags(context: Context, previous: u8, last: u8) -> bool
+    ensures { result ≡ is_flags context previous last }
 {
-    previous == b'/' && is_value(before)
+    previous == b'/' && last == b'/' && is_value(context.before) && !context.is_after_line_end
+}
+
+/// Returns whether a token is a name in the list of an import or an export.
+fn is_listed(duty: Duty) -> bool
+    ensures { result ≡ is_listed duty }
+{
+    match duty {
+        Duty::AsName | Duty::ExportNames | Duty::ExportEnd => true,
+        _ => false,
+    }
+}
+
+fn is_alias(duty: Duty) -> bool
+    ensures { result ≡ is_alias duty }
+{
+    match duty {
+        Duty::Alias => true,
+        _ => false,
+    }
+}
+
+fn is_no_call(duty: Duty) -> bool
+    ensures { result ≡ is_no_call duty }
+{
+    match duty {
+        Duty::NoCall => true,
+        _ => false,
+    }
 }
 
 fn is_dot(before: Before) -> bool
@@ -227,6 +311,7 @@ fn is_after_claim(duty: Duty) -> bool
 {
     match duty {
         Duty::Claimed => true,
+        Duty::Export { is_claimed, .. } => is_claimed,
         _ => false,
     }
 }
@@ -241,10 +326,20 @@ fn is_brace(inside: Opening) -> bool
 }
 
 /// Returns whether a method may be named after a token.
-fn may_be_method(before: Before, last: u8) -> bool
-    ensures { result ≡ may_be_method before last }
+#[inline(always)]
+fn may_be_method(is_typed: bool, context: Context, last: u8) -> bool
+    ensures { result ≡ may_be_method is_typed context last }
 {
-    is_value(before) || matches!(last, b'{' | b'}' | b';' | b',' | b'*' | b'>')
+    is_value(context.before)
+        || may_end_member(is_typed, context, last)
+        || matches!(last, b'{' | b'}' | b';' | b',' | b'*' | b'>')
+}
+
+/// Returns whether a member of a type may end after a token, at a line end.
+fn may_end_member(is_typed: bool, context: Context, last: u8) -> bool
+    ensures { result ≡ may_end_member is_typed context last }
+{
+    is_typed && context.is_after_line_end && matches!(last, b'v' | b'?')
 }
 
 fn is_value(before: Before) -> bool
@@ -265,7 +360,7 @@ fn is_waiting(duty: Duty) -> bool
     }
 }
 
-/// Returns whether a token is the `)` of the parameters of a method that is named `import`.
+/// Returns whether a token is the `)` of the parameters of a method that is named `import` or `require`.
 #[inline(always)]
 fn closes_method(text: &[u8], piece: Piece, parentheses: &Parentheses) -> bool
     ensures { result ≡ closes_method text.now piece parentheses.now }
@@ -345,7 +440,15 @@ fn is_done(duty: Duty) -> bool
     ensures { result ≡ is_done duty }
 {
     match duty {
-        Duty::Nothing | Duty::Claimed => true,
-        _ => false,
+        Duty::Import { .. }
+        | Duty::As
+        | Duty::AsName
+        | Duty::Parenthesis
+        | Duty::Parameters
+        | Duty::ExportNames
+        | Duty::ExportStar
+        | Duty::ExportAs
+        | Duty::From => false,
+        _ => true,
     }
 }

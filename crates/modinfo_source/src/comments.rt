@@ -3,7 +3,7 @@
 ghost use Rattle.std.specs.Prelude.{◌≡◌, ◌∷◌, IfOk, IfSome, OnOk};
 ghost use Rattle.std.specs.List.Sorted.{IsPermutation};
 ghost use Rattle.deno_graph_source.specs.Comments.{comments_of};
-ghost use Rattle.modinfo_source.specs.OfText.{StandIn};
+ghost use Rattle.modinfo_source.specs.OfText.{HasClaims};
 ghost use Rattle.modinfo_source.specs.Comments.{AreFrom, comment_of, kind_of, text_of};
 
 use deno_graph_base::text::SourceRange;
@@ -17,8 +17,8 @@ use modinfo_pieces::piece::{Piece, PieceKind};
 use std::alloc::{AllocError, Global};
 
 /// Returns the comments of a text, each filed where the lexer says. Which comments there are is found again
-/// from the bytes and the choices of the parser. An error if the lexer has found others, or if the text doesn't
-/// have the claims of the tree.
+/// from the bytes and the choices of the parser. An error if the lexer has found others, or if the text isn't that
+/// of the tree with these claims and calls.
 pub(crate) fn comments_of(
     alloc: Global,
     text: &str,
@@ -26,10 +26,11 @@ pub(crate) fn comments_of(
     filed: &[FiledComment],
     choices: &[Choice],
     claims: &[Piece],
+    calls: &[Piece],
 ) -> Result<Comments, ReadError>
-    ensures { IfOk result (StandIn text.now is_typed claims.now) }
+    ensures { IfOk result (HasClaims text.now is_typed claims.now calls.now) }
 {
-    match find(alloc, text.as_bytes(), is_typed, choices, claims)? {
+    match find(alloc, text.as_bytes(), is_typed, choices, claims, calls)? {
         Ok(comments) => file_each(alloc, text, filed, &comments),
         Err(offset) => Err(other_text(offset)),
     }

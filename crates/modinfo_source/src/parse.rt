@@ -19,7 +19,7 @@ use deno_graph_base::values::Text;
 use deno_graph_source::tree::{
     Comments, MediaType, ParseDiagnostic, ParseError, ParsedSource, Program, SourceFault,
 };
-use modinfo_imports::nodes::claims_of;
+use modinfo_imports::nodes::{calls_of, claims_of};
 use modinfo_lexer::syntax_error::{ReadError, SyntaxError};
 use modinfo_parser::{Syntax, read};
 use std::alloc::{AllocError, Global};
@@ -50,8 +50,8 @@ pub fn parse_module(
     // The range of the program is the whole text.
     ensures range { IfOk result (λ parsed.
         parsed.program.range ≡ record { start = 0; end = length (rc_str_bytes source) }) }
-    // Each node that may report a dependency, and each of its literals, stands on pieces of the text, and at each
-    // word `import` among the pieces such a node begins, or the word is a name.
+    // Each node that may report a dependency begins at a word of the text and has whole literals of the text, and at
+    // each word that a dependency begins with such a node begins, or the word is a name.
     ensures of_text { IfOk result (λ parsed.
         IsOfText (rc_str_bytes source) (is_typed media_type) parsed.program parsed.comments) }
     ensures position { (diagnostic : ParseDiagnostic) → result ≡ Err (Diagnostic diagnostic)
@@ -103,6 +103,7 @@ fn parts_of(alloc: Global, text: &str, media_type: MediaType) -> Result<Parts, R
         has_shebang: has_hashbang,
     };
     let claims = claims_of(alloc, text.as_bytes(), &program)?;
+    let calls = calls_of(alloc, text.as_bytes(), &program)?;
     let comments = comments_of(
         alloc,
         text,
@@ -110,6 +111,7 @@ fn parts_of(alloc: Global, text: &str, media_type: MediaType) -> Result<Parts, R
         &filed,
         &choices,
         &claims,
+        &calls,
     )?;
     Ok(Parts { program, comments })
 }

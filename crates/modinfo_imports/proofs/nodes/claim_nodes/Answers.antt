@@ -1,7 +1,8 @@
 -- Each turn adds the claims of one more node.
 use Rattle.std.proofs.Common.{refl, sym}
 use Rattle.std.proofs.lemmas.List.{append-nil}
-use Rattle.modinfo_imports.proofs.ClaimedNodes.{claims_below-all, claims_below-more}
+use Rattle.modinfo_imports.proofs.ClaimedNodes.{below-all, below-more}
+use Rattle.modinfo_imports.specs.Nodes.{claims_of}
 use Rattle.modinfo_imports.proofs.nodes.claim_nodes.Goals as goal
 
 pub loop-node-init : goal.loop-node-init
@@ -9,11 +10,11 @@ loop-node-init c = sym (append-nil c.args.claims.now.items)
 
 pub loop-node-preserved : goal.loop-node-preserved
 loop-node-preserved c =
-    claims_below-more c.args.text.now c.args.nodes.now c.loop-node.node-index c.node-item.result
+    below-more (claims_of c.args.text.now) c.args.nodes.now c.loop-node.node-index c.node-item.result
     c.args.claims.now.items c.loop-node.claims.items _ c.loop-node-test.true c.node-item.is
     c.loop-node.invariant c.in_ok-claim_below.ensures
 
 pub returns : goal.returns
 returns c =
-    claims_below-all c.args.text.now c.args.nodes.now c.args.nodes.now c.loop-node.node-index
+    below-all (claims_of c.args.text.now) c.args.nodes.now c.args.nodes.now c.loop-node.node-index
     c.args.claims.now.items c.loop-node.claims.items refl c.loop-node-test.false c.loop-node.invariant

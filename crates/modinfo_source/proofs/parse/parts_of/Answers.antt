@@ -1,15 +1,15 @@
--- The claims of the tree stand in the text.
+-- The text has the claims of the tree.
 use Rattle.std.proofs.Common.{subst}
 use Rattle.deno_graph_source.specs.MediaType.{is_typed}
 use Rattle.deno_graph_source.specs.declared.tree.node.Program.{Program}
-use Rattle.modinfo_imports.specs.Nodes.{AreClaims}
-use Rattle.modinfo_source.specs.OfText.{StandIn}
-use Rattle.modinfo_source.proofs.OfTexts.{HasComments-stand, IsOfText-claimed}
+use Rattle.modinfo_imports.specs.Nodes.{AreCalls, AreClaims}
+use Rattle.modinfo_source.specs.OfText.{HasClaims}
+use Rattle.modinfo_source.proofs.OfTexts.{HasComments-claimed, IsOfText-claimed}
 use Rattle.modinfo_source.proofs.parse.parts_of.Goals as goal
 
 pub returns-clause-comments : goal.returns-clause-comments
 returns-clause-comments c =
-    HasComments-stand c.args.text.now _ _ c.in_ok-comments.comments c.in_ok-comments.ensures
+    HasComments-claimed c.args.text.now _ _ _ c.in_ok-comments.comments c.in_ok-comments.ensures
 
 pub returns-clause-of_text : goal.returns-clause-of_text
 returns-clause-of_text c =
@@ -21,9 +21,15 @@ returns-clause-of_text c =
       has_shebang = c.in_ok-nodes.field-0.has_hashbang;
     } in
     let claims = c.in_ok-claims.claims.items in
-    let stand = subst (λ cs. StandIn text (is_typed c.args.media_type) cs comments) c.deref-3.ensures.value
-    (subst (λ typed. StandIn text typed c.deref-3.result.now comments) c.is_typed.ensures
-    c.in_ok-comments.ensures) in
+    let calls = c.in_ok-calls.calls.items in
+    let has = subst (λ cs. HasClaims text (is_typed c.args.media_type) claims cs comments)
+    c.deref-4.ensures.value
+    (subst (λ cs. HasClaims text (is_typed c.args.media_type) cs c.deref-4.result.now comments)
+    c.deref-3.ensures.value
+    (subst (λ typed. HasClaims text typed c.deref-3.result.now c.deref-4.result.now comments)
+    c.is_typed.ensures c.in_ok-comments.ensures)) in
     let are = subst (λ bytes. AreClaims bytes program claims) c.as_bytes.ensures.value
     c.in_ok-claims.ensures in
-    IsOfText-claimed text (is_typed c.args.media_type) program claims comments are stand
+    let are_calls = subst (λ bytes. AreCalls bytes program calls) c.as_bytes-2.ensures.value
+    c.in_ok-calls.ensures in
+    IsOfText-claimed text (is_typed c.args.media_type) program claims calls comments are are_calls has

@@ -1,0 +1,65 @@
+//! Words that dependencies begin with.
+
+ghost use Rattle.std.specs.Prelude.{◌≡◌};
+ghost use Rattle.modinfo_imports.specs.Keywords.{has_escape, is_import_word, keyword_of, may_be_require};
+
+use modinfo_pieces::bytes::byte_at;
+
+/// What a word is, as far as it may begin a dependency.
+#[derive(Clone, Copy)]
+pub enum Keyword {
+    Import,
+    /// `require`, or a word with escapes that may spell it.
+    Require,
+    Export,
+    Module,
+    /// `new` or `function`, after which a name isn't called.
+    New,
+    Other,
+}
+
+/// Returns what a word is.
+#[inline(always)]
+#[tactic(auto, unfolding(crate::specs::Keywords::keyword_of))]
+pub fn keyword_of(word: &[u8]) -> Keyword
+    ensures { result ≡ keyword_of word.now }
+{
+    if may_be_require(word) {
+        Keyword::Require
+    } else if is_import_word(word) {
+        Keyword::Import
+    } else if word == b"export".as_slice() {
+        Keyword::Export
+    } else if word == b"module".as_slice() {
+        Keyword::Module
+    } else if word == b"function".as_slice() || word == b"new".as_slice() {
+        Keyword::New
+    } else {
+        Keyword::Other
+    }
+}
+
+/// Returns whether a word is `import`.
+#[inline(always)]
+pub fn is_import_word(word: &[u8]) -> bool
+    ensures { result ≡ is_import_word word.now }
+{
+    word == b"import".as_slice()
+}
+
+/// Returns whether a word is `require`, or may spell it with escapes.
+#[inline(always)]
+#[tactic(auto, unfolding(crate::specs::Keywords::may_be_require))]
+pub fn may_be_require(word: &[u8]) -> bool
+    ensures { result ≡ may_be_require word.now }
+{
+    let first = byte_at(word, 0);
+    (first == b'r' || first == b'\\') && (word == b"require".as_slice() || has_escape(word))
+}
+
+/// Returns whether a word has an escape.
+pub fn has_escape(word: &[u8]) -> bool
+    ensures { result ≡ has_escape word.now }
+{
+    word.contains(&b'\\')
+}
