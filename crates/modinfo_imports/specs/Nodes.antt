@@ -86,8 +86,8 @@ literal_claim range literal =
 -- The bytes at a range, none if the text has no such range.
 abbrev pub bytes_at : List ℕ → SourceRange → List ℕ
 bytes_at text range =
-    (if nat_lt range.start range.end && nat_le range.end (length text) then slice_range text range.start range.end
-    else [])
+    (if nat_lt range.start range.end && nat_le range.end (length text)
+    then slice_range text range.start range.end else [])
 
 -- A name is a whole word, spelled as the name or with escapes, and isn't `import`.
 abbrev pub name_claim : List ℕ → SourceRange → List ℕ → Piece
