@@ -18,7 +18,8 @@ use Rattle.modinfo_imports.specs.Nodes.{AreClaims, claims_of}
 abbrev pub below : (Node → List Piece) → List Node → List Piece
 below own nodes = flat_map own (flat_map nodes_in nodes)
 
-below-append : (own : Node → List Piece) (xs ys : List Node) → below own (xs ++ ys) ≡ below own xs ++ below own ys
+below-append : (own : Node → List Piece) (xs ys : List Node)
+    → below own (xs ++ ys) ≡ below own xs ++ below own ys
 below-append own xs ys =
     ap (flat_map own) (flat_map-append nodes_in xs ys)
     ∙ flat_map-append own (flat_map nodes_in xs) (flat_map nodes_in ys)

@@ -1,7 +1,7 @@
 -- Claims that were met are pieces.
 use Rattle.std.proofs.Common.{◌≡◌, ℕ, zero, suc, Bool, true, false, ◌⊎◌, inl, inr, ⊎_elim, List, [], ◌∷◌}
-use Rattle.std.proofs.Common.{◌++◌, Option, Some, None, is_some, option_map, refl, sym, ap, ◌∙◌, subst}
-use Rattle.std.proofs.Common.{arith, get_or, if◌then◌else◌, true≢false, unwrap_or}
+use Rattle.std.proofs.Common.{◌++◌, Option, Some, None, is_some, option_map, refl, sym, ap, ◌∙◌, subst, arith}
+use Rattle.std.proofs.Common.{get_or, if◌then◌else◌, true≢false, unwrap_or}
 use Rattle.std.specs.List.{All, Contains}
 use Rattle.std.proofs.lemmas.Bool.{and_parts, eqb-true}
 use Rattle.std.proofs.lemmas.List.Elements.{Contains-append_left, Contains-get_or, Contains-push}
@@ -64,7 +64,8 @@ after_claims : (text : List ℕ) (is_typed : Bool) (context : Context) (piece : 
     → (watch.claims ≡ after.claims) ⊎ (claims_after piece watch.claims ≡ after.claims)
 after_claims text is_typed context piece watch after is =
     step_claims (is_gap piece.kind)
-    (met_by watch.duty (sight_of text watch.claims piece piece.kind) context.is_after_line_end is_typed) watch after
+    (met_by watch.duty (sight_of text watch.claims piece piece.kind) context.is_after_line_end is_typed)
+    watch after
     (watch_met text is_typed context piece watch) (claims_after piece watch.claims) (λ duty. refl) is
 
 -- each claim is a piece, or is still one of the claims

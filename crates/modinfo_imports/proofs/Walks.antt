@@ -27,7 +27,8 @@ pub IsWalked-more : (text : List ℕ) (is_typed : Bool) (choices : List Choice) 
     → watch_after text is_typed context piece watch ≡ Some after
     → new_comments ≡ comments ++ filter is_comment (piece ∷ [])
     → IsWalked text is_typed choices claims calls next after new_comments
-IsWalked-more text is_typed choices claims calls place next context watch after comments piece new_comments walked
+IsWalked-more text is_typed choices claims calls place next context watch after comments piece new_comments
+    walked
     step is seen comments_are = record {
       pieces = walked.pieces ++ piece ∷ [];
       leads = more walked.leads step;
@@ -50,7 +51,8 @@ HasFound-walked text is_typed choices claims calls place watch comments walked e
     watches = walked.watches;
     is_watch_end = watch_end;
   };
-  are_pieces = claims-are_pieces text is_typed (start choices) claims calls walked.pieces place watch walked.watches
+  are_pieces = claims-are_pieces text is_typed (start choices) claims calls walked.pieces place watch
+      walked.watches
       watch_end;
   comments_are = walked.comments_are;
 }
@@ -58,13 +60,15 @@ HasFound-walked text is_typed choices claims calls place watch comments walked e
 -- No piece leads from the start to the start.
 pub IsWalked-none : (text : List ℕ) (is_typed : Bool) (choices : List Choice) (claims calls : List Piece)
     (place : Place) (watch : Watch) (comments : List Piece) → place ≡ start choices
-    → watch ≡ watch_start claims calls → comments ≡ [] → IsWalked text is_typed choices claims calls place watch comments
+    → watch ≡ watch_start claims calls → comments ≡ [] → IsWalked text is_typed choices claims calls place
+    watch comments
 IsWalked-none text is_typed choices claims calls place watch comments is is_watch no_comments = record {
   pieces = [];
   leads = subst (λ (p : Place). Leads text (start choices) [] p) (sym is) none;
   watches = subst (λ (p : Place). Watches text is_typed (start choices) (watch_start claims calls) [] p watch)
       (sym is)
-      (subst (λ (w : Watch). Watches text is_typed (start choices) (watch_start claims calls) [] (start choices) w)
+      (subst (λ (w : Watch). Watches text is_typed (start choices) (watch_start claims calls) [] (start
+      choices) w)
       (sym is_watch) watch_none);
   comments_are = no_comments;
 }

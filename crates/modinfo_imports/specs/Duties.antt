@@ -1,5 +1,5 @@
--- What a word asks of the tokens after it where a dependency may begin: they show that none begins, or that the
--- tree has its specifier. ⏎ is a line end.
+-- What a word asks of the tokens after it where a dependency may begin: they show that none begins, or that
+-- the tree has its specifier. ⏎ is a line end.
 use Rattle.std.specs.Prelude.{ℕ, ◌==◌, Bool, true, false, ◌&&◌, ◌||◌, List, [], ◌∷◌, Option, Some, None}
 use Rattle.std.specs.Prelude.{codes, if◌then◌else◌, slice_index, slice_range}
 use Rattle.std.specs.Str.{bytes_eq}
@@ -92,8 +92,9 @@ duty_after_parameters sight is_after_line_end is_typed =
     (if begins_body sight || (is_typed && (is_after_line_end || ends_member sight)) then Some duties.Nothing
     else None)
 
--- After `require` at which no call begins: anything but `(`. It may be the `(` of a method, `{ require() {} }`, or
--- one on another line, after the name of a variable or a type: `let require⏎(a)`, `let a: require⏎(b)`.
+-- After `require` at which no call begins: anything but `(`. It may be the `(` of a method,
+-- `{ require() {} }`, or one on another line, after the name of a variable or a type: `let require⏎(a)`,
+-- `let a: require⏎(b)`.
 abbrev pub duty_after_require : Bool → Sight → Bool → Option Duty
 duty_after_require may_be_method (Byte byte) is_after_line_end =
     (if byte == 40 then (if may_be_method then Some duties.Parenthesis

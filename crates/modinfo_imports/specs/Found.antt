@@ -7,8 +7,8 @@ use Rattle.modinfo_pieces.specs.Tiles.{AreTiles, is_comment}
 use Rattle.modinfo_pieces.specs.declared.choice.Choice.{Choice}
 use Rattle.modinfo_pieces.specs.declared.piece.Piece.{Piece}
 
--- A watch goes over the pieces of a text to its end: each claim is met, and no word that a dependency begins with
--- is lost.
+-- A watch goes over the pieces of a text to its end: each claim is met, and no word that a dependency begins
+-- with is lost.
 pub record AreWatched (text : List ℕ) (is_typed : Bool) (choices : List Choice)
     (claims calls pieces : List Piece) : Type 0 where
   pub end : Place

@@ -1,8 +1,8 @@
--- The pieces of a text that the nodes of its tree have: the word that each node begins with which may report a
--- dependency, and each string, name and template of the tree.
-use Rattle.std.specs.Prelude.{ℕ, ◌+◌, ◌-◌, ◌==◌, Bool, true, false, ◌&&◌, ◌||◌, List, [], ◌∷◌, ◌++◌, Option, Some}
-use Rattle.std.specs.Prelude.{None, codes, if◌then◌else◌, length, nat_le, nat_lt, not, option_map, slice_index}
-use Rattle.std.specs.Prelude.{slice_range}
+-- The pieces of a text that the nodes of its tree have: the word that each node begins with which may report
+-- a dependency, and each string, name and template of the tree.
+use Rattle.std.specs.Prelude.{ℕ, ◌+◌, ◌-◌, ◌==◌, Bool, true, false, ◌&&◌, ◌||◌, List, [], ◌∷◌, ◌++◌, Option}
+use Rattle.std.specs.Prelude.{Some, None, codes, if◌then◌else◌, length, nat_le, nat_lt, not, option_map}
+use Rattle.std.specs.Prelude.{slice_index, slice_range}
 use Rattle.std.specs.List.{flat_map}
 use Rattle.std.specs.List.Sorted.{IsPermutation}
 use Rattle.std.specs.Option.{option_to_list}

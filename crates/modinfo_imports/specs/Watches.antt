@@ -76,7 +76,8 @@ is_flags context previous last =
 -- A word is a name by what is before. `#import` is a name too.
 unfoldable pub is_name : Context → ℕ → ℕ → Bool
 is_name context previous last =
-    (is_dot context.before || (previous == 35)) || (is_in_tag context.inside || is_flags context previous last)
+    (is_dot context.before || (previous == 35)) || (is_in_tag context.inside || is_flags context previous
+    last)
 
 -- What a word is that isn't a name.
 abbrev pub keyword_at : List ℕ → Context → Piece → ℕ → Keyword
@@ -84,13 +85,14 @@ keyword_at text context piece last =
     (if is_name context (slice_index text (piece.start - 1)) last then keywords.Other
     else keyword_of (slice_range text piece.start piece.end))
 
--- In TypeScript a member may end at a line end after `void` or `?`: `interface A { a(): void⏎ import(b): c }`,
--- `class A { a?⏎ import() {} }`.
+-- In TypeScript a member may end at a line end after `void` or `?`: `interface A { a(): void⏎ import(b): c
+-- }`, `class A { a?⏎ import() {} }`.
 abbrev pub may_end_member : Bool → Context → ℕ → Bool
-may_end_member is_typed context last = (is_typed && context.is_after_line_end) && ((last == 118) || (last == 63))
+may_end_member is_typed context last = (is_typed && context.is_after_line_end) && ((last == 118) || (last ==
+    63))
 
--- A method may be named after a token: after `{`, `}`, `;`, `,`, `*` or `>`, the end of a member, or a word as
--- `get`, but not after `?`, `:`, `=`, `=>`, `(` or an operator, as `a ? import(b) : c`, `case import(b):`,
+-- A method may be named after a token: after `{`, `}`, `;`, `,`, `*` or `>`, the end of a member, or a word
+-- as `get`, but not after `?`, `:`, `=`, `=>`, `(` or an operator, as `a ? import(b) : c`, `case import(b):`,
 -- `await import(b)`.
 abbrev pub may_be_method : Bool → Context → ℕ → Bool
 may_be_method is_typed context last =
@@ -137,7 +139,8 @@ duty_after_word keywords.Import claimed called in_braces may_be_method before me
     (if claimed || is_after_claim before then duties.Alias
     else duties.Import in_braces (in_braces && may_be_method))
 duty_after_word keywords.Require claimed called in_braces may_be_method before met =
-    (if called || (is_no_call before || is_alias met) then met else duties.Require (in_braces && may_be_method))
+    (if called || (is_no_call before || is_alias met) then met else duties.Require (in_braces &&
+    may_be_method))
 duty_after_word keywords.Export claimed called in_braces may_be_method before met =
     duties.Export (in_braces && not claimed) claimed
 duty_after_word keywords.Module claimed called in_braces may_be_method before met =

@@ -22,8 +22,9 @@ pub record HasClaims (text : List ℕ) (is_typed : Bool) (claims calls : List Pi
   pub are_watched : AreWatched text is_typed choices claims calls pieces
 
 -- A tree and its comments are those of a text: the text is pieces side by side, and the comments are exactly
--- those among them. Nothing is invented: each piece that a node has is one of the text's. Nothing is lost: at each
--- word of the text that a dependency begins with a node begins, or what is around the word shows that none does.
+-- those among them. Nothing is invented: each piece that a node has is one of the text's. Nothing is lost: at
+-- each word of the text that a dependency begins with a node begins, or what is around the word shows that
+-- none does.
 pub record IsOfText (text : List ℕ) (is_typed : Bool) (program : Program) (comments : FiledComments) : Type 0
   where
     pub choices : List Choice

@@ -18,7 +18,8 @@ loop-child-preserved t c =
 pub returns : goal.returns
 unfolding children_of
 returns t c =
-    below-node (claims_of c.args.text.now) c.args.node.now c.args.claims.now.items _ c.loop-child.claims.items refl
+    below-node (claims_of c.args.text.now) c.args.node.now c.args.claims.now.items _
+    c.loop-child.claims.items refl
     (below-all (claims_of c.args.text.now) (children_of c.args.node.now) c.as_slice-child-items.result.now
     c.loop-child.child-index _ c.loop-child.claims.items c.as_slice-child-items.ensures
     c.loop-child-test.false c.loop-child.invariant)
