@@ -53,6 +53,8 @@
  *     Tree              `analyze`: the JSON isn't a module document.
  *     Specifier         `analyze`: the specifier isn't a URL.
  *     Syntax            `analyze --source`: the source text has a syntax error.
+ *     Defect            `analyze --source`: what was read isn't the text's. A defect of modinfo: please
+ *                       report the text.
  *     RangeReversed     `analyze`: a range starts after its end.
  *     RangeOutside      `analyze`: a range ends after the source.
  *     RangeOffBoundary  `analyze`: a range starts or ends inside a character.
@@ -190,8 +192,8 @@ enum {
 };
 
 /* Reads a source text of JavaScript or TypeScript with its specifier, an absolute URL, and writes its ModuleInfo. Both
- * are in UTF-8. The fault is Input where one isn't, else Specifier or Syntax. Returns MODINFO_NO_MEDIA_TYPE where no
- * media type has the number. */
+ * are in UTF-8. The fault is Input where one isn't, else Specifier, Syntax or Defect. Returns MODINFO_NO_MEDIA_TYPE
+ * where no media type has the number. */
 uint8_t modinfo_analyze_source(const uint8_t *text, size_t text_length,
                                const uint8_t *specifier, size_t specifier_length, uint8_t media_type,
                                uint8_t *answer, size_t room, size_t *length) MODINFO_NONNULL;

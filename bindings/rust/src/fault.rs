@@ -46,6 +46,8 @@ faults! {
     Specifier,
     /// `analyze --source`: the source text has a syntax error.
     Syntax,
+    /// `analyze --source`: what was read isn't the text's. A defect of modinfo: please report the text.
+    Defect,
     /// `analyze`: a range starts after its end.
     RangeReversed,
     /// `analyze`: a range ends after the source.

@@ -64,8 +64,8 @@ pub struct FaultReport {
     #[serde(default, skip_serializing_if = "is_default")]
     pub range: Option<ByteRange>,
     /// For `Input`: the first byte that is in no UTF-8. For `Json`: the first invalid byte of the
-    /// first token that can't be read, or the start of the token. For `Syntax`: the place in the
-    /// source text.
+    /// first token that can't be read, or the start of the token. For `Syntax` and `Defect`: the
+    /// place in the source text.
     #[serde(default, skip_serializing_if = "is_default")]
     pub at: Option<TextPlace>,
     /// What was expected there, in words that later versions may change.

@@ -1,11 +1,13 @@
 -- Source texts: the faults of each step.
 use Rattle.std.proofs.Common.{◌≡◌, ◌⊎◌, ◌∙◌, ap, inl, inr, refl, subst, sym, ℕ, List, Option, Some, None}
-use Rattle.std.proofs.Common.{Result, Ok, Err, IfOk, MatchResult, String, Global, string_bytes}
+use Rattle.std.proofs.Common.{Result, Ok, Err, IfOk, MatchResult, String, Global, length, string_bytes}
 use Rattle.url.specs.Parts.{Parts}
+use Rattle.deno_graph_source.specs.MediaType.{is_typed}
 use Rattle.deno_graph_source.specs.ParsedSource.{ParsedModule}
 use Rattle.deno_graph_source.specs.Source.{IsValid}
-use Rattle.deno_graph_source.specs.declared.tree.parse_error.ParseError.{ParseError as SyntaxError}
+use Rattle.modinfo_source.specs.OfText.{IsOfText}
 use Rattle.modinfo_source.specs.Spelled.{IsSpelled}
+use Rattle.modinfo_source.specs.declared.error.TextError.{TextError}
 use Rattle.serde_json.specs.Data.{Data}
 use Rattle.serde_json.specs.Read.{read as read_text}
 use Rattle.url.specs.Parser.{IsOutOfRoom, parse_url}
@@ -59,19 +61,26 @@ text_answer document text (Ok printed) is h = (text, is, h)
 text_answer document text (Err fault) is h = inr (text, is, h)
 
 -- What the parser makes of a text is a source of that text.
-pub is_parsed : (text : SourceText) (url : Parts) (answer : Result ParsedModule SyntaxError)
+pub is_parsed : (text : SourceText) (url : Parts) (answer : Result ParsedModule TextError)
     → parse_url None text.specifier ≡ Ok url
     → IfOk answer (λ source. source.specifier ≡ url)
     → IfOk answer (λ source. source.text ≡ text.source)
     → IfOk answer (λ source. source.media_type ≡ media_type_in url text.media_type)
     → IfOk answer (λ source. IsValid source.text source.program source.comments)
     → IfOk answer (λ source. IsSpelled text.source source.program)
+    → IfOk answer (λ source.
+    IsOfText text.source (is_typed (media_type_in url text.media_type)) source.program source.comments)
+    → IfOk answer (λ source. source.program.range ≡ record { start = 0; end = length text.source })
     → IfOk answer (IsParsed text)
-is_parsed text url (Ok source) parses specifier same media_type valid spelled = record {
+is_parsed text url (Ok source) parses specifier same media_type valid spelled of_text range = record {
   specifier = parses ∙ ap Ok (sym specifier);
   source = same;
   media_type = media_type ∙ ap (λ u. media_type_in u text.media_type) (sym specifier);
   valid = valid;
   spelled = subst (λ t. IsSpelled t source.program) (sym same) spelled;
+  of_text = subst (λ m. IsOfText source.text (is_typed m) source.program source.comments) (sym media_type)
+      (subst (λ t. IsOfText t (is_typed (media_type_in url text.media_type)) source.program source.comments)
+      (sym same) of_text);
+  range = subst (λ t. source.program.range ≡ record { start = 0; end = length t }) (sym same) range;
 }
-is_parsed text url (Err error) parses specifier same media_type valid spelled = tt
+is_parsed text url (Err error) parses specifier same media_type valid spelled of_text range = tt

@@ -33,7 +33,7 @@ use Rattle.modinfo.specs.Fault.{name_of_fault}
 use Rattle.modinfo.specs.Reach.{Asks, IsQuestionFault}
 use Rattle.modinfo.specs.Source.{CanBeParsed, IsNoInfoOfText, reads_text}
 use Rattle.modinfo.specs.declared.fault.Fault.{Fault}
-use Rattle.modinfo.specs.declared.fault.Fault.TheVariants.{OutOfMemory, Specifier, Syntax}
+use Rattle.modinfo.specs.declared.fault.Fault.TheVariants.{Defect, OutOfMemory, Specifier, Syntax}
 use Rattle.modinfo.specs.declared.source.SourceText.{SourceText}
 
 -- The first holds where the report is `Valid`, the second of the report on a fault.
@@ -139,20 +139,23 @@ IsExpectedBy message expected = (message ≡ codes "expected " ++ expected)
 
 -- The report has the pointer of the source of a document, and a place: a position of the text, and the offset
 -- that the position has there. It has no other pointer, and no range.
-pub record HasSyntaxPlace (text : List ℕ) (report : FaultReport) : Type 0 where
+pub record HasSourcePlace (text : List ℕ) (report : FaultReport) : Type 0 where
   pub pointer : IsSomeAnd report.pointer (λ pointer. string_bytes pointer ≡ codes "/source")
   pub other : report.other ≡ None
   pub range : report.range ≡ None
   pub at : IsSomeAnd report.at (λ at. IsAt text at.position at.offset)
 
--- The report has the place of the fault: of a bad specifier the specifier, of a syntax error the source.
+-- The report has the place of the fault: of a bad specifier the specifier, of a syntax error or a defect the
+-- source.
 abbrev pub HasUnparsedPlace : SourceText → Fault → FaultReport → Type 0
 HasUnparsedPlace text Specifier report = HasPath specifier_path report
-HasUnparsedPlace text Syntax report = HasSyntaxPlace text.source report
+HasUnparsedPlace text Syntax report = HasSourcePlace text.source report
+HasUnparsedPlace text Defect report = HasSourcePlace text.source report
 HasUnparsedPlace text fault report = Unit {0}
 
 -- The text has a fault for which it has no information, and the report has the fault's name and place. Of a
--- syntax error this says only that the specifier is a URL, and that the report's place is one of the source.
+-- syntax error and a defect this says only that the specifier is a URL, and that the report's place is one of
+-- the source.
 pub record ReportsUnparsed (text : SourceText) (report : FaultReport) : Type 0 where
   pub fault : Fault
   pub no_memory : fault ≢ OutOfMemory

@@ -2,12 +2,12 @@
 use Rattle.std.specs.Prelude.{ℕ, List, codes, Bool, false, true}
 use Rattle.deno_graph_info.specs.FaultName.{convert_fault_name, info_fault_name}
 use Rattle.deno_graph_source.specs.FaultName.{fault_name}
-use Rattle.deno_graph_source.specs.declared.tree.parse_error.ParseError.{ParseError}
-use Rattle.deno_graph_source.specs.declared.tree.parse_error.ParseError.TheVariants as parse
 use Rattle.deno_graph_json.specs.declared.flat.error.TapeError.{TapeError}
 use Rattle.deno_graph_json.specs.declared.flat.error.TapeError.TheVariants as tape
 use Rattle.modinfo_document.specs.declared.error.DocumentError.{DocumentError}
 use Rattle.modinfo_document.specs.declared.error.DocumentError.TheVariants as error
+use Rattle.modinfo_source.specs.declared.error.TextError.{TextError}
+use Rattle.modinfo_source.specs.declared.error.TextError.TheVariants as text
 use Rattle.deno_graph_info.specs.declared.analysis.fault.InfoFault.{InfoFault}
 use Rattle.deno_graph_info.specs.declared.conversion.fault.ConvertFault.{ConvertFault}
 use Rattle.deno_graph_info.specs.declared.conversion.fault.ConvertFault.TheVariants as convert
@@ -15,8 +15,8 @@ use Rattle.deno_graph_json.specs.declared.error.ReadError.{ReadError}
 use Rattle.deno_graph_json.specs.declared.error.ReadError.TheVariants as read
 use Rattle.modinfo.specs.declared.reach.QuestionError.{QuestionError}
 use Rattle.modinfo.specs.declared.fault.Fault.{Fault}
-use Rattle.modinfo.specs.declared.fault.Fault.TheVariants.{Input, Json, Tree, Specifier, Syntax, Source}
-use Rattle.modinfo.specs.declared.fault.Fault.TheVariants.{Convert, Info, Output, Closed, OutOfMemory}
+use Rattle.modinfo.specs.declared.fault.Fault.TheVariants.{Input, Json, Tree, Specifier, Syntax, Defect}
+use Rattle.modinfo.specs.declared.fault.Fault.TheVariants.{Source, Convert, Info, Output, Closed, OutOfMemory}
 
 -- The fault for an error of a flat list.
 abbrev pub fault_of_tape : TapeError → Fault
@@ -31,10 +31,11 @@ fault_of_document error.Specifier = Specifier
 fault_of_document (error.Source fault) = Source fault
 fault_of_document error.OutOfMemory = OutOfMemory
 
--- The fault for an error of the parser.
-abbrev pub fault_of_parse : ParseError → Fault
-fault_of_parse (parse.Diagnostic diagnostic) = Syntax
-fault_of_parse parse.OutOfMemory = OutOfMemory
+-- The fault of a text without a source.
+abbrev pub fault_of_text : TextError → Fault
+fault_of_text (text.Syntax diagnostic) = Syntax
+fault_of_text (text.Defect position) = Defect
+fault_of_text text.OutOfMemory = OutOfMemory
 
 -- The fault for an error of the conversion.
 abbrev pub fault_of_conversion : ConvertFault → Fault
@@ -67,6 +68,7 @@ name_of_fault Json = codes "Json"
 name_of_fault Tree = codes "Tree"
 name_of_fault Specifier = codes "Specifier"
 name_of_fault Syntax = codes "Syntax"
+name_of_fault Defect = codes "Defect"
 name_of_fault (Source fault) = fault_name fault
 name_of_fault (Convert fault) = convert_fault_name fault
 name_of_fault (Info fault) = info_fault_name fault

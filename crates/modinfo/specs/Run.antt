@@ -10,8 +10,8 @@ use Rattle.modinfo.specs.Fault.{IsWriteFault, is_closed, name_of_fault}
 use Rattle.modinfo.specs.declared.command.Command.{Command}
 use Rattle.modinfo.specs.declared.command.Command.TheVariants.{Answer, Check}
 use Rattle.modinfo.specs.declared.fault.Fault.{Fault}
-use Rattle.modinfo.specs.declared.fault.Fault.TheVariants.{Input, Json, Tree, Specifier, Syntax, Source}
-use Rattle.modinfo.specs.declared.fault.Fault.TheVariants.{Convert, Info, Output, Closed, OutOfMemory}
+use Rattle.modinfo.specs.declared.fault.Fault.TheVariants.{Input, Json, Tree, Specifier, Syntax, Defect}
+use Rattle.modinfo.specs.declared.fault.Fault.TheVariants.{Source, Convert, Info, Output, Closed, OutOfMemory}
 use Rattle.modinfo.specs.declared.format.Format.{Format}
 
 -- A beginning of the text was appended.
@@ -30,6 +30,7 @@ IsFailure Json = ⊥
 IsFailure Tree = ⊥
 IsFailure Specifier = ⊥
 IsFailure Syntax = ⊥
+IsFailure Defect = ⊥
 IsFailure (Source fault) = ⊥
 IsFailure (Convert fault) = ⊥
 IsFailure (Info fault) = ⊥

@@ -1,6 +1,6 @@
 -- Source texts: documents of `analyze --source`, the parts that C hands in, and the information on a text.
 use Rattle.std.specs.Prelude.{◌≡◌, ◌==◌, ◌⊎◌, ℕ, List, codes, Option, None, Some, IsUtf8, Err, Ok, unwrap_or}
-use Rattle.std.specs.Prelude.{Bool, is_some, if◌then◌else◌}
+use Rattle.std.specs.Prelude.{Bool, is_some, if◌then◌else◌, length}
 use Rattle.serde_json.specs.Data.{Data}
 use Rattle.serde_json.specs.Find.{as_object, as_str}
 use Rattle.serde_json.specs.Read.{read as read_text}
@@ -9,7 +9,7 @@ use Rattle.url.specs.Parser.{parse_url}
 use Rattle.url.specs.Parts.{Parts}
 use Rattle.url.specs.declared.error.ParseError.{ParseError}
 use Rattle.deno_graph_json.specs.Read.Partial.{◌>>=◌, member_at, member_or, reads_optional}
-use Rattle.deno_graph_source.specs.MediaType.{media_type_of}
+use Rattle.deno_graph_source.specs.MediaType.{is_typed, media_type_of}
 use Rattle.deno_graph_source.specs.ParsedSource.{ParsedModule}
 use Rattle.deno_graph_source.specs.Source.{IsValid}
 use Rattle.deno_graph_source.specs.declared.tree.media_type.MediaType.{MediaType}
@@ -19,9 +19,11 @@ use Rattle.deno_graph_info.specs.declared.analysis.module_info.ModuleInfo.{Modul
 use Rattle.deno_graph_module_info.specs.InfoOfModule.{IsInfoOfModule}
 use Rattle.modinfo_document.specs.Kind.{media_types}
 use Rattle.modinfo_document.specs.Named.{reads_named}
+use Rattle.modinfo_source.specs.OfText.{IsOfText}
 use Rattle.modinfo_source.specs.Spelled.{IsSpelled}
 use Rattle.modinfo.specs.declared.fault.Fault.{Fault}
-use Rattle.modinfo.specs.declared.fault.Fault.TheVariants.{Input, Json, Tree, Specifier, Syntax, OutOfMemory}
+use Rattle.modinfo.specs.declared.fault.Fault.TheVariants.{Input, Json, Tree, Specifier, Syntax, Defect}
+use Rattle.modinfo.specs.declared.fault.Fault.TheVariants.{OutOfMemory}
 use Rattle.modinfo.specs.declared.source.SourceText.{SourceText}
 
 -- The three members of an object. Other members are ignored.
@@ -37,14 +39,16 @@ reads_text value = do
 abbrev pub media_type_in : Parts → Option MediaType → MediaType
 media_type_in url named = unwrap_or named (media_type_of url)
 
--- A valid source with the URL, the text and the media type, whose literals have the values that the text
--- spells. Its tree is otherwise any that fits the text.
+-- A valid source with the URL, the text and the media type. Its tree and its comments are the text's: nothing
+-- in them is invented, no dependency is lost, and the literals have the values that the text spells.
 pub record IsParsed (text : SourceText) (module_ : ParsedModule) : Type 0 where
   pub specifier : parse_url None text.specifier ≡ Ok module_.specifier
   pub source : module_.text ≡ text.source
   pub media_type : module_.media_type ≡ media_type_in module_.specifier text.media_type
   pub valid : IsValid module_.text module_.program module_.comments
   pub spelled : IsSpelled module_.text module_.program
+  pub of_text : IsOfText module_.text (is_typed module_.media_type) module_.program module_.comments
+  pub range : module_.program.range ≡ record { start = 0; end = length module_.text }
 
 -- The compact JSON of the information on such a source.
 abbrev pub IsInfoOfText : SourceText → List ℕ → Type 0
@@ -52,16 +56,16 @@ IsInfoOfText text printed = (module_ : ParsedModule) × IsParsed text module_
     × (info : ModuleInfo) × IsInfoOfModule module_ info
     × (printed ≡ compact_text (json_of_info info))
 
--- Why a text has no information: its specifier is no URL, or else the parser reported a syntax error; or an
--- allocation failed. Of a syntax error this says only that the specifier is a URL.
+-- Why a text has no information: its specifier is no URL, or else the parser reported a syntax error, or read
+-- what isn't the text's; or an allocation failed. Of the parser this says only that the specifier is a URL.
 abbrev pub IsNoInfoOfText : SourceText → Fault → Type 0
 IsNoInfoOfText text Specifier = (error : ParseError) × (parse_url None text.specifier ≡ Err error)
 IsNoInfoOfText text Syntax = (url : Parts) × (parse_url None text.specifier ≡ Ok url)
+IsNoInfoOfText text Defect = (url : Parts) × (parse_url None text.specifier ≡ Ok url)
 IsNoInfoOfText text OutOfMemory = Unit {0}
 IsNoInfoOfText text fault = ⊥
 
--- There is a source of the text. This is so exactly where the specifier is a URL: an empty program without
--- comments is a source of every such text. So it doesn't say that the parser accepts the text.
+-- There is a source of the text. That the parser accepts the text isn't said.
 abbrev pub CanBeParsed : SourceText → Type 0
 CanBeParsed text = (module_ : ParsedModule) × IsParsed text module_
 

@@ -6,8 +6,9 @@ ghost use Rattle.modinfo.specs.Fault.{IsWriteFault, is_closed, name_of_fault};
 use crate::reach::QuestionError;
 use deno_graph_info::analysis::{ConvertFault, InfoFault};
 use deno_graph_json::{ReadError, TapeError};
-use deno_graph_source::tree::{ParseError, SourceFault};
+use deno_graph_source::tree::SourceFault;
 use modinfo_document::DocumentError;
+use modinfo_source::TextError;
 use std::alloc::{AllocError, AllocFailed};
 use std::error::Error;
 use std::io::ErrorKind;
@@ -27,6 +28,8 @@ pub enum Fault {
     Specifier,
     /// The source text has a syntax error.
     Syntax,
+    /// What the parser read isn't the source text's: a defect of the program, to be reported.
+    Defect,
     /// The tree or the comments don't fit the source.
     Source(SourceFault),
     /// The stored information can't be converted.
@@ -53,6 +56,7 @@ impl Fault {
             Fault::Tree => "Tree",
             Fault::Specifier => "Specifier",
             Fault::Syntax => "Syntax",
+            Fault::Defect => "Defect",
             Fault::Source(fault) => fault.name(),
             Fault::Convert(fault) => fault.name(),
             Fault::Info(fault) => fault.name(),
@@ -136,19 +140,20 @@ impl From<DocumentError> for Fault {
     }
 }
 
-impl From<ParseError> for Fault {
+impl From<TextError> for Fault {
     ghost use Rattle.std.specs.Prelude.{◌≡◌};
-    ghost use Rattle.modinfo.specs.Fault.{fault_of_parse};
+    ghost use Rattle.modinfo.specs.Fault.{fault_of_text};
 
-    ghost from_gives = { λ parse_error fault. fault ≡ fault_of_parse parse_error };
+    ghost from_gives = { λ text_error fault. fault ≡ fault_of_text text_error };
 
-    fn from(error: ParseError) -> Fault {
+    fn from(error: TextError) -> Fault {
         match error {
-            ParseError::Diagnostic(diagnostic) => {
+            TextError::Syntax(diagnostic) => {
                 drop(diagnostic);
                 Fault::Syntax
             }
-            ParseError::OutOfMemory => Fault::OutOfMemory,
+            TextError::Defect(_) => Fault::Defect,
+            TextError::OutOfMemory => Fault::OutOfMemory,
         }
     }
 }

@@ -18,10 +18,10 @@ use deno_graph_info::analysis::ModuleInfo;
 use deno_graph_json::to_text;
 use deno_graph_module_info::module_info;
 use deno_graph_source::text::Position;
-use deno_graph_source::tree::{MediaType, ParseError};
+use deno_graph_source::tree::MediaType;
 use deno_graph_source::values::Text;
 use memchr::memchr;
-use modinfo_source::parse_module;
+use modinfo_source::{DEFECT, TextError, parse_module};
 use percent_encoding::{DecodeError, percent_decode_str};
 use simdutf8::basic;
 use std::alloc::{AllocError, AllocFailed, Global};
@@ -259,7 +259,7 @@ fn put_line(
 struct FileFault {
     fault: Fault,
     message: Message,
-    /// Line and character of a syntax error, counted from zero.
+    /// Line and character of a syntax error or a defect, counted from zero.
     position: Option<Position>,
 }
 
@@ -332,15 +332,20 @@ impl From<Fault> for FileFault {
     }
 }
 
-impl From<ParseError> for FileFault {
-    fn from(error: ParseError) -> FileFault {
+impl From<TextError> for FileFault {
+    fn from(error: TextError) -> FileFault {
         match error {
-            ParseError::Diagnostic(diagnostic) => FileFault {
+            TextError::Syntax(diagnostic) => FileFault {
                 fault: Fault::Syntax,
                 message: Message::OfParser(diagnostic.message),
                 position: Some(diagnostic.position),
             },
-            ParseError::OutOfMemory => FileFault::out_of_memory(),
+            TextError::Defect(position) => FileFault {
+                fault: Fault::Defect,
+                message: Message::Fixed(DEFECT),
+                position: Some(position),
+            },
+            TextError::OutOfMemory => FileFault::out_of_memory(),
         }
     }
 }

@@ -61,6 +61,7 @@ Faults:
 
   Input            a name or a file can't be read, isn't UTF-8, or is no regular file
   Syntax           the text has a syntax error
+  Defect           what was read isn't the text's: a defect of modinfo, please report the text
   Output           a write fails; there is no line if that is because the reader of the output ended
   OutOfMemory      an allocation failed
 "#;
@@ -92,6 +93,8 @@ Faults:
   Tree             the JSON isn't a module document
   Specifier        the specifier is no URL
   Syntax           with --source: the text has a syntax error
+  Defect           with --source: what was read isn't the text's: a defect of modinfo, please report
+                   the text
   RangeReversed, RangeOutside, RangeOffBoundary, CommentText, CommentsOverlap, Shape
                    the tree or the comments don't fit the source
   Output           a write fails; there is no line if that is because the reader of the output ended

@@ -4,11 +4,12 @@ ghost use Rattle.std.specs.Prelude.{◌≡◌, Err, IfOk, MatchResult, None, Ok,
 ghost use Rattle.std.specs.String.{string_bytes};
 ghost use Rattle.url.specs.Parser.{parse_url};
 ghost use Rattle.deno_graph_base.specs.Position.{HasPosition};
+ghost use Rattle.deno_graph_base.specs.declared.text.position.Position.{Position};
 ghost use Rattle.deno_graph_json.specs.Data.{data_of};
 ghost use Rattle.deno_graph_json.specs.Read.Result.{IsReadResult};
 ghost use Rattle.deno_graph_source.specs.declared.tree.parse_error.ParseDiagnostic.{ParseDiagnostic};
-ghost use Rattle.deno_graph_source.specs.declared.tree.parse_error.ParseError.TheVariants.{Diagnostic};
 ghost use Rattle.modinfo.specs.Fault.{fault_of_document};
+ghost use Rattle.modinfo_source.specs.declared.error.TextError.TheVariants.{Defect, Syntax};
 ghost use Rattle.modinfo.specs.Source.{AreNoParts, HasParts, IsInfoOfText, IsNoInfoOfText, IsNoText, IsParsed, IsTextIn};
 ghost use Rattle.modinfo.specs.Source.{is_media_type, media_type_at, reads_text};
 
@@ -16,11 +17,11 @@ use crate::fault::Fault;
 use crate::input::as_text;
 use deno_graph_json::{Element, ObjectReader, ReadError, Tape};
 use deno_graph_module_info::module_info;
-use deno_graph_source::tree::{MediaType, ParseError, ParsedSource};
+use deno_graph_source::tree::{MediaType, ParsedSource};
 use deno_graph_source::values::Text;
 use json::Scratch;
 use modinfo_document::{Document, DocumentError};
-use modinfo_source::parse_module;
+use modinfo_source::{TextError, parse_module};
 use std::alloc::Global;
 use std::rc::RcStr;
 use url::Url;
@@ -87,7 +88,8 @@ impl SourceText {
     }
 
     /// The information on the module of the text, as compact JSON. `Specifier` if the specifier is no
-    /// URL, else `Syntax` if the text has a syntax error; `OutOfMemory` if an allocation fails.
+    /// URL, else `Syntax` if the text has a syntax error, `Defect` if what was read isn't the text's;
+    /// `OutOfMemory` if an allocation fails.
     pub fn info_text(self, alloc: Global) -> Result<String, Fault>
         ensures { MatchResult result (λ text. IsInfoOfText self (string_bytes text)) (IsNoInfoOfText self) }
     {
@@ -104,12 +106,15 @@ impl SourceText {
         Ok(Url::parse(alloc, self.specifier.as_str())?)
     }
 
-    /// The source that the parser makes of the text, whose specifier was parsed. `Diagnostic` if the text
-    /// has a syntax error, with a position of the text; `OutOfMemory` if an allocation fails.
-    pub fn into_source(self, alloc: Global, specifier: Url) -> Result<ParsedSource, ParseError>
+    /// The source that the parser makes of the text, whose specifier was parsed. `Syntax` if the text has a
+    /// syntax error, and `Defect` if what was read isn't the text's, both with a position of the text;
+    /// `OutOfMemory` if an allocation fails.
+    pub fn into_source(self, alloc: Global, specifier: Url) -> Result<ParsedSource, TextError>
         ensures parsed { parse_url None self.specifier ≡ Ok specifier → IfOk result (IsParsed self) }
-        ensures position { (diagnostic : ParseDiagnostic) → result ≡ Err (Diagnostic diagnostic)
+        ensures position { (diagnostic : ParseDiagnostic) → result ≡ Err (Syntax diagnostic)
             → HasPosition self.source diagnostic.position }
+        ensures defect { (position : Position) → result ≡ Err (Defect position)
+            → HasPosition self.source position }
     {
         let SourceText {
             source: text,
@@ -124,7 +129,7 @@ impl SourceText {
 }
 
 /// The source of a text. `Specifier` if the specifier is no URL, else `Syntax` if the text has a syntax
-/// error; `OutOfMemory` if an allocation fails.
+/// error, `Defect` if what was read isn't the text's; `OutOfMemory` if an allocation fails.
 fn source_of_text(alloc: Global, text: SourceText) -> Result<ParsedSource, Fault>
     ensures { MatchResult result (IsParsed text) (IsNoInfoOfText text) }
 {

@@ -6,18 +6,18 @@ ghost use Rattle.deno_graph_source.specs.Comments.{comments_of};
 ghost use Rattle.modinfo_source.specs.OfText.{HasClaims};
 ghost use Rattle.modinfo_source.specs.Comments.{AreFrom, comment_of, kind_of, text_of};
 
+use crate::error::TreeError;
 use deno_graph_base::text::SourceRange;
 use deno_graph_base::values::Text;
 use deno_graph_source::tree::{CommentKind, CommentSide, Comments, DependencyComment};
 use modinfo_imports::find::find;
 use modinfo_lexer::comments::FiledComment;
-use modinfo_lexer::syntax_error::ReadError;
 use modinfo_pieces::choice::Choice;
 use modinfo_pieces::piece::{Piece, PieceKind};
 use std::alloc::{AllocError, Global};
 
 /// Returns the comments of a text, each filed where the lexer says. Which comments there are is found again
-/// from the bytes and the choices of the parser. An error if the lexer has found others, or if the text isn't that
+/// from the bytes and the choices of the parser. `Defect` if the lexer has found others, or if the text isn't that
 /// of the tree with these claims and calls.
 pub(crate) fn comments_of(
     alloc: Global,
@@ -27,21 +27,13 @@ pub(crate) fn comments_of(
     choices: &[Choice],
     claims: &[Piece],
     calls: &[Piece],
-) -> Result<Comments, ReadError>
+) -> Result<Comments, TreeError>
     ensures { IfOk result (HasClaims text.now is_typed claims.now calls.now) }
 {
     match find(alloc, text.as_bytes(), is_typed, choices, claims, calls)? {
         Ok(comments) => file_each(alloc, text, filed, &comments),
-        Err(offset) => Err(other_text(offset)),
+        Err(offset) => Err(TreeError::Defect(offset)),
     }
-}
-
-/// Returns the error of a tree that isn't that of the text.
-fn other_text(offset: usize) -> ReadError {
-    ReadError::syntax(
-        "a defect of modinfo: the tree isn't that of the text; please report this text",
-        offset,
-    )
 }
 
 /// Returns comments, each filed where the comment with the same number is.
@@ -50,7 +42,7 @@ fn file_each(
     text: &str,
     filed: &[FiledComment],
     pieces: &[Piece],
-) -> Result<Comments, ReadError>
+) -> Result<Comments, TreeError>
     ensures { IfOk result (AreFrom text.now pieces.now) }
 {
     let mut comments = Comments::new(alloc);
@@ -59,13 +51,13 @@ fn file_each(
             Some(place) if place.range.start == piece.start && place.range.end == piece.end => {
                 file(alloc, text, &mut comments, *piece, *place)?;
             }
-            _ => return Err(other_text(piece.start)),
+            _ => return Err(TreeError::Defect(piece.start)),
         }
     }
     if filed.len() == pieces.len() {
         Ok(comments)
     } else {
-        Err(other_text(0))
+        Err(TreeError::Defect(0))
     }
 }
 
@@ -76,7 +68,7 @@ fn file(
     comments: &mut Comments,
     piece: Piece,
     place: FiledComment,
-) -> Result<(), ReadError>
+) -> Result<(), TreeError>
     ensures { OnOk result (IsPermutation (comment_of text.now piece ∷ comments_of comments.old)
         (comments_of comments.new)) }
 {
@@ -86,7 +78,7 @@ fn file(
             range: SourceRange::new(piece.start, piece.end),
             text: Text::from_str(alloc, inside)?,
         },
-        None => return Err(other_text(piece.start)),
+        None => return Err(TreeError::Defect(piece.start)),
     };
     match place.side {
         CommentSide::Leading => Ok(comments.add_leading(place.position, comment)?),

@@ -3,8 +3,10 @@
 #![tactic(auto)]
 
 mod comments;
+mod error;
 mod parse;
 mod slice;
 mod tree;
 
+pub use error::{DEFECT, TextError};
 pub use parse::parse_module;

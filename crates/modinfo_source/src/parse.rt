@@ -4,20 +4,22 @@ ghost use Rattle.std.specs.Prelude.{◌≡◌, Err, IfOk, false, length};
 ghost use Rattle.std.specs.Rc.{rc_str_bytes};
 ghost use Rattle.std.specs.Str.{IsCharBoundary};
 ghost use Rattle.deno_graph_base.specs.Position.{HasPosition};
+ghost use Rattle.deno_graph_base.specs.declared.text.position.Position.{Position};
 ghost use Rattle.deno_graph_source.specs.Source.{IsValid};
 ghost use Rattle.deno_graph_source.specs.declared.tree.parse_error.ParseDiagnostic.{ParseDiagnostic};
-ghost use Rattle.deno_graph_source.specs.declared.tree.parse_error.ParseError.TheVariants.{Diagnostic};
 ghost use Rattle.deno_graph_source.specs.MediaType.{is_typed};
 ghost use Rattle.modinfo_source.specs.OfText.{IsOfText};
 ghost use Rattle.modinfo_source.specs.Comments.{HasComments};
 ghost use Rattle.modinfo_source.specs.Spelled.{IsSpelled};
+ghost use Rattle.modinfo_source.specs.declared.error.TextError.TheVariants.{Defect, Syntax};
 
 use crate::comments::comments_of;
+use crate::error::{TextError, TreeError};
 use crate::tree::body_of;
 use deno_graph_base::text::{Position, SourceRange, SourceTextInfo};
 use deno_graph_base::values::Text;
 use deno_graph_source::tree::{
-    Comments, MediaType, ParseDiagnostic, ParseError, ParsedSource, Program, SourceFault,
+    Comments, MediaType, ParseDiagnostic, ParsedSource, Program, SourceFault,
 };
 use modinfo_imports::nodes::{calls_of, claims_of};
 use modinfo_lexer::syntax_error::{ReadError, SyntaxError};
@@ -28,15 +30,15 @@ use url::Url;
 
 /// Parses the text of a module. The media type decides the grammar: JavaScript with JSX, TypeScript, or
 /// TypeScript with JSX for `Tsx`. A text is read as a module, and where that fails as a script, unless its
-/// media type is one of modules alone. Returns a diagnostic, whose position counts lines and characters
-/// from zero, if the text has a syntax error that makes its tree unclear, if it nests too deep, or if the
-/// media type is `Json`.
+/// media type is one of modules alone. `Syntax`, with a message and a position that counts lines and
+/// characters from zero, if the text has a syntax error that makes its tree unclear, if it nests too deep,
+/// or if the media type is `Json`; `Defect` if what the parser read isn't the text's.
 pub fn parse_module(
     alloc: Global,
     specifier: Url,
     source: RcStr,
     media_type: MediaType,
-) -> Result<ParsedSource, ParseError>
+) -> Result<ParsedSource, TextError>
     ensures specifier { IfOk result (λ parsed. parsed.specifier ≡ specifier) }
     ensures text { IfOk result (λ parsed. parsed.text ≡ rc_str_bytes source) }
     ensures media_type { IfOk result (λ parsed. parsed.media_type ≡ media_type) }
@@ -54,23 +56,22 @@ pub fn parse_module(
     // each word that a dependency begins with such a node begins, or the word is a name.
     ensures of_text { IfOk result (λ parsed.
         IsOfText (rc_str_bytes source) (is_typed media_type) parsed.program parsed.comments) }
-    ensures position { (diagnostic : ParseDiagnostic) → result ≡ Err (Diagnostic diagnostic)
+    ensures position { (diagnostic : ParseDiagnostic) → result ≡ Err (Syntax diagnostic)
         → HasPosition (rc_str_bytes source) diagnostic.position }
+    ensures defect { (position : Position) → result ≡ Err (Defect position)
+        → HasPosition (rc_str_bytes source) position }
 {
     let Parts { program, comments } = match parts_of(alloc, source.as_str(), media_type) {
         Ok(parts) => parts,
-        Err(error) => return Err(parse_error(alloc, source, error)?),
+        Err(error) => return Err(text_error(alloc, source, error)?),
     };
     let copy = source.clone()?;
     match ParsedSource::new(
         alloc, specifier, source, media_type, program, comments, false,
     ) {
         Ok(parsed) => Ok(parsed),
-        Err(SourceFault::OutOfMemory) => Err(ParseError::OutOfMemory),
-        Err(_) => {
-            let error = ReadError::syntax("the text can't be read", 0);
-            Err(parse_error(alloc, copy, error)?)
-        }
+        Err(SourceFault::OutOfMemory) => Err(TextError::OutOfMemory),
+        Err(_) => Err(text_error(alloc, copy, TreeError::Defect(0))?),
     }
 }
 
@@ -83,7 +84,7 @@ struct Parts {
 
 /// Returns the tree and the comments of a text.
 #[tactic(auto, unfolding(deno_graph_source::specs::Node::nodes_of))]
-fn parts_of(alloc: Global, text: &str, media_type: MediaType) -> Result<Parts, ReadError>
+fn parts_of(alloc: Global, text: &str, media_type: MediaType) -> Result<Parts, TreeError>
     ensures spelled { IfOk result (λ parts. IsSpelled text.now parts.program) }
     ensures comments { IfOk result (λ parts. HasComments text.now parts.comments) }
     ensures range { IfOk result (λ parts.
@@ -116,19 +117,23 @@ fn parts_of(alloc: Global, text: &str, media_type: MediaType) -> Result<Parts, R
     Ok(Parts { program, comments })
 }
 
-/// Returns the error of a parser for an error of reading a text.
-fn parse_error(alloc: Global, source: RcStr, error: ReadError) -> Result<ParseError, AllocError>
-    ensures { IfOk result (λ parse_error. (diagnostic : ParseDiagnostic)
-        → parse_error ≡ Diagnostic diagnostic → HasPosition (rc_str_bytes source) diagnostic.position) }
+/// Returns the error of a text without a tree of its own.
+fn text_error(alloc: Global, source: RcStr, error: TreeError) -> Result<TextError, AllocError>
+    ensures position { IfOk result (λ text_error. (diagnostic : ParseDiagnostic)
+        → text_error ≡ Syntax diagnostic → HasPosition (rc_str_bytes source) diagnostic.position) }
+    ensures defect { IfOk result (λ text_error. (position : Position)
+        → text_error ≡ Defect position → HasPosition (rc_str_bytes source) position) }
 {
-    let SyntaxError { message, offset } = match error {
-        ReadError::Syntax(error) => error,
-        ReadError::OutOfMemory => return Ok(ParseError::OutOfMemory),
-    };
-    Ok(ParseError::Diagnostic(ParseDiagnostic {
-        message: Text::from_str(alloc, message)?,
-        position: position_of(alloc, source, offset)?,
-    }))
+    match error {
+        TreeError::Unread(ReadError::Syntax(SyntaxError { message, offset })) => {
+            Ok(TextError::Syntax(ParseDiagnostic {
+                message: Text::from_str(alloc, message)?,
+                position: position_of(alloc, source, offset)?,
+            }))
+        }
+        TreeError::Unread(ReadError::OutOfMemory) => Ok(TextError::OutOfMemory),
+        TreeError::Defect(offset) => Ok(TextError::Defect(position_of(alloc, source, offset)?)),
+    }
 }
 
 /// Returns the position of an offset of a text, that of the text's start if no character begins there.

@@ -70,7 +70,7 @@ def _sentence(report: FaultReport) -> str:
 
 def _position(name: FaultName, report: FaultReport) -> str:
     position = ""
-    if "pointer" in report and name != "Syntax":
+    if "pointer" in report and name not in ("Syntax", "Defect"):
         position += f" at {shown(report['pointer'])}" if report["pointer"] else " in the whole document"
     if "other" in report:
         position += f" and {shown(report['other'])}"

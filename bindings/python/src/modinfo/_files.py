@@ -29,9 +29,9 @@ def files(
     Where `media_type` is None, the ending of each path decides.
 
     Where a file has a fault, the Fault is returned, and the next file is read: Input, where the file can't be read,
-    isn't UTF-8, isn't a regular file, is in /proc or /sys or has more than 64 MiB; Syntax; OutOfMemory. Only regular
-    files are read, and no folder is walked. `jobs` threads work side by side; with more than one, some files are read
-    ahead.
+    isn't UTF-8, isn't a regular file, is in /proc or /sys or has more than 64 MiB; Syntax; Defect; OutOfMemory. Only
+    regular files are read, and no folder is walked. `jobs` threads work side by side; with more than one, some files
+    are read ahead.
 
     Raises TypeError where `paths` is one path, or has something else; ValueError where no media type has the name.
     """

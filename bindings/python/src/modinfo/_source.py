@@ -24,8 +24,8 @@ def module_info(text: Text, specifier: str, media_type: MediaType | None = None)
     `specifier` is the absolute URL of the module. Where `media_type` is None, the specifier's path decides, by its
     ending.
 
-    Raises Fault: Syntax, with the message and the position of the first syntax error; Specifier, where that is no
-    absolute URL; Input, where a text isn't UTF-8; OutOfMemory. Raises ValueError where no media type has the name.
+    Raises Fault: Syntax, with the message and the position of the first syntax error; Defect, with a position, where
+    what was read isn't the text's, a defect of modinfo; Specifier, where that is no absolute URL; Input, where a text isn't UTF-8; OutOfMemory. Raises ValueError where no media type has the name.
     """
     return ModuleInfo.from_dict(json.loads(_line(_arguments(text, specifier, media_type))))
 

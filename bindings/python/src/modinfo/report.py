@@ -38,6 +38,7 @@ DocumentFault = Literal[
     "Tree",
     "Specifier",
     "Syntax",
+    "Defect",
     "RangeReversed",
     "RangeOutside",
     "RangeOffBoundary",
@@ -90,7 +91,7 @@ class FaultReport(_FaultReport, total=False):
 
     at: TextPlace
     """For `Input`: the first byte that is in no UTF-8. For `Json`: the first invalid byte of the first token that can't
-    be read, or the start of the token. For `Syntax`: the place in the source text."""
+    be read, or the start of the token. For `Syntax` and `Defect`: the place in the source text."""
 
 
 Report = ValidReport | FaultReport

@@ -6,7 +6,7 @@ ghost use Rattle.std.specs.String.{string_bytes};
 ghost use Rattle.deno_graph_base.specs.Position.{HasPosition};
 ghost use Rattle.deno_graph_json.specs.Data.{data_of};
 ghost use Rattle.modinfo_document.specs.Report.{HasNoWarnings, IsNamed};
-ghost use Rattle.modinfo.specs.Check.{HasParsedText, HasSyntaxPlace, IsExpectedBy, IsSourceFaultReport};
+ghost use Rattle.modinfo.specs.Check.{HasParsedText, HasSourcePlace, IsExpectedBy, IsSourceFaultReport};
 ghost use Rattle.modinfo.specs.Check.{IsTextFaultReport, OfReport, ReportsOnText};
 ghost use Rattle.modinfo.specs.Fault.{name_of_fault};
 ghost use Rattle.modinfo.specs.Source.{IsSourceDocument};
@@ -14,13 +14,14 @@ ghost use Rattle.modinfo.specs.Source.{IsSourceDocument};
 use crate::fault::Fault;
 use crate::source::{SourceText, read_source_text};
 use deno_graph_json::{Element, ReadError, Tape, TapeError};
-use deno_graph_source::text::SourceTextInfo;
-use deno_graph_source::tree::{ParseDiagnostic, ParseError};
+use deno_graph_source::text::{Position, SourceTextInfo};
+use deno_graph_source::tree::ParseDiagnostic;
 use json::Scratch;
 use modinfo_document::DocumentError;
 use modinfo_document::report::{
     FaultReport, Report, TextPlace, Warnings, json_report_at, specifier_report, tree_report,
 };
+use modinfo_source::{DEFECT, TextError};
 use std::alloc::{AllocError, Global};
 use std::rc::RcStr;
 
@@ -68,10 +69,13 @@ pub fn check_text(alloc: Global, text: SourceText) -> Result<Report, AllocError>
     let source = RcStr::from_str(alloc, text.source.as_str())?;
     match text.into_source(alloc, specifier) {
         Ok(_) => Ok(Report::Valid(Warnings::new(alloc))),
-        Err(ParseError::Diagnostic(diagnostic)) => {
+        Err(TextError::Syntax(diagnostic)) => {
             Ok(Report::Invalid(syntax_report(alloc, source, &diagnostic)?))
         }
-        Err(ParseError::OutOfMemory) => Err(AllocError),
+        Err(TextError::Defect(position)) => {
+            Ok(Report::Invalid(defect_report(alloc, source, position)?))
+        }
+        Err(TextError::OutOfMemory) => Err(AllocError),
     }
 }
 
@@ -84,18 +88,51 @@ fn syntax_report(
 ) -> Result<FaultReport, AllocError>
     requires { HasPosition (rc_str_bytes source) diagnostic.now.position }
     ensures name { IfOk result (IsNamed (name_of_fault Fault.Syntax)) }
-    ensures place { IfOk result (HasSyntaxPlace (rc_str_bytes source)) }
+    ensures place { IfOk result (HasSourcePlace (rc_str_bytes source)) }
     ensures position { IfOk result (λ report. IsSomeAnd report.at
         (λ at. at.position ≡ diagnostic.now.position)) }
     ensures expected { IfOk result (λ report.
         IsExpectedBy diagnostic.now.message (string_bytes report.expected)) }
 {
-    let fault = String::from_str(alloc, Fault::Syntax.name())?;
-    let pointer = String::from_str(alloc, "/source")?;
     let expected = expected_by(alloc, diagnostic.message.as_str())?;
+    source_report(alloc, source, &Fault::Syntax, diagnostic.position, expected)
+}
+
+/// Returns the report on a tree that isn't that of the text: the position where that was found, and its offset
+/// in the source text. The only error is a failed allocation.
+fn defect_report(
+    alloc: Global,
+    source: RcStr,
+    position: Position,
+) -> Result<FaultReport, AllocError>
+    requires { HasPosition (rc_str_bytes source) position }
+    ensures name { IfOk result (IsNamed (name_of_fault Fault.Defect)) }
+    ensures place { IfOk result (HasSourcePlace (rc_str_bytes source)) }
+    ensures position { IfOk result (λ report. IsSomeAnd report.at (λ at. at.position ≡ position)) }
+{
+    let expected = expected_by(alloc, DEFECT)?;
+    source_report(alloc, source, &Fault::Defect, position, expected)
+}
+
+/// Returns the report on a fault at a position of a source text, with the offset of that position in the text.
+/// The only error is a failed allocation.
+fn source_report(
+    alloc: Global,
+    source: RcStr,
+    fault: &Fault,
+    position: Position,
+    expected: String,
+) -> Result<FaultReport, AllocError>
+    requires { HasPosition (rc_str_bytes source) position }
+    ensures name { IfOk result (IsNamed (name_of_fault fault.now)) }
+    ensures place { IfOk result (HasSourcePlace (rc_str_bytes source)) }
+    ensures position { IfOk result (λ report. IsSomeAnd report.at (λ at. at.position ≡ position)) }
+    ensures expected { IfOk result (λ report. string_bytes report.expected ≡ string_bytes expected) }
+{
+    let fault = String::from_str(alloc, fault.name())?;
+    let pointer = String::from_str(alloc, "/source")?;
     let mut report = FaultReport::of_value(fault, pointer, expected);
     let text = SourceTextInfo::new(alloc, source)?;
-    let position = diagnostic.position;
     report.at = position
         .as_source_pos(&text)
         .map(|offset| TextPlace { position, offset });

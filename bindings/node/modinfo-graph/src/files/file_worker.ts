@@ -38,7 +38,7 @@ function answerOf(path: string): Reply {
 }
 
 function faultOf(fault: string, bytes: Buffer, path: string): Reply {
-  if (fault !== "Syntax") {
+  if (fault !== "Syntax" && fault !== "Defect") {
     return { fault, message: fault === "Input" ? "the file isn't UTF-8" : "an allocation failed" };
   }
   const { text } = core.runSource("check_source", bytes, urlOfFile(path), 0);

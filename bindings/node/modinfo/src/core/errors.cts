@@ -13,9 +13,9 @@ export class ModinfoFault extends Error {
   readonly fault: FaultName;
   /** Where the call asked for it, but for `OutOfMemory`, `Stack` and a lone surrogate in a text or a specifier. */
   declare readonly report?: FaultReport;
-  /** Of `Syntax`, from one. */
+  /** Of `Syntax` and `Defect`, from one. */
   declare readonly line?: number;
-  /** Of `Syntax`, from one, in Unicode code points. */
+  /** Of `Syntax` and `Defect`, from one, in Unicode code points. */
   declare readonly column?: number;
 
   private constructor(fault: FaultName, message: string, more: Partial<ModinfoFault>) {

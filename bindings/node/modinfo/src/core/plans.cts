@@ -137,15 +137,15 @@ function faultWith(report: Report | undefined, { text }: Result & { isAnswer: fa
   if (!report?.fault) {
     return ModinfoFault.of(text);
   }
-  if (report.fault !== "Syntax" || !report.at) {
+  if (report.fault !== "Syntax" && report.fault !== "Defect" || !report.at) {
     return ModinfoFault.of(report.fault, describeReport(report), { report });
   }
   const message = messageOf(report.expected);
-  return ModinfoFault.of("Syntax", message, { line: report.at.line + 1, column: report.at.column + 1 });
+  return ModinfoFault.of(report.fault, message, { line: report.at.line + 1, column: report.at.column + 1 });
 }
 
 /**
- * The parser's message of a syntax error.
+ * The parser's message of a syntax error or a defect.
  * @param expected of the report on the text
  */
 export function messageOf(expected: string): string {

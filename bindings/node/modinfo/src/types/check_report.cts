@@ -31,6 +31,7 @@ export type DocumentFault =
   | "Tree"
   | "Specifier"
   | "Syntax"
+  | "Defect"
   | "RangeReversed"
   | "RangeOutside"
   | "RangeOffBoundary"
@@ -65,8 +66,8 @@ export interface FaultReport {
   /** The range that is at fault, or that of the node or the comment. */
   range?: [start: number, end: number];
   /** For `Input`: the first byte that is in no UTF-8. For `Json`: the first invalid byte of the
-   * first token that can't be read, or the start of the token. For `Syntax`: the place in the
-   * source text. */
+   * first token that can't be read, or the start of the token. For `Syntax` and `Defect`: the place
+   * in the source text. */
   at?: TextPlace;
   /** What was expected there, in words that later versions may change. */
   expected: string;
