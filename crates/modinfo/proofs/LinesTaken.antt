@@ -17,11 +17,11 @@ use Rattle.std.proofs.lemmas.List.Elements.{All-more, All-nil}
 use Rattle.std.proofs.lemmas.Result.{err_from_is_err_and}
 use Rattle.modinfo.proofs.Faults.{run_without_memory}
 use Rattle.modinfo.proofs.Written.{front_after, front_of_both, whole_front}
-use Rattle.modinfo.specs.Lines.{PrintsLine, PrintsLines, before_first, lines_of, fault_line, passes_without}
-use Rattle.modinfo.specs.Lines.{LeavesFirstLines}
-use Rattle.modinfo.specs.internal.Lines.{TakesLines}
+use Rattle.modinfo.specs.Lines.{PrintsEach, PrintsLine, PrintsLines, before_first, ended_by, fault_line}
+use Rattle.modinfo.specs.Lines.{LeavesFirstLines, passes_without}
+use Rattle.modinfo.specs.internal.Lines.{Takes, TakesLines}
 use Rattle.modinfo.specs.Lines.PrintsLine.{with_fault}
-use Rattle.modinfo.specs.Lines.PrintsLines.{more, none}
+use Rattle.modinfo.specs.Lines.PrintsEach.{more, none}
 use Rattle.modinfo.specs.Run.{AppendsFront, IsFailure}
 use Rattle.modinfo.specs.declared.fault.Fault.{Fault}
 use Rattle.modinfo.specs.declared.fault.Fault.TheVariants.{OutOfMemory}
@@ -58,85 +58,87 @@ take_through-some byte x xs = at (eqb x byte)
     at true = omega arith
     at false = omega arith
 
-strip_last-one : (x : ℕ) (b : Bool) → eqb x 10 ≡ b → strip_last 10 (x ∷ []) ≡ cond b [] (x ∷ [])
-strip_last-one x b e = ap (λ c. cond c [] (x ∷ [])) e
+strip_last-one : (end x : ℕ) (b : Bool) → eqb x end ≡ b → strip_last end (x ∷ []) ≡ cond b [] (x ∷ [])
+strip_last-one end x b e = ap (λ c. cond c [] (x ∷ [])) e
 
-lines_of-cons : (x y : ℕ) (ys : List ℕ) (b : Bool) → eqb x 10 ≡ b
-    → lines_of (y ∷ ys) ≡ strip_last 10 (take_through 10 (y ∷ ys)) ∷ lines_of (drop_through 10 (y ∷ ys))
-    → cond b ([] ∷ lines_of (y ∷ ys)) (before_first x (lines_of (y ∷ ys)))
-    ≡ strip_last 10 (cond b (x ∷ []) (x ∷ take_through 10 (y ∷ ys)))
-    ∷ lines_of (cond b (y ∷ ys) (drop_through 10 (y ∷ ys)))
-lines_of-cons x y ys true e rest = ap (λ l. l ∷ lines_of (y ∷ ys)) (sym (strip_last-one x true e))
-lines_of-cons x y ys false e rest =
+ended_by-cons : (end x y : ℕ) (ys : List ℕ) (b : Bool) → eqb x end ≡ b
+    → ended_by end (y ∷ ys)
+    ≡ strip_last end (take_through end (y ∷ ys)) ∷ ended_by end (drop_through end (y ∷ ys))
+    → cond b ([] ∷ ended_by end (y ∷ ys)) (before_first x (ended_by end (y ∷ ys)))
+    ≡ strip_last end (cond b (x ∷ []) (x ∷ take_through end (y ∷ ys)))
+    ∷ ended_by end (cond b (y ∷ ys) (drop_through end (y ∷ ys)))
+ended_by-cons end x y ys true e rest = ap (λ l. l ∷ ended_by end (y ∷ ys)) (sym (strip_last-one end x true e))
+ended_by-cons end x y ys false e rest =
     ap (before_first x) rest
-    ∙ ap (λ l. l ∷ lines_of (drop_through 10 (y ∷ ys)))
-    (sym (strip_last-cons 10 x (take_through 10 (y ∷ ys)) (take_through-some 10 y ys)))
+    ∙ ap (λ l. l ∷ ended_by end (drop_through end (y ∷ ys)))
+    (sym (strip_last-cons end x (take_through end (y ∷ ys)) (take_through-some end y ys)))
 
-lines_of-one : (x : ℕ) (b : Bool) → eqb x 10 ≡ b → cond b ([] ∷ []) ((x ∷ []) ∷ [])
-    ≡ strip_last 10 (cond b (x ∷ []) (x ∷ [])) ∷ lines_of (cond b [] [])
-lines_of-one x true e = ap (λ l. l ∷ []) (sym (strip_last-one x true e))
-lines_of-one x false e = ap (λ l. l ∷ []) (sym (strip_last-one x false e))
+ended_by-one : (end x : ℕ) (b : Bool) → eqb x end ≡ b → cond b ([] ∷ []) ((x ∷ []) ∷ [])
+    ≡ strip_last end (cond b (x ∷ []) (x ∷ [])) ∷ ended_by end (cond b [] [])
+ended_by-one end x true e = ap (λ l. l ∷ []) (sym (strip_last-one end x true e))
+ended_by-one end x false e = ap (λ l. l ∷ []) (sym (strip_last-one end x false e))
 
--- The first line of a nonempty text is the bytes up to the first line feed, without the line feed.
-pub lines_of-first : (x : ℕ) (xs : List ℕ)
-    → lines_of (x ∷ xs) ≡ strip_last 10 (take_through 10 (x ∷ xs)) ∷ lines_of (drop_through 10 (x ∷ xs))
-lines_of-first x [] = lines_of-one x (eqb x 10) refl
-lines_of-first x (y ∷ ys) = lines_of-cons x y ys (eqb x 10) refl (lines_of-first y ys)
+-- The first part of a nonempty text is the bytes up to the first byte that ends one, without that byte.
+pub ended_by-first : (end x : ℕ) (xs : List ℕ)
+    → ended_by end (x ∷ xs)
+    ≡ strip_last end (take_through end (x ∷ xs)) ∷ ended_by end (drop_through end (x ∷ xs))
+ended_by-first end x [] = ended_by-one end x (eqb x end) refl
+ended_by-first end x (y ∷ ys) = ended_by-cons end x y ys (eqb x end) refl (ended_by-first end y ys)
 
-pub TakesLines-nil : (a : Option (List ℕ)) → TakesLines a a []
-TakesLines-nil None = tt
-TakesLines-nil (Some x) = refl
+pub Takes-nil : (end : ℕ) (a : Option (List ℕ)) → Takes end a a []
+Takes-nil end None = tt
+Takes-nil end (Some x) = refl
 
--- A line after others.
-pub TakesLines-more : (a b c : Option (List ℕ)) (lines : List (List ℕ)) (line : List ℕ) → TakesLines a b lines
-    → TakesLines b c (line ∷ []) → TakesLines a c (lines ++ line ∷ [])
-TakesLines-more None b c lines line p q = tt
-TakesLines-more (Some x) None c lines line p q = absurd p
-TakesLines-more (Some x) (Some y) None lines line p q = absurd q
-TakesLines-more (Some x) (Some y) (Some z) lines line p q =
-    p ∙ ap (λ l. lines ++ l) q ∙ sym (append_assoc lines (line ∷ []) (lines_of z))
+-- A part after others.
+pub Takes-more : (end : ℕ) (a b c : Option (List ℕ)) (parts : List (List ℕ)) (part : List ℕ)
+    → Takes end a b parts → Takes end b c (part ∷ []) → Takes end a c (parts ++ part ∷ [])
+Takes-more end None b c parts part p q = tt
+Takes-more end (Some x) None c parts part p q = absurd p
+Takes-more end (Some x) (Some y) None parts part p q = absurd q
+Takes-more end (Some x) (Some y) (Some z) parts part p q =
+    p ∙ ap (λ l. parts ++ l) q ∙ sym (append_assoc parts (part ∷ []) (ended_by end z))
 
--- At the end of the input the lines so far are all lines.
-pub TakesLines-all : (a b : Option (List ℕ)) (lines : List (List ℕ)) → TakesLines a b lines → IsAtEnd b
-    → IfSome a (λ left. lines ≡ lines_of left)
-TakesLines-all None b lines p end = tt
-TakesLines-all (Some x) None lines p end = absurd p
-TakesLines-all (Some x) (Some y) lines p end =
-    sym (p ∙ ap (λ l. lines ++ lines_of l) end ∙ append-nil lines)
+-- At the end of the input the parts so far are all parts.
+pub Takes-all : (end : ℕ) (a b : Option (List ℕ)) (parts : List (List ℕ)) → Takes end a b parts → IsAtEnd b
+    → IfSome a (λ left. parts ≡ ended_by end left)
+Takes-all end None b parts p is_end = tt
+Takes-all end (Some x) None parts p is_end = absurd p
+Takes-all end (Some x) (Some y) parts p is_end =
+    sym (p ∙ ap (λ l. parts ++ ended_by end l) is_end ∙ append-nil parts)
 
--- Before the end they are the first lines.
-pub TakesLines-first : (a b : Option (List ℕ)) (lines : List (List ℕ)) → TakesLines a b lines
-    → IfSome a (λ left. (rest : List (List ℕ)) × (lines_of left ≡ lines ++ rest))
-TakesLines-first None b lines p = tt
-TakesLines-first (Some x) None lines p = absurd p
-TakesLines-first (Some x) (Some y) lines p = (lines_of y, p)
+-- Before the end they are the first parts.
+pub Takes-first : (end : ℕ) (a b : Option (List ℕ)) (parts : List (List ℕ)) → Takes end a b parts
+    → IfSome a (λ left. (rest : List (List ℕ)) × (ended_by end left ≡ parts ++ rest))
+Takes-first end None b parts p = tt
+Takes-first end (Some x) None parts p = absurd p
+Takes-first end (Some x) (Some y) parts p = (ended_by end y, p)
 
--- The bytes that are skipped through the first line feed are the first line.
-pub TakesLines-through : (a b : Option (List ℕ)) (line : List ℕ)
-    → IfSome a (λ text. line ≡ strip_last 10 (take_through 10 text)) → IfSome a (λ text. 0 < length text)
-    → DropsThrough a b 10 → TakesLines a b (line ∷ [])
-TakesLines-through None b line is some drops = tt
-TakesLines-through (Some []) b line is some drops = absurd (omega (arith, some))
-TakesLines-through (Some (x ∷ xs)) b line is some drops =
-    subst (λ o. TakesLines (Some (x ∷ xs)) o (line ∷ [])) (sym drops)
-    (lines_of-first x xs ∙ ap (λ l. l ∷ lines_of (drop_through 10 (x ∷ xs))) (sym is))
+-- The bytes that are skipped through the first byte that ends a part are the first part.
+pub Takes-through : (end : ℕ) (a b : Option (List ℕ)) (part : List ℕ)
+    → IfSome a (λ text. part ≡ strip_last end (take_through end text)) → IfSome a (λ text. 0 < length text)
+    → DropsThrough a b end → Takes end a b (part ∷ [])
+Takes-through end None b part is some drops = tt
+Takes-through end (Some []) b part is some drops = absurd (omega (arith, some))
+Takes-through end (Some (x ∷ xs)) b part is some drops =
+    subst (λ o. Takes end (Some (x ∷ xs)) o (part ∷ [])) (sym drops)
+    (ended_by-first end x xs ∙ ap (λ l. l ∷ ended_by end (drop_through end (x ∷ xs))) (sym is))
 
--- A line that was read.
-pub TakesLines-read : (a b : Option (List ℕ)) (old new line : List ℕ) → old ≡ []
-    → IfSome a (λ text. new ≡ old ++ take_through 10 text) → 0 < length new → line ≡ strip_last 10 new
-    → DropsThrough a b 10 → TakesLines a b (line ∷ [])
-TakesLines-read None b old new line empty is some last drops = tt
-TakesLines-read (Some text) b old new line empty is some last drops =
-    let read : new ≡ take_through 10 text = is ∙ ap (λ l. l ++ take_through 10 text) empty in
-    TakesLines-through (Some text) b line (last ∙ ap (strip_last 10) read)
-    (take_through_nonempty 10 text (subst (λ l. 0 < length l) read some)) drops
+-- A part that was read.
+pub Takes-read : (end : ℕ) (a b : Option (List ℕ)) (old new part : List ℕ) → old ≡ []
+    → IfSome a (λ text. new ≡ old ++ take_through end text) → 0 < length new → part ≡ strip_last end new
+    → DropsThrough a b end → Takes end a b (part ∷ [])
+Takes-read end None b old new part empty is some last drops = tt
+Takes-read end (Some text) b old new part empty is some last drops =
+    let read : new ≡ take_through end text = is ∙ ap (λ l. l ++ take_through end text) empty in
+    Takes-through end (Some text) b part (last ∙ ap (strip_last end) read)
+    (take_through_nonempty end text (subst (λ l. 0 < length l) read some)) drops
 
 -- A line that was skipped.
 pub TakesLines-skipped : (a b : Option (List ℕ)) → IfSome a (λ text. 0 < length text) → DropsThrough a b 10
     → (line : List ℕ) × TakesLines a b (line ∷ [])
 TakesLines-skipped None b some drops = ([], tt)
 TakesLines-skipped (Some text) b some drops =
-    (strip_last 10 (take_through 10 text), TakesLines-through (Some text) b _ refl some drops)
+    (strip_last 10 (take_through 10 text), Takes-through 10 (Some text) b _ refl some drops)
 
 -- The number of bytes is the number that was read.
 pub nonempty_before : (a b : Option (List ℕ)) (first : List ℕ) → Consumes a b first
@@ -208,30 +210,31 @@ nonempty_skipped (Some y) first count skipped is counted (inl some) = omega arit
 nonempty_skipped (Some y) first count skipped is counted (inr some) =
     omega (arith, take_through_nonempty 10 y (omega arith))
 
--- The printed lines for a line after others.
-pub PrintsLines-more : (command : Command) (lines : List (List ℕ)) (line : List ℕ) (passes next : Bool)
-    (printed text : List ℕ) → PrintsLines command lines passes printed → PrintsLine command line next text
-    → PrintsLines command (lines ++ line ∷ []) (passes && next) (printed ++ text)
-PrintsLines-more command _ line _ next _ text none one =
-    subst (λ b. PrintsLines command (line ∷ []) b text) (and-true next)
-    (subst (λ t. PrintsLines command (line ∷ []) (next && true) t) (append-nil text) (more one none))
-PrintsLines-more command _ line _ next _ text (more one_line others) one =
-    rw (and_assoc, append_assoc) (more one_line (PrintsLines-more command _ line _ next _ text others one))
+-- What is printed for a line after others.
+pub PrintsEach-more : (Prints : List ℕ → Bool → List ℕ → Type 0) (lines : List (List ℕ)) (line : List ℕ)
+    (passes next : Bool) (printed text : List ℕ) → PrintsEach Prints lines passes printed → Prints line next text
+    → PrintsEach Prints (lines ++ line ∷ []) (passes && next) (printed ++ text)
+PrintsEach-more Prints _ line _ next _ text none one =
+    subst (λ b. PrintsEach Prints (line ∷ []) b text) (and-true next)
+    (subst (λ t. PrintsEach Prints (line ∷ []) (next && true) t) (append-nil text) (more one none))
+PrintsEach-more Prints _ line _ next _ text (more one_line others) one =
+    rw (and_assoc, append_assoc) (more one_line (PrintsEach-more Prints _ line _ next _ text others one))
 
--- Like `PrintsLines-more`, if a part of the printed lines was written.
-pub PrintsLines-next : (command : Command) (lines : List (List ℕ)) (line : List ℕ) (passes next : Bool)
-    (sent waiting written left printed new : List ℕ) → PrintsLines command lines passes (sent ++ waiting)
-    → waiting ≡ written ++ left → PrintsLine command line next printed → new ≡ left ++ printed
-    → PrintsLines command (lines ++ line ∷ []) (passes && next) ((sent ++ written) ++ new)
-PrintsLines-next command lines line passes next sent waiting written left printed new all is one e =
+-- Like `PrintsEach-more`, if a part of the printed lines was written.
+pub PrintsEach-next : (Prints : List ℕ → Bool → List ℕ → Type 0) (lines : List (List ℕ)) (line : List ℕ)
+    (passes next : Bool) (sent waiting written left printed new : List ℕ)
+    → PrintsEach Prints lines passes (sent ++ waiting)
+    → waiting ≡ written ++ left → Prints line next printed → new ≡ left ++ printed
+    → PrintsEach Prints (lines ++ line ∷ []) (passes && next) ((sent ++ written) ++ new)
+PrintsEach-next Prints lines line passes next sent waiting written left printed new all is one e =
     let same : (sent ++ waiting) ++ printed ≡ (sent ++ written) ++ new = cc (
       ap (λ l. (sent ++ l) ++ printed) is,
       ap (λ l. l ++ printed) (append_assoc sent written left),
       append_assoc (sent ++ written) left printed,
       ap (λ l. (sent ++ written) ++ l) e,
     ) in
-    subst (PrintsLines command (lines ++ line ∷ []) (passes && next)) same
-    (PrintsLines-more command lines line passes next (sent ++ waiting) printed all one)
+    subst (PrintsEach Prints (lines ++ line ∷ []) (passes && next)) same
+    (PrintsEach-more Prints lines line passes next (sent ++ waiting) printed all one)
 
 -- The bytes that were written are a beginning of the printed lines.
 pub AppendsFront-sent : (a b : Option (List ℕ)) (sent waiting : List ℕ) → Appends a b sent
@@ -249,13 +252,12 @@ pub PrintsLine-out_of_memory : (command : Command) (line : List ℕ)
 PrintsLine-out_of_memory command line = with_fault OutOfMemory (run_without_memory command line)
 
 -- A text of which a part was written.
-pub PrintsLines-written : (command : Command) (lines : List (List ℕ)) (passes : Bool)
+pub PrintsEach-written : (Prints : List ℕ → Bool → List ℕ → Type 0) (lines : List (List ℕ)) (passes : Bool)
     (sent waiting written left : List ℕ)
-    → PrintsLines command lines passes (sent ++ waiting) → waiting ≡ written ++ left
-    → PrintsLines command lines passes ((sent ++ written) ++ left)
-PrintsLines-written command lines passes sent waiting written left all is =
-    subst (PrintsLines command lines passes) (ap (λ l. sent ++ l) is ∙ sym (append_assoc sent written left))
-    all
+    → PrintsEach Prints lines passes (sent ++ waiting) → waiting ≡ written ++ left
+    → PrintsEach Prints lines passes ((sent ++ written) ++ left)
+PrintsEach-written Prints lines passes sent waiting written left all is =
+    subst (PrintsEach Prints lines passes) (ap (λ l. sent ++ l) is ∙ sym (append_assoc sent written left)) all
 
 -- A run that fails after some lines.
 pub LeavesFirstLines-at : (command : Command) (input now before after : Option (List ℕ))
@@ -264,13 +266,13 @@ pub LeavesFirstLines-at : (command : Command) (input now before after : Option (
     → PrintsLines command lines passes printed → AppendsFront before after printed
     → LeavesFirstLines command input before after fault
 LeavesFirstLines-at command input now before after lines passes printed fault failure taken prints front =
-    (failure, lines, TakesLines-first input now lines taken, passes, printed, prints, front)
+    (failure, lines, Takes-first 10 input now lines taken, passes, printed, prints, front)
 
 -- A run that fails before the first line.
 pub LeavesFirstLines-none : (command : Command) (input output : Option (List ℕ)) (fault : Fault)
     → IsFailure fault → LeavesFirstLines command input output output fault
 LeavesFirstLines-none command input output fault failure =
-    LeavesFirstLines-at command input input output output [] true [] fault failure (TakesLines-nil input) none
+    LeavesFirstLines-at command input input output output [] true [] fault failure (Takes-nil 10 input) none
     (0, Appends-nil output)
 
 -- The fault that a `?` returns.
@@ -293,9 +295,9 @@ refused_after (Ok passes) command line old kept new same h = (
 )
 refused_after (Err fault) command line old kept new same h = h
 
-pub TakesLines-same : (a b c : Option (List ℕ)) (lines : List (List ℕ)) → a ≡ b → TakesLines a c lines
-    → TakesLines b c lines
-TakesLines-same a b c lines same taken = subst (λ o. TakesLines o c lines) same taken
+pub Takes-same : (end : ℕ) (a b c : Option (List ℕ)) (parts : List (List ℕ)) → a ≡ b → Takes end a c parts
+    → Takes end b c parts
+Takes-same end a b c parts same taken = subst (λ o. Takes end o c parts) same taken
 
 pub Appends-same : (a b : Option (List ℕ)) (bs cs : List ℕ) → bs ≡ cs → Appends a b bs → Appends a b cs
 Appends-same a b bs cs same p = subst (Appends a b) same p

@@ -76,11 +76,13 @@ is_parsed text url (Ok source) parses specifier same media_type valid spelled of
   specifier = parses ∙ ap Ok (sym specifier);
   source = same;
   media_type = media_type ∙ ap (λ u. media_type_in u text.media_type) (sym specifier);
-  valid = valid;
-  spelled = subst (λ t. IsSpelled t source.program) (sym same) spelled;
-  of_text = subst (λ m. IsOfText source.text (is_typed m) source.program source.comments) (sym media_type)
-      (subst (λ t. IsOfText t (is_typed (media_type_in url text.media_type)) source.program source.comments)
-      (sym same) of_text);
-  range = subst (λ t. source.program.range ≡ record { start = 0; end = length t }) (sym same) range;
+  read = record {
+    valid = valid;
+    spelled = subst (λ t. IsSpelled t source.program) (sym same) spelled;
+    of_text = subst (λ m. IsOfText source.text (is_typed m) source.program source.comments) (sym media_type)
+        (subst (λ t. IsOfText t (is_typed (media_type_in url text.media_type)) source.program source.comments)
+        (sym same) of_text);
+    range = subst (λ t. source.program.range ≡ record { start = 0; end = length t }) (sym same) range;
+  };
 }
 is_parsed text url (Err error) parses specifier same media_type valid spelled of_text range = tt

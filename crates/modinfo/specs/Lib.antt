@@ -4,6 +4,7 @@ pub mod CommandLine
 pub mod Commands
 pub mod Fault
 pub mod FileUrl
+pub mod Files
 pub mod Help
 pub mod Lines
 pub mod Reach

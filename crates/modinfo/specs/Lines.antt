@@ -15,10 +15,16 @@ abbrev pub before_first : ℕ → List (List ℕ) → List (List ℕ)
 before_first byte [] = (byte ∷ []) ∷ []
 before_first byte (line ∷ lines) = (byte ∷ line) ∷ lines
 
--- The lines of a text, without their line feeds. What follows the last line feed is a line if it isn't empty.
+-- The parts of a text that a byte ends, without that byte. What follows the last such byte is one if it isn't
+-- empty.
+abbrev pub ended_by : ℕ → List ℕ → List (List ℕ)
+ended_by end [] = []
+ended_by end (byte ∷ text) =
+    if byte == end then [] ∷ ended_by end text else before_first byte (ended_by end text)
+
+-- The lines of a text, without their line feeds.
 abbrev pub lines_of : List ℕ → List (List ℕ)
-lines_of [] = []
-lines_of (byte ∷ text) = if byte == 10 then [] ∷ lines_of text else before_first byte (lines_of text)
+lines_of text = ended_by 10 text
 
 -- The line with an answer or a report.
 abbrev pub framed : Command → List ℕ → List ℕ
@@ -46,12 +52,15 @@ pub data PrintsLine (command : Command) (line : List ℕ) : Bool → List ℕ �
   with_fault : (fault : Fault) → IsNoResult command line fault
       → PrintsLine command line (passes_without command) (fault_line fault)
 
--- What is printed for lines, in the same order. They pass if each line passes.
-pub data PrintsLines (command : Command) : List (List ℕ) → Bool → List ℕ → Type 0 where
-  none : PrintsLines command [] true []
+-- What is printed for lines, or for the names of files, in the same order. They pass if each passes.
+pub data PrintsEach (Prints : List ℕ → Bool → List ℕ → Type 0) : List (List ℕ) → Bool → List ℕ → Type 0 where
+  none : PrintsEach Prints [] true []
   more : {line : List ℕ} {lines : List (List ℕ)} {passes all_pass : Bool} {printed rest : List ℕ}
-      → PrintsLine command line passes printed → PrintsLines command lines all_pass rest
-      → PrintsLines command (line ∷ lines) (passes && all_pass) (printed ++ rest)
+      → Prints line passes printed → PrintsEach Prints lines all_pass rest
+      → PrintsEach Prints (line ∷ lines) (passes && all_pass) (printed ++ rest)
+
+abbrev pub PrintsLines : Command → List (List ℕ) → Bool → List ℕ → Type 0
+PrintsLines command = PrintsEach (PrintsLine command)
 
 -- What is printed for each line of the input was appended to the output.
 abbrev pub LeavesLines : Command → Option (List ℕ) → Option (List ℕ) → Option (List ℕ) → Bool → Type 0

@@ -102,13 +102,6 @@ abbrev pub IsTextRun : List ℕ → Option (List ℕ) → Option (List ℕ) → 
     → Type 0
 IsTextRun text = IsRun (λ passes line. IsTrue passes × (line ≡ text)) IsWriteFault
 
--- A run of `files`, by its status and the error output: status 0 or 1 and nothing there, or status 1 and the
--- line of a fault, or a beginning of it.
-abbrev pub IsFilesRun : Option (List ℕ) → Option (List ℕ) → ℕ → Type 0
-IsFilesRun errors_before errors_after status =
-    ((status ≤ 1) × Keeps errors_before errors_after)
-    ⊎ ((status ≡ 1) × ((fault : Fault) × AppendsFront errors_before errors_after (error_line fault)))
-
 -- A run with wrong words: only the usage, or a beginning of it, was printed, on the error output.
 pub record IsWrongRun (usage : List ℕ)
     (output_before output_after errors_before errors_after : Option (List ℕ)) (status : ℕ) : Type 0 where

@@ -39,16 +39,20 @@ reads_text value = do
 abbrev pub media_type_in : Parts → Option MediaType → MediaType
 media_type_in url named = unwrap_or named (media_type_of url)
 
--- A valid source with the URL, the text and the media type. Its tree and its comments are the text's: nothing
--- in them is invented, no dependency is lost, and the literals have the values that the text spells.
-pub record IsParsed (text : SourceText) (module_ : ParsedModule) : Type 0 where
-  pub specifier : parse_url None text.specifier ≡ Ok module_.specifier
-  pub source : module_.text ≡ text.source
-  pub media_type : module_.media_type ≡ media_type_in module_.specifier text.media_type
+-- A valid source that is its text's: nothing in its tree and comments is invented, no dependency is lost, and the
+-- literals have the values that the text spells.
+pub record IsRead (module_ : ParsedModule) : Type 0 where
   pub valid : IsValid module_.text module_.program module_.comments
   pub spelled : IsSpelled module_.text module_.program
   pub of_text : IsOfText module_.text (is_typed module_.media_type) module_.program module_.comments
   pub range : module_.program.range ≡ record { start = 0; end = length module_.text }
+
+-- Such a source with the URL, the text and the media type.
+pub record IsParsed (text : SourceText) (module_ : ParsedModule) : Type 0 where
+  pub specifier : parse_url None text.specifier ≡ Ok module_.specifier
+  pub source : module_.text ≡ text.source
+  pub media_type : module_.media_type ≡ media_type_in module_.specifier text.media_type
+  pub read : IsRead module_
 
 -- The compact JSON of the information on such a source.
 abbrev pub IsInfoOfText : SourceText → List ℕ → Type 0

@@ -3,6 +3,7 @@ pub mod Answer
 pub mod Check
 pub mod Commands
 pub mod Convert
+pub mod Files
 pub mod Lines
 pub mod Reach
 pub mod Request

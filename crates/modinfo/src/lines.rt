@@ -18,7 +18,8 @@ use memchr::memchr;
 use std::alloc::{AllocError, Global};
 use std::io::{BufRead, BufReader, ErrorKind, Read, Write};
 
-const CHUNK: usize = 65536;
+/// As many bytes are read or written at once, or more.
+pub(crate) const CHUNK: usize = 65536;
 
 /// No line with a fault has more bytes.
 const FAULT_ROOM: usize = 64;
@@ -70,7 +71,11 @@ where
 }
 
 /// Writes the waiting bytes if they are due, and flushes the output.
-fn write_waiting<W: Write>(output: &mut W, waiting: &mut Vec<u8>, is_due: bool) -> Result<(), Fault>
+pub(crate) fn write_waiting<W: Write>(
+    output: &mut W,
+    waiting: &mut Vec<u8>,
+    is_due: bool,
+) -> Result<(), Fault>
     ensures { MatchResult result
         (λ _. (written : List ℕ) × (waiting.old.items ≡ written ++ waiting.new.items)
         × Appends (W.contents output.old) (W.contents output.new) written
@@ -138,27 +143,28 @@ fn next_line<R: Read>(alloc: Global, input: &mut BufReader<R, Global>) -> Result
     let mut line = Vec::new(alloc);
     match input.read_until(b'\n', &mut line) {
         Ok(0) => Ok(Next::End),
-        Ok(_) => Ok(Next::Line(without_feed(line))),
+        Ok(_) => Ok(Next::Line(without_end(line, b'\n'))),
         Err(error) if error.kind() == ErrorKind::OutOfMemory => skip_rest(input, line),
         Err(_) => Err(Fault::Input),
     }
 }
 
-/// The line without its line feed, if it has one.
-fn without_feed(mut line: Vec<u8>) -> Vec<u8>
-    ensures { result.items ≡ strip_last 10 line.items }
+/// The bytes without the byte that ends them, if they have it.
+pub(crate) fn without_end(mut bytes: Vec<u8>, end: u8) -> Vec<u8>
+    ensures { result.items ≡ strip_last end bytes.items }
 {
-    if ends_with_feed(line.as_slice()) {
-        line.pop();
+    if ends_with(bytes.as_slice(), end) {
+        bytes.pop();
     }
-    line
+    bytes
 }
 
-fn ends_with_feed(bytes: &[u8]) -> bool
-    ensures { result ≡ ends_with_byte 10 bytes.now }
+/// Returns whether this byte ends the bytes.
+fn ends_with(bytes: &[u8], end: u8) -> bool
+    ensures { result ≡ ends_with_byte end bytes.now }
 {
     let count = bytes.len();
-    count > 0 && bytes[count - 1] == b'\n'
+    count > 0 && bytes[count - 1] == end
 }
 
 /// Skips the rest of a line, after an allocation failed for all but its first bytes.
@@ -167,7 +173,7 @@ fn skip_rest<R: Read>(input: &mut BufReader<R, Global>, first: Vec<u8>) -> Resul
         → Consumes before (reader_remaining R.remaining input.old) first.items
         → MatchResult result (TakesNext before (reader_remaining R.remaining input.new)) IsFailure }
 {
-    if ends_with_feed(first.as_slice()) {
+    if ends_with(first.as_slice(), b'\n') {
         return Ok(Next::Skipped);
     }
     let count = first.len();

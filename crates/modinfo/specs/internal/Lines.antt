@@ -1,15 +1,19 @@
 -- Taking lines from an input.
 use Rattle.std.specs.Io.KnownBytes.{IsAtEnd}
 use Rattle.std.specs.Prelude.{◌≡◌, ◌++◌, ℕ, List, [], ◌∷◌, Option, None, Some}
-use Rattle.modinfo.specs.Lines.{lines_of}
+use Rattle.modinfo.specs.Lines.{ended_by}
 use Rattle.modinfo.specs.declared.lines.Next.{Next}
 use Rattle.modinfo.specs.declared.lines.Next.TheVariants.{End, Line, Skipped}
 
--- These lines were taken from the front of an input whose bytes are known.
+-- These parts, which a byte ends, were taken from the front of an input whose bytes are known.
+abbrev pub Takes : ℕ → Option (List ℕ) → Option (List ℕ) → List (List ℕ) → Type 0
+Takes end None new parts = Unit {0}
+Takes end (Some text) None parts = ⊥
+Takes end (Some text) (Some left) parts = ended_by end text ≡ parts ++ ended_by end left
+
+-- These lines were taken.
 abbrev pub TakesLines : Option (List ℕ) → Option (List ℕ) → List (List ℕ) → Type 0
-TakesLines None new lines = Unit {0}
-TakesLines (Some text) None lines = ⊥
-TakesLines (Some text) (Some left) lines = lines_of text ≡ lines ++ lines_of left
+TakesLines old new lines = Takes 10 old new lines
 
 -- The first line was taken from the input, to be read or skipped; or no line is left.
 abbrev pub TakesNext : Option (List ℕ) → Option (List ℕ) → Next → Type 0

@@ -1,6 +1,7 @@
 //! Reading of regular files.
 
-use crate::files::FileFault;
+use crate::files::line::FileFault;
+use crate::lines::CHUNK;
 use std::alloc::Global;
 use std::fs::{self, OpenFile};
 use std::io::{ErrorKind, Read};
@@ -9,9 +10,6 @@ use std::rt::Files;
 
 /// The most bytes of a file.
 const LIMIT: u64 = 64 << 20;
-
-/// The least room for a file that is larger than the system says.
-const CHUNK: usize = 65536;
 
 /// Reads files, and keeps on which devices the system makes up files as they are read. Such a file counts as
 /// regular, but a read of it may never return.

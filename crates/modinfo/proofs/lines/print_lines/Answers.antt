@@ -1,7 +1,7 @@
 use Rattle.std.proofs.Common.{◌++◌, ◌&&◌, [], ◌∷◌, true, ap, append_assoc, refl, rules, subst, sym, ◌∙◌}
-use Rattle.modinfo.specs.Lines.{PrintsLines, lines_of}
-use Rattle.modinfo.specs.Lines.PrintsLines.{none}
-use Rattle.modinfo.proofs.LinesTaken.{PrintsLines-more}
+use Rattle.modinfo.specs.Lines.{PrintsLine, PrintsLines, lines_of}
+use Rattle.modinfo.specs.Lines.PrintsEach.{none}
+use Rattle.modinfo.proofs.LinesTaken.{PrintsEach-more}
 use Rattle.modinfo.proofs.lines.print_lines.Goals as goal
 
 pub lines-init : goal.lines-init
@@ -24,5 +24,5 @@ lines-preserved c =
       split ∙ ap (λ l. done ++ l) (c.split_line.ensures.lines (search rules))
           ∙ sym (append_assoc done (line ∷ []) (lines_of c.split_line.result.1.now)),
       subst (PrintsLines c.args.command (done ++ line ∷ []) (passes && next)) (sym put)
-          (PrintsLines-more c.args.command done line passes next c.lines.printed.items text prints one),
+          (PrintsEach-more (PrintsLine c.args.command) done line passes next c.lines.printed.items text prints one),
     )

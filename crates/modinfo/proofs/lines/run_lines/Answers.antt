@@ -1,14 +1,13 @@
 use Rattle.std.proofs.Common.{◌++◌, [], ◌∷◌, refl, true, sym, ap, subst, ◌∙◌, append-nil}
 use Rattle.std.proofs.KnownBytes.{Appends-nil, Appends-trans}
-use Rattle.modinfo.specs.Lines.{PrintsLines}
-use Rattle.modinfo.specs.Lines.PrintsLines.{none}
+use Rattle.modinfo.specs.Lines.{PrintsLine, PrintsLines}
+use Rattle.modinfo.specs.Lines.PrintsEach.{none}
 use Rattle.modinfo.specs.Run.{IsFailure}
 use Rattle.modinfo.specs.declared.fault.Fault.TheVariants.{Input, OutOfMemory}
 use Rattle.modinfo.proofs.Faults.{write_failure}
 use Rattle.modinfo.proofs.LinesTaken.{AppendsFront-more, AppendsFront-sent, LeavesFirstLines-at}
-use Rattle.modinfo.proofs.LinesTaken.{LeavesFirstLines-none, Appends-same, PrintsLines-next}
-use Rattle.modinfo.proofs.LinesTaken.{PrintsLines-written, TakesLines-all, TakesLines-more, TakesLines-nil}
-use Rattle.modinfo.proofs.LinesTaken.{TakesLines-same, exits}
+use Rattle.modinfo.proofs.LinesTaken.{LeavesFirstLines-none, Appends-same, PrintsEach-next}
+use Rattle.modinfo.proofs.LinesTaken.{PrintsEach-written, Takes-all, Takes-more, Takes-nil, Takes-same, exits}
 use Rattle.modinfo.proofs.lines.run_lines.Goals as goal
 
 pub returns-in_err-input : goal.returns-in_err-input
@@ -26,7 +25,7 @@ pub lines-init : goal.lines-init
 lines-init g c = (
   [],
   [],
-  TakesLines-nil _,
+  Takes-nil 10 _,
   subst (PrintsLines c.args.command [] true) (sym c.in_ok-waiting.ensures.items) none,
   Appends-nil _,
 )
@@ -39,7 +38,7 @@ returns-in_err-write_waiting g c =
     exits _ _ _ c.in_err-write_waiting.field-0.0 c.from_residual-in_err-write_waiting.ensures.1
     (LeavesFirstLines-at c.args.command _ _ _ _ done c.lines.is_passed (sent ++ c.lines.waiting.items)
     c.in_err-write_waiting.field-0.0 (write_failure _ is_fault)
-    (TakesLines-same _ _ _ done c.in_ok-input.ensures taken) prints
+    (Takes-same 10 _ _ _ done c.in_ok-input.ensures taken) prints
     (AppendsFront-more _ _ _ sent c.lines.waiting.items appended front))
 
 -- The next line couldn't be read or printed.
@@ -51,8 +50,8 @@ returns-in_err-passes g c =
     exits _ _ _ c.in_err-passes.field-0.0 c.from_residual-in_err-passes.ensures.1
     (LeavesFirstLines-at c.args.command _ _ _ _ done c.lines.is_passed ((sent ++ written) ++ left)
     c.in_err-passes.field-0.0 c.in_err-passes.ensures
-    (TakesLines-same _ _ _ done c.in_ok-input.ensures taken)
-    (PrintsLines-written c.args.command done c.lines.is_passed sent c.lines.waiting.items written left prints
+    (Takes-same 10 _ _ _ done c.in_ok-input.ensures taken)
+    (PrintsEach-written (PrintsLine c.args.command) done c.lines.is_passed sent c.lines.waiting.items written left prints
     split)
     (AppendsFront-sent _ _ (sent ++ written) left (Appends-trans _ _ _ sent written appended wrote)))
 
@@ -68,8 +67,8 @@ returns-in_err-write_waiting-in-None g c =
     c.from_residual-in_err-write_waiting-in-None.ensures.1
     (LeavesFirstLines-at c.args.command _ _ _ _ done c.lines.is_passed ((sent ++ written) ++ new)
     c.in_err-write_waiting-in-None.field-0.0 (write_failure _ is_fault)
-    (TakesLines-same _ _ _ done c.in_ok-input.ensures taken)
-    (PrintsLines-written c.args.command done c.lines.is_passed sent c.lines.waiting.items written new prints
+    (Takes-same 10 _ _ _ done c.in_ok-input.ensures taken)
+    (PrintsEach-written (PrintsLine c.args.command) done c.lines.is_passed sent c.lines.waiting.items written new prints
     (split ∙ ap (λ l. written ++ l) (sym same)))
     (AppendsFront-more _ _ _ (sent ++ written) new (Appends-trans _ _ _ sent written appended wrote) front))
 
@@ -82,9 +81,9 @@ returns-in-None g c =
     let (last, split', wrote', empty') = c.in_ok-write_waiting-in-None.ensures in
     let new = c.run_next.new.waiting.items in (
       done,
-      TakesLines-all _ _ done (TakesLines-same _ _ _ done c.in_ok-input.ensures taken) end,
+      Takes-all 10 _ _ done (Takes-same 10 _ _ _ done c.in_ok-input.ensures taken) end,
       (sent ++ written) ++ new,
-      PrintsLines-written c.args.command done c.lines.is_passed sent c.lines.waiting.items written new prints
+      PrintsEach-written (PrintsLine c.args.command) done c.lines.is_passed sent c.lines.waiting.items written new prints
           (split ∙ ap (λ l. written ++ l) (sym same)),
       Appends-same _ _ ((sent ++ written) ++ last) ((sent ++ written) ++ new)
           (ap (λ l. (sent ++ written) ++ l) (sym (split' ∙ ap (λ l. last ++ l) (empty' refl)
@@ -101,8 +100,8 @@ lines-preserved g c =
     let (line, printed, next, one, put) = rw c.in-Some.is at c.in_ok-passes.ensures in (
       done ++ line ∷ [],
       sent ++ written,
-      TakesLines-more _ _ _ done line taken next,
-      PrintsLines-next c.args.command done line c.lines.is_passed c.in-Some.passes sent c.lines.waiting.items
+      Takes-more 10 _ _ _ done line taken next,
+      PrintsEach-next (PrintsLine c.args.command) done line c.lines.is_passed c.in-Some.passes sent c.lines.waiting.items
           written
           c.write_waiting.new.waiting.items printed c.run_next.new.waiting.items prints split one put,
       Appends-trans _ _ _ sent written appended wrote,
@@ -112,5 +111,5 @@ pub returns : goal.returns
 returns g c =
     let (done, sent, taken, prints, appended) = c.lines.invariant in
     LeavesFirstLines-at c.args.command _ _ _ _ done c.lines.is_passed (sent ++ c.lines.waiting.items) Input tt
-    (TakesLines-same _ _ _ done c.in_ok-input.ensures taken) prints
+    (Takes-same 10 _ _ _ done c.in_ok-input.ensures taken) prints
     (AppendsFront-sent _ _ sent c.lines.waiting.items appended)

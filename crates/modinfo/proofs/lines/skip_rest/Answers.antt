@@ -7,17 +7,17 @@ some : (count skipped : ℕ) → (0 < count) ⊎ ((count ≤ 0) × (0 < skipped)
 some count skipped (inl h) = inl h
 some count skipped (inr h) = inr h.1
 
-pub returns-then-ends_with_feed : goal.returns-then-ends_with_feed
-returns-then-ends_with_feed g c before stops consumed =
+pub returns-then-ends_with : goal.returns-then-ends_with
+returns-then-ends_with g c before stops consumed =
     TakesLines-ended before _ c.args.first.items consumed stops
-    (sym (c.ends_with_feed.ensures ∙ ap (ends_with_byte 10) c.as_slice.ensures.value)
-    ∙ c.if-ends_with_feed.true)
+    (sym (c.ends_with.ensures ∙ ap (ends_with_byte 10) c.as_slice.ensures.value)
+    ∙ c.if-ends_with.true)
 
 pub returns-in-Ok : goal.returns-in-Ok
 returns-in-Ok g c before stops consumed =
     TakesLines-unended before _ _ c.args.first.items consumed stops
-    (sym (c.ends_with_feed.ensures ∙ ap (ends_with_byte 10) c.as_slice.ensures.value)
-    ∙ c.if-ends_with_feed.false)
+    (sym (c.ends_with.ensures ∙ ap (ends_with_byte 10) c.as_slice.ensures.value)
+    ∙ c.if-ends_with.false)
     c.in-Ok.ensures.rest
     (nonempty_skipped _ c.args.first.items c.len-count.result c.in-Ok.skipped (omega (
       arith,
