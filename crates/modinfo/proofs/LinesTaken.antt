@@ -212,7 +212,8 @@ nonempty_skipped (Some y) first count skipped is counted (inr some) =
 
 -- What is printed for a line after others.
 pub PrintsEach-more : (Prints : List ℕ → Bool → List ℕ → Type 0) (lines : List (List ℕ)) (line : List ℕ)
-    (passes next : Bool) (printed text : List ℕ) → PrintsEach Prints lines passes printed → Prints line next text
+    (passes next : Bool) (printed text : List ℕ) → PrintsEach Prints lines passes printed → Prints line next
+    text
     → PrintsEach Prints (lines ++ line ∷ []) (passes && next) (printed ++ text)
 PrintsEach-more Prints _ line _ next _ text none one =
     subst (λ b. PrintsEach Prints (line ∷ []) b text) (and-true next)

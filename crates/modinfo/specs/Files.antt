@@ -23,8 +23,8 @@ use Rattle.modinfo.specs.declared.command_line.Names.{Names}
 use Rattle.modinfo.specs.declared.command_line.Names.TheVariants.{Arguments, Lines, Zeros}
 use Rattle.modinfo.specs.declared.fault.Fault.{Fault}
 
--- The information on a file with a URL: that on a source with the URL, the media type by the URL, and the text
--- that was read. What text a file has is the system's word.
+-- The information on a file with a URL: that on a source with the URL, the media type by the URL, and the
+-- text that was read. What text a file has is the system's word.
 pub record IsInfoOfFile (url : Parts) (info : ModuleInfo) : Type 0 where
   pub module_ : ParsedModule
   pub specifier : module_.specifier ≡ url
@@ -60,7 +60,8 @@ IsUrlOf folder name url = parse_url None (file_text (unwrap_or folder []) name) 
 abbrev pub HasNoUrl : Option (List ℕ) → List ℕ → Type 0
 HasNoUrl folder name = (¬ IsUtf8 name) ⊎ ((folder ≡ None) × (is_absolute name ≡ false))
 
--- The `specifier` of a line: the URL of the name, or a name without URL, with U+FFFD for bytes that aren't UTF-8.
+-- The `specifier` of a line: the URL of the name, or a name without URL, with U+FFFD for bytes that aren't
+-- UTF-8.
 abbrev pub IsSpecifierOf : Option (List ℕ) → List ℕ → List ℕ → Type 0
 IsSpecifierOf folder name specifier = ((url : Parts) × IsUrlOf folder name url × (specifier ≡ serialize url))
     ⊎ (HasNoUrl folder name × (specifier ≡ utf8_lossy name))
@@ -104,8 +105,8 @@ pub record LeavesFirstFiles (names : Names) (words : List (List ℕ)) (input bef
   pub prints : PrintsEach (PrintsFile folder) first passes printed
   pub appended : AppendsFront before after printed
 
--- A run of `files`. The status is 0 if each file has information. The error output is unchanged, or the run had
--- a fault, and it got its line, or a beginning of that line.
+-- A run of `files`. The status is 0 if each file has information. The error output is unchanged, or the run
+-- had a fault, and it got its line, or a beginning of that line.
 pub data IsFilesRun (names : Names) (words : List (List ℕ))
     (input output_before output_after errors_before errors_after : Option (List ℕ)) (status : ℕ)
     : Type 0 where

@@ -39,8 +39,8 @@ reads_text value = do
 abbrev pub media_type_in : Parts → Option MediaType → MediaType
 media_type_in url named = unwrap_or named (media_type_of url)
 
--- A valid source that is its text's: nothing in its tree and comments is invented, no dependency is lost, and the
--- literals have the values that the text spells.
+-- A valid source that is its text's: nothing in its tree and comments is invented, no dependency is lost, and
+-- the literals have the values that the text spells.
 pub record IsRead (module_ : ParsedModule) : Type 0 where
   pub valid : IsValid module_.text module_.program module_.comments
   pub spelled : IsSpelled module_.text module_.program

@@ -24,5 +24,6 @@ lines-preserved c =
       split ∙ ap (λ l. done ++ l) (c.split_line.ensures.lines (search rules))
           ∙ sym (append_assoc done (line ∷ []) (lines_of c.split_line.result.1.now)),
       subst (PrintsLines c.args.command (done ++ line ∷ []) (passes && next)) (sym put)
-          (PrintsEach-more (PrintsLine c.args.command) done line passes next c.lines.printed.items text prints one),
+          (PrintsEach-more (PrintsLine c.args.command) done line passes next c.lines.printed.items text
+          prints one),
     )

@@ -51,7 +51,8 @@ returns-in_err-passes g c =
     (LeavesFirstLines-at c.args.command _ _ _ _ done c.lines.is_passed ((sent ++ written) ++ left)
     c.in_err-passes.field-0.0 c.in_err-passes.ensures
     (Takes-same 10 _ _ _ done c.in_ok-input.ensures taken)
-    (PrintsEach-written (PrintsLine c.args.command) done c.lines.is_passed sent c.lines.waiting.items written left prints
+    (PrintsEach-written (PrintsLine c.args.command) done c.lines.is_passed sent c.lines.waiting.items written
+    left prints
     split)
     (AppendsFront-sent _ _ (sent ++ written) left (Appends-trans _ _ _ sent written appended wrote)))
 
@@ -68,7 +69,8 @@ returns-in_err-write_waiting-in-None g c =
     (LeavesFirstLines-at c.args.command _ _ _ _ done c.lines.is_passed ((sent ++ written) ++ new)
     c.in_err-write_waiting-in-None.field-0.0 (write_failure _ is_fault)
     (Takes-same 10 _ _ _ done c.in_ok-input.ensures taken)
-    (PrintsEach-written (PrintsLine c.args.command) done c.lines.is_passed sent c.lines.waiting.items written new prints
+    (PrintsEach-written (PrintsLine c.args.command) done c.lines.is_passed sent c.lines.waiting.items written
+    new prints
     (split ∙ ap (λ l. written ++ l) (sym same)))
     (AppendsFront-more _ _ _ (sent ++ written) new (Appends-trans _ _ _ sent written appended wrote) front))
 
@@ -83,7 +85,8 @@ returns-in-None g c =
       done,
       Takes-all 10 _ _ done (Takes-same 10 _ _ _ done c.in_ok-input.ensures taken) end,
       (sent ++ written) ++ new,
-      PrintsEach-written (PrintsLine c.args.command) done c.lines.is_passed sent c.lines.waiting.items written new prints
+      PrintsEach-written (PrintsLine c.args.command) done c.lines.is_passed sent c.lines.waiting.items
+          written new prints
           (split ∙ ap (λ l. written ++ l) (sym same)),
       Appends-same _ _ ((sent ++ written) ++ last) ((sent ++ written) ++ new)
           (ap (λ l. (sent ++ written) ++ l) (sym (split' ∙ ap (λ l. last ++ l) (empty' refl)
@@ -101,7 +104,8 @@ lines-preserved g c =
       done ++ line ∷ [],
       sent ++ written,
       Takes-more 10 _ _ _ done line taken next,
-      PrintsEach-next (PrintsLine c.args.command) done line c.lines.is_passed c.in-Some.passes sent c.lines.waiting.items
+      PrintsEach-next (PrintsLine c.args.command) done line c.lines.is_passed c.in-Some.passes sent
+          c.lines.waiting.items
           written
           c.write_waiting.new.waiting.items printed c.run_next.new.waiting.items prints split one put,
       Appends-trans _ _ _ sent written appended wrote,

@@ -9,6 +9,11 @@ returns-clause-parsed c parses =
     (rw (c.in_ok-source.ensures.ok, c.as_str.ensures) at made.text)
     (rw (c.unwrap_or-media_type.ensures, c.from_specifier.ensures) at made.media_type) made.valid
     (rw (c.in_ok-source.ensures.ok, c.as_str.ensures) at made.spelled)
-    (rw (c.in_ok-source.ensures.ok, c.as_str.ensures, c.unwrap_or-media_type.ensures, c.from_specifier.ensures)
+    (rw (
+      c.in_ok-source.ensures.ok,
+      c.as_str.ensures,
+      c.unwrap_or-media_type.ensures,
+      c.from_specifier.ensures,
+    )
     at made.of_text)
     (rw (c.in_ok-source.ensures.ok, c.as_str.ensures) at made.range)
