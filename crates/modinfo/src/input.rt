@@ -8,7 +8,8 @@ use simdutf8::basic;
 use std::alloc::Global;
 use std::io::{ErrorKind, Read};
 
-const CHUNK: usize = 65536;
+/// As many bytes are read or written at once, or more.
+pub(crate) const CHUNK: usize = 65536;
 
 /// The text of bytes. `Input` if they aren't UTF-8.
 pub fn as_text(bytes: &[u8]) -> Result<&str, Fault>

@@ -13,13 +13,11 @@ ghost use Rattle.modinfo.specs.Run.{AppendsFront, IsFailure, IsNoResult};
 
 use crate::command::{Command, Printed};
 use crate::fault::Fault;
+use crate::input::CHUNK;
 use crate::output::print;
 use memchr::memchr;
 use std::alloc::{AllocError, Global};
 use std::io::{BufRead, BufReader, ErrorKind, Read, Write};
-
-/// As many bytes are read or written at once, or more.
-pub(crate) const CHUNK: usize = 65536;
 
 /// No line with a fault has more bytes.
 const FAULT_ROOM: usize = 64;

@@ -1,7 +1,7 @@
 //! Reading of regular files.
 
 use crate::files::line::FileFault;
-use crate::lines::CHUNK;
+use crate::input::CHUNK;
 use std::alloc::Global;
 use std::fs::{self, OpenFile};
 use std::io::{ErrorKind, Read};
