@@ -3,6 +3,7 @@ mod EncodedBytes
 pub mod Faults
 mod LinesSplit
 mod LinesTaken
+mod FilesPrinted
 mod GivenWords
 pub mod Modules
 mod Outputs

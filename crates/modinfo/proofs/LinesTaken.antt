@@ -237,6 +237,16 @@ PrintsEach-next Prints lines line passes next sent waiting written left printed 
     subst (PrintsEach Prints (lines ++ line ∷ []) (passes && next)) same
     (PrintsEach-more Prints lines line passes next (sent ++ waiting) printed all one)
 
+-- Like `PrintsEach-more`, if the printed text was put after what is waiting.
+pub PrintsEach-put : (Prints : List ℕ → Bool → List ℕ → Type 0) (lines : List (List ℕ)) (line : List ℕ)
+    (passes next : Bool) (sent waiting printed new : List ℕ) → PrintsEach Prints lines passes (sent ++ waiting)
+    → Prints line next printed → new ≡ waiting ++ printed
+    → PrintsEach Prints (lines ++ line ∷ []) (passes && next) (sent ++ new)
+PrintsEach-put Prints lines line passes next sent waiting printed new all one put =
+    subst (PrintsEach Prints (lines ++ line ∷ []) (passes && next))
+    (append_assoc sent waiting printed ∙ ap (λ l. sent ++ l) (sym put))
+    (PrintsEach-more Prints lines line passes next (sent ++ waiting) printed all one)
+
 -- The bytes that were written are a beginning of the printed lines.
 pub AppendsFront-sent : (a b : Option (List ℕ)) (sent waiting : List ℕ) → Appends a b sent
     → AppendsFront a b (sent ++ waiting)

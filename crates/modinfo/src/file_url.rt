@@ -69,7 +69,7 @@ fn push_encoded(text: &mut String, path: &str) -> Result<(), AllocError>
 }
 
 /// Returns whether a path begins with a slash.
-fn is_absolute(path: &str) -> bool
+pub(crate) fn is_absolute(path: &str) -> bool
     ensures { result ≡ is_absolute path.now }
 {
     matches!(path.as_bytes(), [b'/', ..])

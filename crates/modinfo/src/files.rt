@@ -3,12 +3,12 @@
 mod line;
 mod reader;
 
-ghost use Rattle.std.specs.Prelude.{◌≡◌, ◌++◌, ◌×◌, ℕ, Bool, IfOk, IfSome, IsTrue, List, MatchOption, MatchResult, Option};
-ghost use Rattle.std.specs.Prelude.{map, option_map};
+ghost use Rattle.std.specs.Prelude.{◌≡◌, ◌++◌, ◌∷◌, [], ℕ, Bool, IfOk, IfSome, IsTrue, List, MatchOption, MatchResult, Option};
+ghost use Rattle.std.specs.Prelude.{drop, map, option_map};
 ghost use Rattle.std.specs.Io.Buffered.{reader_remaining};
 ghost use Rattle.std.specs.Io.KnownBytes.{Appends, IsAtEnd};
 ghost use Rattle.modinfo.specs.CommandLine.{asks_for};
-ghost use Rattle.modinfo.specs.Files.{IsFilesRun, IsInfoOfFile, LeavesFiles, LeavesFirstFiles, PrintsFile};
+ghost use Rattle.modinfo.specs.Files.{HasNoUrl, IsFilesRun, IsInfoOfFile, LeavesFiles, LeavesFirstFiles, PrintsFile};
 ghost use Rattle.modinfo.specs.Lines.{PrintsEach, ended_by};
 ghost use Rattle.modinfo.specs.Run.{AppendsFront, IsWrongRun};
 ghost use Rattle.modinfo.specs.internal.Files.{LeavesEach, LeavesFirst};
@@ -16,7 +16,7 @@ ghost use Rattle.modinfo.specs.internal.Lines.{Takes};
 
 use crate::command_line::{CommandLine, Names};
 use crate::fault::Fault;
-use crate::file_url::file_url;
+use crate::file_url::{file_url, is_absolute};
 use crate::files::line::{FileFault, put_line};
 use crate::files::reader::FileReader;
 use crate::help::USAGE;
@@ -101,23 +101,33 @@ fn run_files<R: Files + Env + AllocGlobal, I: Read, W: Write>(
     rt: &R,
     names: Names,
     words: &[&str],
-    input: &mut I,
+    input: I,
     output: &mut W,
 ) -> Result<bool, Fault>
 where
     I: Drop,
     ensures { MatchResult result
-        (LeavesFiles names (map (λ word. word.now) words.now) (I.remaining input.old)
+        (LeavesFiles names (map (λ word. word.now) words.now) (I.remaining input)
         (W.contents output.old) (W.contents output.new))
-        (λ _. LeavesFirstFiles names (map (λ word. word.now) words.now) (I.remaining input.old)
+        (λ _. LeavesFirstFiles names (map (λ word. word.now) words.now) (I.remaining input)
         (W.contents output.old) (W.contents output.new)) }
 {
     let folder = current_folder(rt)?;
     let folder = folder.as_ref().map(|folder| folder.as_str());
     match names {
-        Names::Arguments => print_named(rt, folder, words.get(1..).unwrap_or(&[]), output),
+        Names::Arguments => print_named(rt, folder, after_first(words), output),
         Names::Lines => print_listed(rt, folder, b'\n', input, output),
         Names::Zeros => print_listed(rt, folder, 0, input, output),
+    }
+}
+
+/// Returns the words after the first.
+fn after_first<'a, 'b>(words: &'b [&'a str]) -> &'b [&'a str]
+    ensures { result.now ≡ drop 1 words.now }
+{
+    match words {
+        [_, names @ ..] => names,
+        [] => words,
     }
 }
 
@@ -140,10 +150,10 @@ fn print_named<R: Files + AllocGlobal, W: Write>(
     output: &mut W,
 ) -> Result<bool, Fault>
     ensures { MatchResult result
-        (LeavesEach (option_map (λ folder. folder.now) folder) (map (λ name. name.now) names.now)
+        (LeavesEach (option_map (λ folder. folder.now) folder.entry) (map (λ name. name.now) names.now)
         (W.contents output.old) (W.contents output.new))
         (λ _. (first : List (List ℕ)) × (rest : List (List ℕ)) × (map (λ name. name.now) names.now ≡ first ++ rest)
-        × LeavesFirst (option_map (λ folder. folder.now) folder) first (W.contents output.old) (W.contents output.new)) }
+        × LeavesFirst (option_map (λ folder. folder.now) folder.entry) first (W.contents output.old) (W.contents output.new)) }
 {
     let mut reader = FileReader::new(rt);
     let mut waiting = Vec::new(rt.alloc());
@@ -169,18 +179,18 @@ fn print_listed<R: Files + AllocGlobal, I: Read, W: Write>(
     rt: &R,
     folder: Option<&str>,
     end: u8,
-    input: &mut I,
+    input: I,
     output: &mut W,
 ) -> Result<bool, Fault>
 where
     I: Drop,
     ensures { MatchResult result
-        (λ passes. (each : List (List ℕ)) × IfSome (I.remaining input.old) (λ left. each ≡ ended_by end left)
-        × LeavesEach (option_map (λ folder. folder.now) folder) each (W.contents output.old) (W.contents output.new)
+        (λ passes. (each : List (List ℕ)) × IfSome (I.remaining input) (λ left. each ≡ ended_by end left)
+        × LeavesEach (option_map (λ folder. folder.now) folder.entry) each (W.contents output.old) (W.contents output.new)
         passes)
-        (λ _. (first : List (List ℕ)) × IfSome (I.remaining input.old) (λ left. (rest : List (List ℕ))
+        (λ _. (first : List (List ℕ)) × IfSome (I.remaining input) (λ left. (rest : List (List ℕ))
         × (ended_by end left ≡ first ++ rest))
-        × LeavesFirst (option_map (λ folder. folder.now) folder) first (W.contents output.old) (W.contents output.new)) }
+        × LeavesFirst (option_map (λ folder. folder.now) folder.entry) first (W.contents output.old) (W.contents output.new)) }
 {
     let mut input = buffered(rt.alloc(), input)?;
     let mut reader = FileReader::new(rt);
@@ -218,7 +228,7 @@ fn put_next<R: Files + AllocGlobal, I: Read>(
         ((waiting.new.items ≡ waiting.old.items) × IsAtEnd (reader_remaining I.remaining input.old))
         (λ passes. (name : List ℕ) × (printed : List ℕ)
         × Takes end (reader_remaining I.remaining input.old) (reader_remaining I.remaining input.new) (name ∷ [])
-        × PrintsFile (option_map (λ folder. folder.now) folder) name passes printed
+        × PrintsFile (option_map (λ folder. folder.now) folder.entry) name passes printed
         × (waiting.new.items ≡ waiting.old.items ++ printed)))
         (λ _. waiting.new.items ≡ waiting.old.items) }
 {
@@ -245,29 +255,38 @@ fn put_file<R: Files + AllocGlobal>(
 ) -> Result<bool, Fault>
     ensures { MatchResult result
         (λ passes. (printed : List ℕ)
-        × PrintsFile (option_map (λ folder. folder.now) folder) name.now passes printed
+        × PrintsFile (option_map (λ folder. folder.now) folder.entry) name.now passes printed
         × (waiting.new.items ≡ waiting.old.items ++ printed))
         (λ _. waiting.new.items ≡ waiting.old.items) }
 {
     let alloc = rt.alloc();
-    match basic::from_utf8(name) {
-        Ok(path) if folder.is_some() || path.starts_with('/') => {
-            let specifier = file_url(alloc, folder.unwrap_or(""), path)?;
-            let found = info_of_file(rt, reader, path, &specifier);
-            put_line(alloc, specifier.as_str(), found, waiting)
-        }
-        Ok(path) => put_line(
-            alloc,
-            path,
-            Err(FileFault::input("the path of the current folder isn't known, or isn't UTF-8")),
-            waiting,
-        ),
-        Err(_) => {
-            let lossy = String::from_utf8_lossy(alloc, name)?;
-            let found = Err(FileFault::input("the name isn't UTF-8"));
-            put_line(alloc, lossy.as_str(), found, waiting)
-        }
+    let Ok(path) = basic::from_utf8(name) else {
+        return put_unnamed(alloc, name, "the name isn't UTF-8", waiting);
+    };
+    if folder.is_none() && !is_absolute(path) {
+        let message = "the path of the current folder isn't known, or isn't UTF-8";
+        return put_unnamed(alloc, name, message, waiting);
     }
+    let specifier = file_url(alloc, folder.unwrap_or(""), path)?;
+    let found = info_of_file(rt, reader, path, &specifier);
+    put_line(alloc, specifier.as_str(), found, waiting)
+}
+
+/// Appends the line of a name without a URL. Returns whether it has information. A fault appends nothing.
+fn put_unnamed(
+    alloc: Global,
+    name: &[u8],
+    message: &'static str,
+    waiting: &mut Vec<u8>,
+) -> Result<bool, Fault>
+    ensures { (folder : Option (List ℕ)) → HasNoUrl folder name.now → MatchResult result
+        (λ passes. (printed : List ℕ) × PrintsFile folder name.now passes printed
+        × (waiting.new.items ≡ waiting.old.items ++ printed))
+        (λ _. waiting.new.items ≡ waiting.old.items) }
+{
+    let specifier = String::from_utf8_lossy(alloc, name)?;
+    let found = Err(FileFault::input(message));
+    put_line(alloc, specifier.as_str(), found, waiting)
 }
 
 /// The information on a file.

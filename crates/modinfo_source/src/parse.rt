@@ -11,7 +11,6 @@ ghost use Rattle.deno_graph_source.specs.MediaType.{is_typed};
 ghost use Rattle.modinfo_source.specs.OfText.{IsOfText};
 ghost use Rattle.modinfo_source.specs.Comments.{HasComments};
 ghost use Rattle.modinfo_source.specs.Spelled.{IsSpelled};
-ghost use Rattle.modinfo_source.specs.declared.error.TextError.TheVariants.{Defect, Syntax};
 
 use crate::comments::comments_of;
 use crate::error::{TextError, TreeError};
@@ -56,9 +55,9 @@ pub fn parse_module(
     // each word that a dependency begins with such a node begins, or the word is a name.
     ensures of_text { IfOk result (λ parsed.
         IsOfText (rc_str_bytes source) (is_typed media_type) parsed.program parsed.comments) }
-    ensures position { (diagnostic : ParseDiagnostic) → result ≡ Err (Syntax diagnostic)
+    ensures position { (diagnostic : ParseDiagnostic) → result ≡ Err (TextError.Syntax diagnostic)
         → HasPosition (rc_str_bytes source) diagnostic.position }
-    ensures defect { (position : Position) → result ≡ Err (Defect position)
+    ensures defect { (position : Position) → result ≡ Err (TextError.Defect position)
         → HasPosition (rc_str_bytes source) position }
 {
     let Parts { program, comments } = match parts_of(alloc, source.as_str(), media_type) {
@@ -120,9 +119,9 @@ fn parts_of(alloc: Global, text: &str, media_type: MediaType) -> Result<Parts, T
 /// Returns the error of a text without a tree of its own.
 fn text_error(alloc: Global, source: RcStr, error: TreeError) -> Result<TextError, AllocError>
     ensures position { IfOk result (λ text_error. (diagnostic : ParseDiagnostic)
-        → text_error ≡ Syntax diagnostic → HasPosition (rc_str_bytes source) diagnostic.position) }
+        → text_error ≡ TextError.Syntax diagnostic → HasPosition (rc_str_bytes source) diagnostic.position) }
     ensures defect { IfOk result (λ text_error. (position : Position)
-        → text_error ≡ Defect position → HasPosition (rc_str_bytes source) position) }
+        → text_error ≡ TextError.Defect position → HasPosition (rc_str_bytes source) position) }
 {
     match error {
         TreeError::Unread(ReadError::Syntax(SyntaxError { message, offset })) => {

@@ -1,6 +1,6 @@
 //! The line of a file.
 
-ghost use Rattle.std.specs.Prelude.{◌≡◌, ◌++◌, ◌×◌, ℕ, IfOk, List, MatchResult, Option};
+ghost use Rattle.std.specs.Prelude.{◌≡◌, ◌++◌, ℕ, IfOk, List, MatchResult, Option};
 ghost use Rattle.std.specs.String.{string_bytes};
 ghost use Rattle.serde_json.specs.Written.{compact_text};
 ghost use Rattle.url.specs.Parts.{Parts, serialize};
@@ -194,7 +194,12 @@ fn put_fault(
         ++ file_fault_line specifier.now fault.now.fault message fault.now.position))
         (λ _. waiting.new.items ≡ waiting.old.items) }
 {
-    let line = fault_line(alloc, specifier, fault)?;
+    let FileFault {
+        fault,
+        message,
+        position,
+    } = fault;
+    let line = fault_line(alloc, specifier, fault, message.as_str(), *position)?;
     Ok(waiting.extend_from_slice(line.as_bytes())?)
 }
 
@@ -213,17 +218,23 @@ fn info_line(alloc: Global, specifier: &str, info: &ModuleInfo) -> Result<String
 }
 
 /// The line of a file with a fault: JSON and a line feed.
-fn fault_line(alloc: Global, specifier: &str, fault: &FileFault) -> Result<String, AllocError>
-    ensures { IfOk result (λ line. (message : List ℕ) × (string_bytes line
-        ≡ file_fault_line specifier.now fault.now.fault message fault.now.position)) }
+fn fault_line(
+    alloc: Global,
+    specifier: &str,
+    fault: &Fault,
+    message: &str,
+    position: Option<Position>,
+) -> Result<String, AllocError>
+    ensures { IfOk result (λ line.
+        string_bytes line ≡ file_fault_line specifier.now fault.now message.now position) }
 {
     let specifier = json_text(alloc, specifier)?;
-    let message = json_text(alloc, fault.message.as_str())?;
-    let position = position_text(alloc, fault.position)?;
+    let message = json_text(alloc, message)?;
+    let position = position_text(alloc, position)?;
     let mut line = String::from_str(alloc, "{\"specifier\":")?;
     line.push_str(specifier.as_str())?;
     line.push_str(",\"fault\":{\"name\":\"")?;
-    line.push_str(fault.fault.name())?;
+    line.push_str(fault.name())?;
     line.push_str("\",\"message\":")?;
     line.push_str(message.as_str())?;
     line.push_str(position.as_str())?;
