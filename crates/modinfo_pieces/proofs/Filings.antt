@@ -1,6 +1,6 @@
 -- Comments that are filed while the pieces of a text are found.
-use Rattle.std.proofs.Common.{◌≡◌, ℕ, Bool, true, false, List, [], ◌∷◌, ◌++◌, Option, Some, None, ap, ◌∙◌, filter, map}
-use Rattle.std.proofs.Common.{if◌then◌else◌, cond, refl, sym, unwrap_or}
+use Rattle.std.proofs.Common.{◌≡◌, ℕ, Bool, true, false, List, [], ◌∷◌, ◌++◌, Option, Some, None, ap, ◌∙◌}
+use Rattle.std.proofs.Common.{filter, map, if◌then◌else◌, cond, refl, sym, unwrap_or}
 use Rattle.std.proofs.lemmas.List.{append-nil, append_assoc, map-append}
 use Rattle.modinfo_pieces.specs.Filed.{filed_before, filed_from, filed_here, filed_of, first_token}
 use Rattle.modinfo_pieces.specs.Filed.{is_before_semicolon, place_after, token_after, waiting_of}

@@ -19,7 +19,8 @@ use Rattle.modinfo_pieces.specs.declared.place.Context.{Context}
 use Rattle.modinfo_pieces.specs.declared.place.Opening.{Opening}
 use Rattle.modinfo_pieces.specs.declared.place.Opening.TheVariants.{ClosingTag, Tag}
 
--- A piece of this kind is a token, or a part of one: neither white space nor a comment. A `#!` line is a token.
+-- A piece of this kind is a token, or a part of one: neither white space nor a comment. A `#!` line is a
+-- token.
 abbrev pub is_token : PieceKind → Bool
 is_token Space = false
 is_token LineComment = false
@@ -51,8 +52,8 @@ is_name text word inside = is_in_tag inside || ((slice_index text (word.start - 
 abbrev pub is_closing : ℕ → Bool
 is_closing byte = (byte == 123) || ((byte == 125) || (byte == 59))
 
--- Block comments trail a token of this kind, whatever follows them. Of the parts of templates only those before
--- an expression, which end with `${`.
+-- Block comments trail a token of this kind, whatever follows them. Of the parts of templates only those
+-- before an expression, which end with `${`.
 abbrev pub is_trailed : List ℕ → Piece → PieceKind → Opening → Bool
 is_trailed text token Word inside = is_name text token inside
 is_trailed text token Punctuation inside = is_closing (slice_index text token.start)
@@ -92,7 +93,8 @@ abbrev pub before_token : Piece → Piece → Option ℕ → FiledComment
 before_token token comment None = record { comment = comment; trails = false; position = token.start }
 before_token token comment (Some end) = record { comment = comment; trails = true; position = end }
 
--- A comment without a token after it trails the text's end; in a text without tokens it leads the text's start.
+-- A comment without a token after it trails the text's end; in a text without tokens it leads the text's
+-- start.
 abbrev pub at_end : List ℕ → Waiting → FiledComment
 at_end text waiting = record {
   comment = waiting.comment;

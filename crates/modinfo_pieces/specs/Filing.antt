@@ -1,6 +1,7 @@
 -- The comments up to a place, as far as they can be filed there.
 use Rattle.std.specs.Prelude.{ℕ, Bool, false, List, [], ◌∷◌, ◌++◌, Option, Some, None, map}
-use Rattle.modinfo_pieces.specs.Filed.{filed_before, first_token, is_before_semicolon, is_semicolon, waiting_of}
+use Rattle.modinfo_pieces.specs.Filed.{filed_before, first_token, is_before_semicolon, is_semicolon}
+use Rattle.modinfo_pieces.specs.Filed.{waiting_of}
 use Rattle.modinfo_pieces.specs.declared.filed.FiledComment.{FiledComment}
 use Rattle.modinfo_pieces.specs.declared.filed.Waiting.{Waiting}
 use Rattle.modinfo_pieces.specs.declared.filing.Newest.{Newest}

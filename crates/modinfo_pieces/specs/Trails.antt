@@ -43,8 +43,9 @@ is_comparison bytes = (ends_in bytes (codes "==") || ends_in bytes (codes "!="))
     || ((ends_in bytes (codes "<=") && not (ends_in bytes (codes "<<=")))
     || (ends_in bytes (codes ">=") && not (ends_in bytes (codes ">>="))))
 
--- Bytes that go as far as the end of a token of punctuation: the token is a binary operator by its spelling, as
--- also a sign, the `*` of `import *` and the `<` of type parameters. Of three signs two are `++` or `--`.
+-- Bytes that go as far as the end of a token of punctuation: the token is a binary operator by its spelling,
+-- as also a sign, the `*` of `import *` and the `<` of type parameters. Of three signs two are `++` or `--`.
+-- `>=` is one token, also in `let a: A<B>= b`.
 unfoldable pub is_operator : List ℕ → Bool
 is_operator bytes =
     let last = last_byte bytes in
@@ -55,8 +56,8 @@ is_operator bytes =
     else (if last == 61 then is_comparison bytes else ends_in bytes (codes "??"))))))
 
 -- Whether a comment trails the token before it, on whose line it is. A line comment trails each token but a
--- binary operator. A block comment trails a name that is no keyword, a number, a string, a regular expression,
--- text of JSX, `{`, `}`, `;` and `${`, and every token if a `;` follows the comment.
+-- binary operator. A block comment trails a name that is no keyword, a number, a string, a regular
+-- expression, text of JSX, `{`, `}`, `;` and `${`, and every token if a `;` follows the comment.
 abbrev pub trails : Bool → Bool → Bool → Bool → Bool
 trails is_line is_operator is_trailed is_before_semicolon =
     (if is_line then not is_operator else is_trailed || is_before_semicolon)

@@ -57,12 +57,7 @@ pub const KEYWORDS: &[&str] = &[
 
 /// Returns whether a comment on the line of the token before trails this token. `is_trailed` says that block
 /// comments trail the token, whatever follows them.
-pub fn trails(
-    is_line: bool,
-    is_operator: bool,
-    is_trailed: bool,
-    is_before_semicolon: bool,
-) -> bool
+pub fn trails(is_line: bool, is_operator: bool, is_trailed: bool, is_before_semicolon: bool) -> bool
     ensures { result ≡ trails is_line is_operator is_trailed is_before_semicolon }
 {
     if is_line {
@@ -92,8 +87,8 @@ fn is_one_of(word: &[u8], words: &[&str]) -> bool
     false
 }
 
-/// Returns whether bytes that go as far as the end of a token of punctuation end with a binary operator, by its
-/// spelling.
+/// Returns whether bytes that go as far as the end of a token of punctuation end with a binary operator, by
+/// its spelling.
 #[tactic(auto, unfolding(crate::specs::Trails::is_operator))]
 pub fn is_operator(bytes: &[u8]) -> bool
     ensures { result ≡ is_operator bytes.now }

@@ -11,7 +11,7 @@ ghost use Rattle.deno_graph_source.specs.MediaType.{is_typed};
 ghost use Rattle.modinfo_source.specs.OfText.{IsOfText};
 ghost use Rattle.modinfo_source.specs.Comments.{HasComments};
 ghost use Rattle.modinfo_source.specs.Spelled.{IsSpelled};
-ghost use Rattle.modinfo_source.specs.declared.error.TextError.TheVariants.{Defect, Syntax};
+ghost use Rattle.modinfo_source.specs.declared.error.TextError.TheVariants as errors;
 
 use crate::comments::comments_of;
 use crate::error::{TextError, TreeError};
@@ -47,7 +47,7 @@ pub fn parse_module(
     // Each string literal has the value that its slice of the text spells, by ECMA-262, and so has each part
     // of a template.
     ensures spelled { IfOk result (λ parsed. IsSpelled (rc_str_bytes source) parsed.program) }
-    // The comments are exactly those of the text, with their texts.
+    // The comments are exactly those of the text, with their texts, each filed by the one rule.
     ensures comments { IfOk result (λ parsed. HasComments (rc_str_bytes source) parsed.comments) }
     // The range of the program is the whole text.
     ensures range { IfOk result (λ parsed.
@@ -56,9 +56,9 @@ pub fn parse_module(
     // each word that a dependency begins with such a node begins, or the word is a name.
     ensures of_text { IfOk result (λ parsed.
         IsOfText (rc_str_bytes source) (is_typed media_type) parsed.program parsed.comments) }
-    ensures position { (diagnostic : ParseDiagnostic) → result ≡ Err (Syntax diagnostic)
+    ensures position { (diagnostic : ParseDiagnostic) → result ≡ Err (errors.Syntax diagnostic)
         → HasPosition (rc_str_bytes source) diagnostic.position }
-    ensures defect { (position : Position) → result ≡ Err (Defect position)
+    ensures defect { (position : Position) → result ≡ Err (errors.Defect position)
         → HasPosition (rc_str_bytes source) position }
 {
     let Parts { program, comments } = match parts_of(alloc, source.as_str(), media_type) {
@@ -94,7 +94,6 @@ fn parts_of(alloc: Global, text: &str, media_type: MediaType) -> Result<Parts, T
 {
     let Syntax {
         nodes,
-        comments: filed,
         choices,
         has_hashbang,
     } = read(alloc, text, media_type)?;
@@ -109,7 +108,6 @@ fn parts_of(alloc: Global, text: &str, media_type: MediaType) -> Result<Parts, T
         alloc,
         text,
         media_type.is_typed(),
-        &filed,
         &choices,
         &claims,
         &calls,
@@ -120,9 +118,9 @@ fn parts_of(alloc: Global, text: &str, media_type: MediaType) -> Result<Parts, T
 /// Returns the error of a text without a tree of its own.
 fn text_error(alloc: Global, source: RcStr, error: TreeError) -> Result<TextError, AllocError>
     ensures position { IfOk result (λ text_error. (diagnostic : ParseDiagnostic)
-        → text_error ≡ Syntax diagnostic → HasPosition (rc_str_bytes source) diagnostic.position) }
+        → text_error ≡ errors.Syntax diagnostic → HasPosition (rc_str_bytes source) diagnostic.position) }
     ensures defect { IfOk result (λ text_error. (position : Position)
-        → text_error ≡ Defect position → HasPosition (rc_str_bytes source) position) }
+        → text_error ≡ errors.Defect position → HasPosition (rc_str_bytes source) position) }
 {
     match error {
         TreeError::Unread(ReadError::Syntax(SyntaxError { message, offset })) => {
