@@ -1,10 +1,12 @@
 -- Where each comment of a text is filed, by the pieces around it.
 use Rattle.std.specs.Prelude.{ℕ, ◌-◌, ◌==◌, Bool, true, false, not, ◌&&◌, ◌||◌, List, [], ◌∷◌, ◌++◌, Option}
-use Rattle.std.specs.Prelude.{Some, None, if◌then◌else◌, length, slice_index, slice_range, take, unwrap_or}
+use Rattle.std.specs.Prelude.{Some, None, if◌then◌else◌, length, nat_le, nat_lt, slice_index, slice_range}
+use Rattle.std.specs.Prelude.{suc, take, unwrap_or, zero}
 use Rattle.modinfo_pieces.specs.Places.{Place, around_after, before_after, choices_after, context_of}
 use Rattle.modinfo_pieces.specs.Places.{line_end_after}
 use Rattle.modinfo_pieces.specs.Tiles.{is_comment}
 use Rattle.modinfo_pieces.specs.Trails.{is_keyword, is_operator, trails}
+use Rattle.modinfo_pieces.specs.Words.{is_word_byte}
 use Rattle.modinfo_pieces.specs.declared.filed.FiledComment.{FiledComment}
 use Rattle.modinfo_pieces.specs.declared.filed.Waiting.{Waiting}
 use Rattle.modinfo_pieces.specs.declared.piece.Piece.{Piece}
@@ -52,11 +54,34 @@ is_name text word inside = is_in_tag inside || ((slice_index text (word.start - 
 abbrev pub is_closing : ℕ → Bool
 is_closing byte = (byte == 123) || ((byte == 125) || (byte == 59))
 
+-- A byte of decimal digits, which `_` may separate.
+abbrev pub is_digit : ℕ → Bool
+is_digit byte = (nat_le 48 byte && nat_le byte 57) || (byte == 95)
+
+-- Where the digits before an offset begin.
+unfoldable pub digits_start : List ℕ → ℕ → ℕ
+digits_start text zero = zero
+digits_start text (suc at) = (if is_digit (slice_index text at) then digits_start text at else suc at)
+
+-- A byte of a name, or a dot.
+abbrev pub is_name_or_dot : ℕ → Bool
+is_name_or_dot byte = is_word_byte byte || ((byte == 46) || nat_le 128 byte)
+
+-- The dot at an offset is the last byte of a number, as in `1.`: digits are before it, and before them
+-- neither a name nor a dot.
+abbrev pub ends_number : List ℕ → ℕ → Bool
+ends_number text dot =
+    let start = digits_start text dot in
+    (nat_lt start dot && not (slice_index text start == 95))
+    && not (nat_lt 0 start && is_name_or_dot (slice_index text (start - 1)))
+
 -- Block comments trail a token of this kind, whatever follows them. Of the parts of templates only those
 -- before an expression, which end with `${`.
 abbrev pub is_trailed : List ℕ → Piece → PieceKind → Opening → Bool
 is_trailed text token Word inside = is_name text token inside
-is_trailed text token Punctuation inside = is_closing (slice_index text token.start)
+is_trailed text token Punctuation inside =
+    is_closing (slice_index text token.start)
+    || ((slice_index text token.start == 46) && ends_number text token.start)
 is_trailed text token Template inside = slice_index text (token.end - 1) == 123
 is_trailed text token String inside = true
 is_trailed text token JsxString inside = true

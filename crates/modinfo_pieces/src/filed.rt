@@ -3,10 +3,14 @@
 ghost use Rattle.std.specs.Prelude.{◌≡◌, drop, slice_range, take};
 ghost use Rattle.modinfo_pieces.specs.Filed.{
   at_end,
+  digits_start,
+  ends_number,
   filed_before,
   is_closing,
+  is_digit,
   is_in_tag,
   is_name,
+  is_name_or_dot,
   is_operator_token,
   is_semicolon,
   is_trailed,
@@ -16,6 +20,7 @@ ghost use Rattle.modinfo_pieces.specs.Filed.{
 };
 
 use crate::bytes::byte_at;
+use crate::classes::is_word_byte;
 use crate::piece::{Piece, PieceKind};
 use crate::place::{Before, Context, Opening};
 use crate::trails::{is_keyword, is_operator, trails};
@@ -107,13 +112,19 @@ fn trails_token(
 ) -> bool
     ensures { result ≡ trails_token text.now context token kind is_before_semicolon }
 {
-    !context.is_after_line_end
-        && trails(
-            matches!(kind, PieceKind::LineComment),
-            is_operator_token(text, token, context.before),
-            is_trailed(text, token, context.inside),
-            is_before_semicolon,
-        )
+    if context.is_after_line_end {
+        return false;
+    }
+    match kind {
+        PieceKind::LineComment => {
+            let is_operator = is_operator_token(text, token, context.before);
+            trails(true, is_operator, false, false)
+        }
+        _ => {
+            let is_trailed = is_trailed(text, token, context.inside);
+            trails(false, false, is_trailed, is_before_semicolon)
+        }
+    }
 }
 
 /// Returns whether a token is a binary operator, or its last byte.
@@ -163,7 +174,10 @@ fn is_trailed(text: &[u8], token: Piece, inside: Opening) -> bool
 {
     match token.kind {
         PieceKind::Word => is_name(text, token, inside),
-        PieceKind::Punctuation => is_closing(byte_at(text, token.start)),
+        PieceKind::Punctuation => {
+            let byte = byte_at(text, token.start);
+            is_closing(byte) || byte == b'.' && ends_number(text, token.start)
+        }
         PieceKind::Template => byte_at(text, token.end.saturating_sub(1)) == b'{',
         PieceKind::String
         | PieceKind::JsxString
@@ -171,6 +185,45 @@ fn is_trailed(text: &[u8], token: Piece, inside: Opening) -> bool
         | PieceKind::RegularExpression => true,
         _ => false,
     }
+}
+
+/// Returns whether the dot at an offset is the last byte of a number.
+fn ends_number(text: &[u8], dot: usize) -> bool
+    ensures { result ≡ ends_number text.now dot }
+{
+    let start = digits_start(text, dot);
+    start < dot
+        && byte_at(text, start) != b'_'
+        && !(start > 0 && is_name_or_dot(byte_at(text, start.saturating_sub(1))))
+}
+
+/// Returns where the digits before an offset begin.
+#[tactic(auto, unfolding(crate::specs::Filed::digits_start))]
+fn digits_start(text: &[u8], from: usize) -> usize
+    ensures { result ≡ digits_start text.now from }
+{
+    let mut at = from;
+    'digits: while at > 0 {
+        if !is_digit(byte_at(text, at - 1)) {
+            break;
+        }
+        at -= 1;
+    }
+    at
+}
+
+/// Returns whether a byte is a decimal digit or `_`.
+fn is_digit(byte: u8) -> bool
+    ensures { result ≡ is_digit byte }
+{
+    matches!(byte, b'0'..=b'9' | b'_')
+}
+
+/// Returns whether a byte is one of a name, or a dot.
+fn is_name_or_dot(byte: u8) -> bool
+    ensures { result ≡ is_name_or_dot byte }
+{
+    is_word_byte(byte) || byte == b'.' || byte >= 128
 }
 
 /// Returns whether a byte is `{`, `}` or `;`.
