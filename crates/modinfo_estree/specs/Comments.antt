@@ -13,12 +13,14 @@ use Rattle.deno_graph_source.specs.declared.tree.comments.CommentSide.TheVariant
 use Rattle.deno_graph_source.specs.declared.tree.comments.DependencyComment.{DependencyComment}
 use Rattle.modinfo_document.specs.Comments.{Sides, entry_with}
 use Rattle.modinfo_document.specs.declared.comments.FiledEntry.{FiledEntry}
-use Rattle.modinfo_estree.specs.LastToken.{is_closing, is_name, is_operator, last_byte}
+use Rattle.modinfo_estree.specs.LastToken.{is_closing, is_name}
 use Rattle.modinfo_estree.specs.Order.{sorted_by_start}
 use Rattle.modinfo_estree.specs.Range.{is_range, is_text_range, rest_range}
 use Rattle.modinfo_estree.specs.Tokens.{Layout, has_line_break, is_line_break, is_on_line, is_space}
 use Rattle.modinfo_estree.specs.Tokens.{token_end, token_start}
 use Rattle.modinfo_estree.specs.declared.comments.Place.{Place}
+use Rattle.modinfo_pieces.specs.Trails as rule
+use Rattle.modinfo_pieces.specs.Trails.{is_operator, last_byte}
 
 -- The comment of this kind with this range and text.
 abbrev pub comment_with : CommentKind → SourceRange → List ℕ → DependencyComment
@@ -149,26 +151,25 @@ is_before_semicolon text at = is_text_range text (rest_range text at)
 abbrev pub is_value_end : List Bool → ℕ → Bool
 is_value_end ends at = slice_index_or ends at false
 
--- Line comments on the line of the last token of a text trail it: it is no binary operator. A value may end
--- there that could be one.
-abbrev pub line_trails : List ℕ → Bool → Bool
-line_trails front is_value_end = is_value_end || not (is_operator front)
+-- The last token of a text is a binary operator. A value may end there that could be one.
+abbrev pub is_operator_token : List ℕ → Bool → Bool
+is_operator_token front is_value_end = not is_value_end && is_operator front
 
 -- Block comments on the line of the last token of a text trail it, whatever follows: it is a name that is no
 -- keyword, a number, a string, a regular expression, or `{`, `}`, `;` or the `${` of a template. A value may
 -- end there that could be an operator or a dot; after one that ends with `>`, an element, they lead the next
 -- token.
-abbrev pub block_trails : List Bool → List ℕ → Bool → Bool
-block_trails gaps front is_value_end = (is_value_end && not (last_byte front == 62))
+abbrev pub is_trailed : List Bool → List ℕ → Bool → Bool
+is_trailed gaps front is_value_end = (is_value_end && not (last_byte front == 62))
     || (is_closing (last_byte front) || is_name gaps front)
 
--- A comment on the line of the token that ends at `last` trails this token.
+-- A comment on the line of the token that ends at `last` trails this token, by the rule of texts.
 abbrev pub trails_token : List ℕ → List Bool → List Bool → ℕ → DependencyComment → Bool
 trails_token text gaps ends last comment =
     let front = take last text in
     let is_value = is_value_end ends last in
-    if is_line comment.kind then line_trails front is_value
-    else block_trails gaps front is_value || is_before_semicolon text comment.range.end
+    rule.trails (is_line comment.kind) (is_operator_token front is_value) (is_trailed gaps front is_value)
+    (is_before_semicolon text comment.range.end)
 
 -- Whether a comment trails the token before it: the comment starts on the token's line, and trails a token of
 -- its kind.

@@ -1,16 +1,9 @@
--- The last token of a text, for the comments after it: which of them on its line trail it, by the rule of the
--- parser. The text is as far as the token's end, and the bytes there say what the token is.
-use Rattle.std.specs.Prelude.{ℕ, ◌+◌, ◌-◌, ◌==◌, Bool, false, not, ◌&&◌, ◌||◌, List, [], ◌∷◌, codes, length}
-use Rattle.std.specs.Prelude.{nat_eq, nat_le, nat_lt, slice_index, slice_index_or}
-use Rattle.std.specs.List.{ends_with, list_any}
-
--- A text ends with a word.
-abbrev pub ends_in : List ℕ → List ℕ → Bool
-ends_in text word = ends_with nat_eq text word
-
--- The last byte of a text.
-abbrev pub last_byte : List ℕ → ℕ
-last_byte text = slice_index text (length text - 1)
+-- The last token of a text, for the comments after it: whether it is a name, a number or another token that
+-- they trail. The text is as far as the token's end, and the bytes there say what the token is.
+use Rattle.std.specs.Prelude.{ℕ, ◌+◌, ◌-◌, ◌==◌, Bool, false, not, ◌&&◌, ◌||◌, List, length, nat_le, nat_lt}
+use Rattle.std.specs.Prelude.{slice_index, slice_index_or}
+use Rattle.std.specs.List.{list_any}
+use Rattle.modinfo_pieces.specs.Trails.{ends_in, keywords, last_byte}
 
 -- A byte from one to another.
 abbrev pub is_between : ℕ → ℕ → ℕ → Bool
@@ -25,18 +18,6 @@ is_name_byte byte =
 -- A byte of a name, or the `#` before a private name.
 abbrev pub is_private_name_byte : ℕ → Bool
 is_private_name_byte byte = is_name_byte byte || (byte == 35)
-
--- The words that name no variable, and `await`, `let` and `yield`. Block comments after one lead the next
--- token. Those after `enum` trail it.
-abbrev pub keywords : List (List ℕ)
-keywords =
-    codes "await" ∷ codes "break" ∷ codes "case" ∷ codes "catch" ∷ codes "class" ∷ codes "const"
-    ∷ codes "continue" ∷ codes "debugger" ∷ codes "default" ∷ codes "delete" ∷ codes "do" ∷ codes "else"
-    ∷ codes "export" ∷ codes "extends" ∷ codes "false" ∷ codes "finally" ∷ codes "for" ∷ codes "function"
-    ∷ codes "if" ∷ codes "import" ∷ codes "in" ∷ codes "instanceof" ∷ codes "let" ∷ codes "new"
-    ∷ codes "null" ∷ codes "return" ∷ codes "super" ∷ codes "switch" ∷ codes "this" ∷ codes "throw"
-    ∷ codes "true" ∷ codes "try" ∷ codes "typeof" ∷ codes "var" ∷ codes "void" ∷ codes "while"
-    ∷ codes "with" ∷ codes "yield" ∷ []
 
 -- The byte at an offset is one of a name, also of a private one, and not of white space.
 abbrev pub is_in_name : List Bool → List ℕ → ℕ → Bool
@@ -59,23 +40,3 @@ is_name gaps text = is_name_byte (last_byte text) && not (list_any (is_last gaps
 -- A byte `;`, `{` or `}`, or a quote of a string.
 abbrev pub is_closing : ℕ → Bool
 is_closing byte = ((byte == 59) || (byte == 123)) || ((byte == 125) || ((byte == 34) || (byte == 39)))
-
--- How binary operators end, by their spelling.
-abbrev pub operators : List (List ℕ)
-operators =
-    codes "+" ∷ codes "-" ∷ codes "*" ∷ codes "/" ∷ codes "%" ∷ codes "<" ∷ codes ">" ∷ codes "=="
-    ∷ codes "!=" ∷ codes "<=" ∷ codes ">=" ∷ codes "&" ∷ codes "|" ∷ codes "^" ∷ codes "??" ∷ []
-
--- How other tokens end that end as binary operators do.
-abbrev pub others : List (List ℕ)
-others = codes "=>" ∷ codes "<<=" ∷ codes ">>=" ∷ []
-
--- The last token is `++` or `--`. Three signs are one of these and a sign.
-abbrev pub is_increment : List ℕ → Bool
-is_increment text = (ends_in text (codes "++") && not (ends_in text (codes "+++")))
-    || (ends_in text (codes "--") && not (ends_in text (codes "---")))
-
--- The last token is a binary operator by its spelling, if no value of `ValueEnds` ends there.
-unfoldable pub is_operator : List ℕ → Bool
-is_operator text = list_any (ends_in text) operators
-    && not (list_any (ends_in text) others || is_increment text)

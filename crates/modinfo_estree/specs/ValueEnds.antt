@@ -7,8 +7,8 @@ use Rattle.deno_graph_base.specs.SourceRange.{slice_of}
 use Rattle.deno_graph_base.specs.declared.text.position.SourceRange.{SourceRange}
 use Rattle.deno_graph_source.specs.Node.{nodes_in, range_of}
 use Rattle.deno_graph_source.specs.declared.tree.node.Node.{Node}
-use Rattle.modinfo_estree.specs.LastToken.{ends_in}
 use Rattle.modinfo_estree.specs.Range.{is_text_range}
+use Rattle.modinfo_pieces.specs.Trails.{ends_in}
 
 -- The text of a node is an end tag of JSX, or ends with a tag without children. A `/>` whose `/` ends a
 -- comment is none.

@@ -6,14 +6,14 @@ ghost use Rattle.std.specs.List.{ends_with, starts_with};
 ghost use Rattle.std.specs.Str.{chars};
 ghost use Rattle.deno_graph_base.specs.SourceRange.{slice_of};
 ghost use Rattle.modinfo_document.specs.Comments.{AreThoseOf};
-ghost use Rattle.modinfo_estree.specs.Comments.{after_space, block_text, block_trails, comment_at_range};
+ghost use Rattle.modinfo_estree.specs.Comments.{after_space, block_text, comment_at_range};
 ghost use Rattle.modinfo_estree.specs.Comments.{comment_of, comment_with, ends_line, has_close};
-ghost use Rattle.modinfo_estree.specs.Comments.{is_before_semicolon, is_semicolon, is_whole_line};
-ghost use Rattle.modinfo_estree.specs.Comments.{line_trails, place_of, sides_of, trails, trails_token};
+ghost use Rattle.modinfo_estree.specs.Comments.{is_before_semicolon, is_operator_token, is_semicolon, is_trailed, is_whole_line};
+ghost use Rattle.modinfo_estree.specs.Comments.{place_of, sides_of, trails, trails_token};
 ghost use Rattle.modinfo_estree.specs.Range.{is_text_range, rest_range};
 ghost use Rattle.modinfo_estree.specs.internal.Comments.{IsFiled};
 
-use crate::last_token::{is_closing, is_name, is_operator, last_byte};
+use crate::last_token::{is_closing, is_name};
 use crate::marks::{has_line_break, is_line_break, is_space};
 use crate::slice::slice_at;
 use crate::tokens::Tokens;
@@ -21,6 +21,7 @@ use crate::value_ends::ValueEnds;
 use deno_graph_base::text::SourceRange;
 use deno_graph_base::values::Text;
 use deno_graph_source::tree::{CommentKind, CommentSide, Comments, DependencyComment};
+use modinfo_pieces::trails::{is_operator, last_byte};
 use std::alloc::{AllocError, Global};
 
 /// Files the comments at some ranges of a text, in the order of the ranges. For a range that the text doesn't
@@ -124,26 +125,35 @@ fn trails_token(
     let front = front(text, last);
     let is_value_end = ends.contains(last);
     match comment.kind {
-        CommentKind::Line => line_trails(front, is_value_end),
-        CommentKind::Block => {
-            block_trails(tokens, front, is_value_end)
-                || is_before_semicolon(text, comment.range.end)
+        CommentKind::Line => {
+            modinfo_pieces::trails::trails(
+                true,
+                is_operator_token(front, is_value_end),
+                false,
+                false,
+            )
         }
+        CommentKind::Block => modinfo_pieces::trails::trails(
+            false,
+            false,
+            is_trailed(tokens, front, is_value_end),
+            is_before_semicolon(text, comment.range.end),
+        ),
     }
 }
 
-/// Returns whether line comments on the line of the last token of a text trail it. `is_value_end` says that a
-/// value ends there that could be an operator.
-fn line_trails(front: &[u8], is_value_end: bool) -> bool
-    ensures { result ≡ line_trails front.now is_value_end }
+/// Returns whether the last token of a text is a binary operator. `is_value_end` says that a value ends there
+/// that could be one.
+fn is_operator_token(front: &[u8], is_value_end: bool) -> bool
+    ensures { result ≡ is_operator_token front.now is_value_end }
 {
-    is_value_end || !is_operator(front)
+    !is_value_end && is_operator(front)
 }
 
 /// Returns whether block comments on the line of the last token of a text trail it, whatever follows.
 /// `is_value_end` says that a value ends there that could be an operator.
-fn block_trails(tokens: &Tokens, front: &[u8], is_value_end: bool) -> bool
-    ensures { result ≡ block_trails tokens.now.is_gap front.now is_value_end }
+fn is_trailed(tokens: &Tokens, front: &[u8], is_value_end: bool) -> bool
+    ensures { result ≡ is_trailed tokens.now.is_gap front.now is_value_end }
 {
     let last = last_byte(front);
     is_value_end && last != b'>' || is_closing(last) || is_name(tokens, front)

@@ -1,10 +1,12 @@
 -- What is found among the pieces of a text.
-use Rattle.std.specs.Prelude.{◌≡◌, ℕ, Bool, List, filter}
+use Rattle.std.specs.Prelude.{◌≡◌, ℕ, Bool, List, None}
 use Rattle.std.specs.List.{All, Contains}
 use Rattle.modinfo_imports.specs.Watches.{IsWatchEnd, Watch, Watches, watch_start}
 use Rattle.modinfo_pieces.specs.Places.{Place, start}
-use Rattle.modinfo_pieces.specs.Tiles.{AreTiles, is_comment}
+use Rattle.modinfo_pieces.specs.Filed.{filed_from}
+use Rattle.modinfo_pieces.specs.Tiles.{AreTiles}
 use Rattle.modinfo_pieces.specs.declared.choice.Choice.{Choice}
+use Rattle.modinfo_pieces.specs.declared.filed.FiledComment.{FiledComment}
 use Rattle.modinfo_pieces.specs.declared.piece.Piece.{Piece}
 
 -- A watch goes over the pieces of a text to its end: each claim is met, and no word that a dependency begins
@@ -16,12 +18,12 @@ pub record AreWatched (text : List ℕ) (is_typed : Bool) (choices : List Choice
   pub watches : Watches text is_typed (start choices) (watch_start claims calls) pieces end watch
   pub is_watch_end : IsWatchEnd watch
 
--- A text is pieces side by side, among them exactly these comments. Each claim is a piece, and no word that a
--- dependency begins with is lost.
-pub record HasFound (text : List ℕ) (is_typed : Bool) (choices : List Choice)
-    (claims calls comments : List Piece) : Type 0 where
+-- A text is pieces side by side, among them exactly these comments, each filed. Each claim is a piece, and no
+-- word that a dependency begins with is lost.
+pub record HasFound (text : List ℕ) (is_typed : Bool) (choices : List Choice) (claims calls : List Piece)
+    (comments : List FiledComment) : Type 0 where
   pub pieces : List Piece
   pub are_tiles : AreTiles text choices pieces
   pub are_watched : AreWatched text is_typed choices claims calls pieces
   pub are_pieces : All (Contains pieces) claims
-  pub comments_are : comments ≡ filter is_comment pieces
+  pub comments_are : comments ≡ filed_from text (start choices) None pieces

@@ -1,22 +1,25 @@
 //! What is found among the pieces of a text.
 
-ghost use Rattle.std.specs.Prelude.{◌≡◌, ◌∷◌, ◌++◌, [], IfOk, IfSome, IsTrue, OnOk, filter};
+ghost use Rattle.std.specs.Prelude.{◌≡◌, [], IfOk, IsTrue};
 ghost use Rattle.modinfo_pieces.specs.Places.{chosen, context_of, start};
 ghost use Rattle.modinfo_pieces.specs.Spots.{place_of};
-ghost use Rattle.modinfo_pieces.specs.Tiles.{IsEnd, is_comment};
+ghost use Rattle.modinfo_pieces.specs.Tiles.{IsEnd};
 ghost use Rattle.modinfo_imports.specs.Found.{HasFound};
 
 use crate::duty::Parentheses;
 use crate::watch::{is_watch_end, watch_piece, watch_start};
 use modinfo_pieces::choice::{Choice, ChoiceKind};
-use modinfo_pieces::piece::{Piece, PieceKind};
+use modinfo_pieces::filed::FiledComment;
+use modinfo_pieces::filing::Filing;
+use modinfo_pieces::piece::Piece;
 use modinfo_pieces::place::{Before, Context, Openings};
 use modinfo_pieces::places::{Spot, next_piece};
 use std::alloc::{AllocError, Global};
 
-/// Returns the comments among the pieces of a text; or the offset where the text isn't pieces side by side by
-/// these choices, or isn't that of a tree: a claim is no piece, or a word that a dependency begins with is lost.
-/// The claims and the words of calls are in the order of the text. In a typed text methods may have no body.
+/// Returns the comments among the pieces of a text, each filed, in the order of the text; or the offset where
+/// the text isn't pieces side by side by these choices, or isn't that of a tree: a claim is no piece, or a
+/// word that a dependency begins with is lost. The claims and the words of calls are in the order of the text.
+/// In a typed text methods may have no body.
 pub fn find(
     alloc: Global,
     text: &[u8],
@@ -24,13 +27,13 @@ pub fn find(
     choices: &[Choice],
     claims: &[Piece],
     calls: &[Piece],
-) -> Result<Result<Vec<Piece>, usize>, AllocError>
+) -> Result<Result<Vec<FiledComment>, usize>, AllocError>
     ensures { IfOk result (λ found. IfOk found (λ comments.
         HasFound text.now is_typed choices.now claims.now calls.now comments.items)) }
 {
     let mut around = Openings::new(alloc);
     let mut parentheses = Parentheses::new(alloc);
-    let mut comments = Vec::new(alloc);
+    let mut filing = Filing::new(alloc);
     let mut spot = start(choices);
     let mut seen = watch_start(claims, calls);
     'pieces: while spot.at < text.len() {
@@ -42,12 +45,12 @@ pub fn find(
         else {
             return Ok(Err(spot.at));
         };
-        keep(step.piece, &mut comments)?;
+        filing.add(text, context, step.piece)?;
         seen = after;
         spot = step.next;
     }
     if is_end(text, spot, &around) && is_watch_end(seen, &parentheses) {
-        Ok(Ok(comments))
+        Ok(Ok(filing.finish(text)?))
     } else {
         Ok(Err(first_start(seen.claims)))
     }
@@ -87,18 +90,6 @@ fn chosen(at: usize, choices: &[Choice]) -> Option<ChoiceKind>
         [first, ..] if first.offset == at => Some(first.kind),
         _ => None,
     }
-}
-
-/// Keeps a piece, if it is a comment.
-#[inline(always)]
-fn keep(piece: Piece, comments: &mut Vec<Piece>) -> Result<(), AllocError>
-    ensures { OnOk result (comments.new.items ≡ comments.old.items ++ filter is_comment (piece ∷ [])) }
-{
-    match piece.kind {
-        PieceKind::LineComment | PieceKind::BlockComment => comments.push(piece)?,
-        _ => (),
-    }
-    Ok(())
 }
 
 /// Returns whether a spot with these openings is the end of a text.

@@ -1,4 +1,4 @@
-//! The lexer: the tokens of a text one after another, and the comments between them.
+//! The lexer: the tokens of a text one after another.
 
 mod fault;
 mod gaps;
@@ -7,7 +7,6 @@ mod tokens;
 
 use crate::characters::byte_at;
 use crate::classes::{TOKEN, is_of};
-use crate::comments::FiledComment;
 use crate::lexer::fault::Fault;
 use crate::syntax_error::ReadError;
 use crate::token::{Token, TokenKind};
@@ -22,11 +21,8 @@ pub struct Lexer<'a> {
     /// Whether `<!--` and `-->` begin comments, as in scripts.
     has_html_comments: bool,
     token: Token,
-    /// The kind of the token before.
-    previous_kind: TokenKind,
     /// The end of the token before, in bytes.
     previous_end: usize,
-    comments: Vec<FiledComment>,
     /// What the bytes don't decide, ascending by offset.
     choices: Vec<Choice>,
 }
@@ -35,9 +31,7 @@ pub struct Lexer<'a> {
 #[derive(Clone, Copy)]
 pub struct Mark {
     token: Token,
-    previous_kind: TokenKind,
     previous_end: usize,
-    comments: usize,
     choices: usize,
 }
 
@@ -54,9 +48,7 @@ impl<'a> Lexer<'a> {
             text,
             has_html_comments,
             token: hashbang,
-            previous_kind: hashbang.kind,
             previous_end: 0,
-            comments: Vec::new(alloc),
             choices: Vec::new(alloc),
         };
         lexer.next()?;
@@ -86,14 +78,10 @@ impl<'a> Lexer<'a> {
         tokens::hashbang(self.text).kind == TokenKind::Hashbang
     }
 
-    /// Returns the comments and the choices up to the current token, in the order of the text.
-    pub fn into_parts(self) -> (Vec<FiledComment>, Vec<Choice>) {
-        let Lexer {
-            comments,
-            choices,
-            ..
-        } = self;
-        (comments, choices)
+    /// Returns the choices up to the current token, in the order of the text.
+    pub fn into_choices(self) -> Vec<Choice> {
+        let Lexer { choices, .. } = self;
+        choices
     }
 
     /// Keeps a choice for an offset. Fails only if an allocation fails.
@@ -108,9 +96,7 @@ impl<'a> Lexer<'a> {
     pub fn mark(&self) -> Mark {
         Mark {
             token: self.token,
-            previous_kind: self.previous_kind,
             previous_end: self.previous_end,
-            comments: self.comments.len(),
             choices: self.choices.len(),
         }
     }
@@ -118,9 +104,7 @@ impl<'a> Lexer<'a> {
     /// Goes back to a state.
     pub fn reset(&mut self, mark: Mark) {
         self.token = mark.token;
-        self.previous_kind = mark.previous_kind;
         self.previous_end = mark.previous_end;
-        self.comments.truncate(mark.comments);
         self.choices.truncate(mark.choices);
     }
 
@@ -164,7 +148,6 @@ impl<'a> Lexer<'a> {
     /// Makes the current token the one before.
     #[inline(always)]
     fn leave_token(&mut self) {
-        self.previous_kind = self.token.kind;
         self.previous_end = self.token.end;
     }
 

@@ -1,10 +1,9 @@
-//! The tokens and the comments of a JavaScript or TypeScript text, by the lexical grammar of
+//! The tokens of a JavaScript or TypeScript text, by the lexical grammar of
 //! ECMAScript (<https://tc39.es/ecma262/#sec-ecmascript-language-lexical-grammar>).
 #![tactic(auto)]
 
 pub mod characters;
 pub mod classes;
-pub mod comments;
 pub mod lexer;
 pub mod scan;
 pub mod syntax_error;

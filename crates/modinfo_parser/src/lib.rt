@@ -1,5 +1,5 @@
 //! The grammar of JavaScript, JSX and TypeScript: from a text to the nodes that the analysis of a module
-//! reads, as a flat list, and to the comments.
+//! reads, as a flat list.
 #![tactic(auto)]
 
 mod grammar;

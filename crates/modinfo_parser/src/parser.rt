@@ -195,15 +195,13 @@ impl<'a> Parser<'a> {
         })
     }
 
-    /// Returns the nodes, the comments and the choices of the text that was read.
+    /// Returns the nodes and the choices of the text that was read.
     pub(crate) fn into_syntax(self) -> Syntax {
         let Parser { lexer, nodes, .. } = self;
         let has_hashbang = lexer.has_hashbang();
-        let (comments, choices) = lexer.into_parts();
         Syntax {
             nodes,
-            comments,
-            choices,
+            choices: lexer.into_choices(),
             has_hashbang,
         }
     }

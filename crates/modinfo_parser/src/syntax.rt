@@ -1,10 +1,9 @@
-//! The syntax of a text: its nodes as a flat list, and its comments.
+//! The syntax of a text: its nodes as a flat list.
 
 use crate::language::Language;
 use crate::parser::{Parsed, Parser};
 use crate::shape::FlatNode;
 use deno_graph_source::tree::MediaType;
-use modinfo_lexer::comments::FiledComment;
 use modinfo_lexer::syntax_error::ReadError;
 use modinfo_pieces::choice::Choice;
 use std::alloc::Global;
@@ -17,8 +16,6 @@ const MAX_DEPTH: usize = 2000;
 pub struct Syntax {
     /// The nodes, each after those inside it.
     pub nodes: Vec<FlatNode>,
-    /// The comments, in the order of the text.
-    pub comments: Vec<FiledComment>,
     /// What the parser has decided where the bytes don't, in the order of the text.
     pub choices: Vec<Choice>,
     /// Whether the text begins with a `#!` line.

@@ -3,3 +3,4 @@ pub mod LineEnds
 pub mod Walks
 pub mod Tables
 pub mod Narrow
+pub mod Filings

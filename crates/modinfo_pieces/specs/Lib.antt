@@ -12,3 +12,6 @@ pub mod Befores
 pub mod Places
 pub mod Tiles
 pub mod Spots
+pub mod Trails
+pub mod Filed
+pub mod Filing

@@ -1,29 +1,26 @@
 //! The comments of a text, filed.
 
-ghost use Rattle.std.specs.Prelude.{◌≡◌, ◌∷◌, IfOk, IfSome, OnOk};
-ghost use Rattle.std.specs.List.Sorted.{IsPermutation};
-ghost use Rattle.deno_graph_source.specs.Comments.{comments_of};
+ghost use Rattle.std.specs.Prelude.{◌≡◌, IfOk, IfSome, OnOk};
 ghost use Rattle.modinfo_source.specs.OfText.{HasClaims};
-ghost use Rattle.modinfo_source.specs.Comments.{AreFrom, comment_of, kind_of, text_of};
+ghost use Rattle.modinfo_source.specs.Comments.{AreFiled, kind_of, text_of};
+ghost use Rattle.modinfo_source.specs.internal.Filed.{Files};
 
 use crate::error::TreeError;
 use deno_graph_base::text::SourceRange;
 use deno_graph_base::values::Text;
-use deno_graph_source::tree::{CommentKind, CommentSide, Comments, DependencyComment};
+use deno_graph_source::tree::{CommentKind, Comments, DependencyComment};
 use modinfo_imports::find::find;
-use modinfo_lexer::comments::FiledComment;
 use modinfo_pieces::choice::Choice;
+use modinfo_pieces::filed::FiledComment;
 use modinfo_pieces::piece::{Piece, PieceKind};
 use std::alloc::{AllocError, Global};
 
-/// Returns the comments of a text, each filed where the lexer says. Which comments there are is found again
-/// from the bytes and the choices of the parser. `Defect` if the lexer has found others, or if the text isn't that
+/// Returns the comments of a text, each filed, by the choices of the parser. `Defect` if the text isn't that
 /// of the tree with these claims and calls.
 pub(crate) fn comments_of(
     alloc: Global,
     text: &str,
     is_typed: bool,
-    filed: &[FiledComment],
     choices: &[Choice],
     claims: &[Piece],
     calls: &[Piece],
@@ -31,47 +28,32 @@ pub(crate) fn comments_of(
     ensures { IfOk result (HasClaims text.now is_typed claims.now calls.now) }
 {
     match find(alloc, text.as_bytes(), is_typed, choices, claims, calls)? {
-        Ok(comments) => file_each(alloc, text, filed, &comments),
+        Ok(filed) => file_each(alloc, text, &filed),
         Err(offset) => Err(TreeError::Defect(offset)),
     }
 }
 
-/// Returns comments, each filed where the comment with the same number is.
-fn file_each(
-    alloc: Global,
-    text: &str,
-    filed: &[FiledComment],
-    pieces: &[Piece],
-) -> Result<Comments, TreeError>
-    ensures { IfOk result (AreFrom text.now pieces.now) }
+/// Returns comments, each filed where these are.
+fn file_each(alloc: Global, text: &str, filed: &[FiledComment]) -> Result<Comments, TreeError>
+    ensures { IfOk result (AreFiled text.now filed.now) }
 {
     let mut comments = Comments::new(alloc);
-    for (index, piece) in pieces.iter().enumerate() {
-        match filed.get(index) {
-            Some(place) if place.range.start == piece.start && place.range.end == piece.end => {
-                file(alloc, text, &mut comments, *piece, *place)?;
-            }
-            _ => return Err(TreeError::Defect(piece.start)),
-        }
+    for comment in filed {
+        file(alloc, text, &mut comments, *comment)?;
     }
-    if filed.len() == pieces.len() {
-        Ok(comments)
-    } else {
-        Err(TreeError::Defect(0))
-    }
+    Ok(comments)
 }
 
-/// Files a comment where another is.
+/// Files a comment.
 fn file(
     alloc: Global,
     text: &str,
     comments: &mut Comments,
-    piece: Piece,
-    place: FiledComment,
+    filed: FiledComment,
 ) -> Result<(), TreeError>
-    ensures { OnOk result (IsPermutation (comment_of text.now piece ∷ comments_of comments.old)
-        (comments_of comments.new)) }
+    ensures { OnOk result (Files text.now filed comments.old comments.new) }
 {
+    let piece = filed.comment;
     let comment = match text_of(text, piece) {
         Some(inside) => DependencyComment {
             kind: kind_of(piece.kind),
@@ -80,9 +62,10 @@ fn file(
         },
         None => return Err(TreeError::Defect(piece.start)),
     };
-    match place.side {
-        CommentSide::Leading => Ok(comments.add_leading(place.position, comment)?),
-        CommentSide::Trailing => Ok(comments.add_trailing(place.position, comment)?),
+    if filed.trails {
+        Ok(comments.add_trailing(filed.position, comment)?)
+    } else {
+        Ok(comments.add_leading(filed.position, comment)?)
     }
 }
 

@@ -46,7 +46,7 @@ pub fn parse_module(
     // Each string literal has the value that its slice of the text spells, by ECMA-262, and so has each part
     // of a template.
     ensures spelled { IfOk result (λ parsed. IsSpelled (rc_str_bytes source) parsed.program) }
-    // The comments are exactly those of the text, with their texts.
+    // The comments are exactly those of the text, with their texts, each filed by the one rule.
     ensures comments { IfOk result (λ parsed. HasComments (rc_str_bytes source) parsed.comments) }
     // The range of the program is the whole text.
     ensures range { IfOk result (λ parsed.
@@ -93,7 +93,6 @@ fn parts_of(alloc: Global, text: &str, media_type: MediaType) -> Result<Parts, T
 {
     let Syntax {
         nodes,
-        comments: filed,
         choices,
         has_hashbang,
     } = read(alloc, text, media_type)?;
@@ -108,7 +107,6 @@ fn parts_of(alloc: Global, text: &str, media_type: MediaType) -> Result<Parts, T
         alloc,
         text,
         media_type.is_typed(),
-        &filed,
         &choices,
         &claims,
         &calls,

@@ -1,4 +1,4 @@
--- Pieces lead to the spot, a watch goes over them, and their comments are kept.
+-- Pieces lead to the spot, a watch goes over them, and their comments are filed.
 use Rattle.std.proofs.Common.{length, ◌-◌}
 use Rattle.modinfo_imports.specs.Sights.{watch_of}
 use Rattle.modinfo_imports.proofs.Walks.{IsWalked}
@@ -8,7 +8,7 @@ use Rattle.modinfo_pieces.specs.Spots.{place_of}
 abbrev pub invariant-pieces : goal.invariant-pieces
 invariant-pieces l =
     IsWalked l.text l.is_typed l.choices l.claims l.calls (place_of l.spot l.around)
-    (watch_of l.seen l.parentheses) l.comments.items
+    (watch_of l.seen l.parentheses) l.filing
 
 abbrev pub decreases-pieces : goal.decreases-pieces
 decreases-pieces l = length l.text - l.spot.at

@@ -1,7 +1,7 @@
--- The comments of the pieces so far.
+-- The comments so far are filed.
 use Rattle.std.proofs.Common.{take}
-use Rattle.modinfo_source.specs.Comments.{AreFrom}
+use Rattle.modinfo_source.specs.Comments.{AreFiled}
 use Rattle.modinfo_source.proofs.comments.file_each.Given as goal
 
-abbrev pub invariant-loop-index : goal.invariant-loop-index
-invariant-loop-index l = AreFrom l.text (take l.index l.pieces) l.comments
+abbrev pub invariant-loop-comment : goal.invariant-loop-comment
+invariant-loop-comment l = AreFiled l.text (take l.comment-index l.filed) l.comments

@@ -23,10 +23,10 @@ returns-clause-of_text c =
     let claims = c.in_ok-claims.claims.items in
     let calls = c.in_ok-calls.calls.items in
     let has = subst (λ cs. HasClaims text (is_typed c.args.media_type) claims cs comments)
-    c.deref-4.ensures.value
-    (subst (λ cs. HasClaims text (is_typed c.args.media_type) cs c.deref-4.result.now comments)
     c.deref-3.ensures.value
-    (subst (λ typed. HasClaims text typed c.deref-3.result.now c.deref-4.result.now comments)
+    (subst (λ cs. HasClaims text (is_typed c.args.media_type) cs c.deref-3.result.now comments)
+    c.deref-2.ensures.value
+    (subst (λ typed. HasClaims text typed c.deref-2.result.now c.deref-3.result.now comments)
     c.is_typed.ensures c.in_ok-comments.ensures)) in
     let are = subst (λ bytes. AreClaims bytes program claims) c.as_bytes.ensures.value
     c.in_ok-claims.ensures in
