@@ -1,5 +1,5 @@
 pub mod PastEnds
 pub mod LineEnds
-pub mod Walks
 pub mod Tables
 pub mod Narrow
+pub mod WordLengths

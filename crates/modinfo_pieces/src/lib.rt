@@ -13,5 +13,4 @@ pub mod piece;
 pub mod place;
 pub mod places;
 pub mod scan;
-pub mod tiles;
 pub mod word_classes;
