@@ -63,10 +63,10 @@ after_claims : (text : List ℕ) (is_typed : Bool) (context : Context) (piece : 
     (watch after : Watch) → watch_after text is_typed context piece watch ≡ Some after
     → (watch.claims ≡ after.claims) ⊎ (claims_after piece watch.claims ≡ after.claims)
 after_claims text is_typed context piece watch after is =
+    let sight = sight_of text watch.claims piece piece.kind in
     step_claims (is_gap piece.kind)
-    (met_by watch.duty (sight_of text watch.claims piece piece.kind) context.is_after_line_end is_typed)
-    watch after
-    (watch_met text is_typed context piece watch) (claims_after piece watch.claims) (λ duty. refl) is
+    (met_by watch.duty sight context.is_after_line_end is_typed) watch after
+    (watch_met text is_typed context piece watch sight) (claims_after piece watch.claims) (λ duty. refl) is
 
 -- each claim is a piece, or is still one of the claims
 met : (text : List ℕ) (is_typed : Bool) (from : Place) (start : Watch) (pieces : List Piece) (place : Place)

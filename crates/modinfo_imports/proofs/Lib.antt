@@ -1,3 +1,4 @@
 pub mod ClaimedPieces
 pub mod Walks
 pub mod ClaimedNodes
+pub mod FirstLetters

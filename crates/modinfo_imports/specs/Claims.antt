@@ -1,5 +1,5 @@
 -- Pieces that a tree claims to have, in the order of the text: each is taken away where the text has it.
-use Rattle.std.specs.Prelude.{◌==◌, Bool, true, false, ◌&&◌, List, [], ◌∷◌, if◌then◌else◌}
+use Rattle.std.specs.Prelude.{◌==◌, Bool, true, false, ◌&&◌, List, [], ◌∷◌, drop, if◌then◌else◌}
 use Rattle.modinfo_pieces.specs.declared.piece.Piece.{Piece}
 use Rattle.modinfo_pieces.specs.declared.piece.PieceKind.{PieceKind}
 use Rattle.modinfo_pieces.specs.declared.piece.PieceKind.TheVariants.{Punctuation, String, Template, Word}
@@ -24,5 +24,4 @@ is_claimed piece (claim ∷ _) = is_same piece claim
 
 -- The claims after a piece.
 abbrev pub claims_after : Piece → List Piece → List Piece
-claims_after piece [] = []
-claims_after piece (claim ∷ claims) = (if is_same piece claim then claims else claim ∷ claims)
+claims_after piece claims = (if is_claimed piece claims then drop 1 claims else claims)

@@ -6,9 +6,6 @@ use Rattle.modinfo_imports.specs.declared.keyword.Keyword.{Keyword}
 use Rattle.modinfo_imports.specs.declared.keyword.Keyword.TheVariants.{Export, Import, Module, New, Other}
 use Rattle.modinfo_imports.specs.declared.keyword.Keyword.TheVariants.{Require}
 
-abbrev pub is_import_word : List ℕ → Bool
-is_import_word word = bytes_eq word (codes "import")
-
 -- A name may have escapes (ECMA-262, 12.7 Names and Keywords): `requ\u0069re` is `require`.
 abbrev pub has_escape : List ℕ → Bool
 has_escape word = list_any (λ byte. byte == 92) word
@@ -22,7 +19,7 @@ may_be_require word =
 unfoldable pub keyword_of : List ℕ → Keyword
 keyword_of word =
     (if may_be_require word then Require
-    else (if is_import_word word then Import
+    else (if bytes_eq word (codes "import") then Import
     else (if bytes_eq word (codes "export") then Export
     else (if bytes_eq word (codes "module") then Module
     else (if bytes_eq word (codes "function") || bytes_eq word (codes "new") then New else Other)))))

@@ -1,31 +1,35 @@
 //! What words that dependencies may begin with ask of the tokens after them.
 
-ghost use Rattle.std.specs.Prelude.{◌≡◌, ◌∷◌, ◌<◌, ◌≤◌, ◌&&◌, MatchOption, OnOk, length};
+ghost use Rattle.std.specs.Prelude.{◌≡◌, ◌∷◌, ◌<◌, ◌≤◌, Bool, OnOk, drop, length};
+ghost use Rattle.modinfo_imports.specs.declared.duty.Duty.TheVariants.{
+  Alias,
+  Export,
+  ExportEnd,
+  ExportNames,
+  ExportStar,
+  From,
+  Import,
+  Module,
+  NoCall,
+  NoParenthesis,
+  Parameters,
+  Parenthesis,
+  Require,
+  TypeName,
+  TypeEnd,
+};
+ghost use Rattle.modinfo_pieces.specs.WordClasses.{is_among};
 ghost use Rattle.modinfo_imports.specs.Duties.{
-  begins_member,
-  duty_after_alias,
-  duty_after_export,
-  duty_after_export_as,
-  duty_after_export_end,
-  duty_after_export_names,
-  duty_after_from,
-  duty_after_import,
-  duty_after_module,
-  duty_after_name,
-  duty_after_new,
-  duty_after_parameters,
-  duty_after_parenthesis,
-  duty_after_require,
-  duty_after_star,
-  ends_member,
-  follows_export_word,
-  follows_import,
-  follows_import_word,
-  follows_name,
-  follows_names,
-  follows_star,
+  after_export,
+  after_import,
+  after_require,
+  is_byte,
+  is_name,
+  is_one_of,
   met_by,
   name_of,
+  only,
+  operators,
   sight_of,
 };
 
@@ -63,6 +67,12 @@ pub enum Duty {
         /// Whether the word may be the name of a method.
         may_be_method: bool,
     },
+    /// Anything, after `require <`: it may be a type.
+    TypeName,
+    /// Anything, after a type in `require <`.
+    TypeEnd,
+    /// Anything but the `(` of a call, after `require <type>`.
+    NoParenthesis,
     /// Anything, after a word `import` at which a node begins: it may be the name of an alias.
     Alias,
     /// Anything, after `new`, `function` or the `=` of an alias: a name isn't called.
@@ -107,27 +117,29 @@ pub enum Name {
     From,
     As,
     Type,
+    /// A word that begins a type, or an expression, and is none.
+    Operator,
     Other,
 }
 
-/// The open parentheses from the outermost method on that is named `import` or `require`: whether each is that of
-/// the parameters of such a method.
+/// What was asked after each open parenthesis.
 #[derive(Drop)]
 pub struct Parentheses {
-    outermost_first: Vec<bool>,
+    outermost_first: Vec<Duty>,
 }
 
 impl Model for Parentheses {
-    ghost use Rattle.std.specs.Prelude.{Bool, List, reverse};
+    ghost use Rattle.std.specs.Prelude.{List, reverse};
+    ghost use Rattle.modinfo_imports.specs.declared.duty.Duty.{Duty};
 
-    ghost Value = { List Bool };
+    ghost Value = { List Duty };
 
     ghost view = { λ parentheses. reverse parentheses.outermost_first.items };
 }
 
 impl Parentheses {
-    ghost use Rattle.std.specs.Prelude.{[], IsTrue, ◌↔◌};
-    ghost use Rattle.modinfo_imports.specs.Duties.{is_method, without_innermost};
+    ghost use Rattle.std.specs.Prelude.{[]};
+    ghost use Rattle.modinfo_imports.specs.Watches.{is_method};
 
     /// Returns no parentheses.
     pub fn new(alloc: Global) -> Parentheses
@@ -138,34 +150,27 @@ impl Parentheses {
         }
     }
 
-    /// Returns whether there are no parentheses.
-    pub fn is_empty(&self) -> bool
-        ensures { IsTrue result ↔ (self.now ≡ []) }
-    {
-        self.outermost_first.is_empty()
-    }
-
     /// Returns whether the innermost parenthesis is that of a method.
     pub fn is_method(&self) -> bool
         ensures { result ≡ is_method self.now }
     {
         match self.outermost_first.last() {
-            Some(innermost) => *innermost,
-            None => false,
+            Some(Duty::Parenthesis) => true,
+            _ => false,
         }
     }
 
     /// Adds a parenthesis inside the others.
-    pub fn push(&mut self, is_method: bool) -> Result<(), AllocError>
-        ensures { OnOk result (self.new ≡ is_method ∷ self.old) }
+    pub fn push(&mut self, asked: Duty) -> Result<(), AllocError>
+        ensures { OnOk result (self.new ≡ asked ∷ self.old) }
     {
-        self.outermost_first.push(is_method)?;
+        self.outermost_first.push(asked)?;
         Ok(())
     }
 
     /// Takes the innermost parenthesis away.
-    pub fn pop(&mut self) -> Option<bool>
-        ensures { self.new ≡ without_innermost self.old }
+    pub fn pop(&mut self) -> Option<Duty>
+        ensures { self.new ≡ drop 1 self.old }
     {
         self.outermost_first.pop()
     }
@@ -199,9 +204,22 @@ fn name_of(word: &[u8]) -> Name
         Name::As
     } else if word == b"type".as_slice() {
         Name::Type
+    } else if is_operator(word) {
+        Name::Operator
     } else {
         Name::Other
     }
+}
+
+/// Returns whether a word begins a type, or an expression, and is none.
+fn is_operator(word: &[u8]) -> bool
+    ensures { result ≡ is_among operators word.now }
+{
+    word == b"infer".as_slice()
+        || word == b"keyof".as_slice()
+        || word == b"readonly".as_slice()
+        || word == b"super".as_slice()
+        || word == b"unique".as_slice()
 }
 
 /// Returns what the next token must be after a token that meets a duty, or `None` if the token doesn't.
@@ -214,166 +232,198 @@ pub fn met_by(duty: Duty, sight: Sight, is_after_line_end: bool, is_typed: bool)
         Duty::Import {
             in_braces,
             may_be_method,
-        } => {
-            if in_braces && is_after_line_end && begins_member(sight) {
-                Some(Duty::Nothing)
-            } else {
-                duty_after_import(may_be_method, sight)
-            }
-        }
-        Duty::As => duty_after_name(sight),
-        Duty::AsName => duty_after_names(sight),
-        Duty::Parenthesis => duty_after_parenthesis(sight),
-        Duty::Parameters => duty_after_parameters(sight, is_after_line_end, is_typed),
+        } => met_import(in_braces, may_be_method, sight, is_after_line_end),
+        Duty::As => only(is_name(sight), Duty::AsName),
+        Duty::AsName => only(is_byte(b",}", sight), Duty::Nothing),
+        Duty::Parenthesis => met_parenthesis(sight),
+        Duty::Parameters => met_parameters(sight, is_after_line_end, is_typed),
         Duty::Require { may_be_method } => {
-            duty_after_require(may_be_method, sight, is_after_line_end)
+            met_require(may_be_method, sight, is_after_line_end, is_typed)
         }
-        Duty::Alias => duty_after_alias(sight),
-        Duty::NoCall => duty_after_new(sight),
+        Duty::TypeName => met_type(sight),
+        Duty::TypeEnd => met_type_end(sight),
+        Duty::NoParenthesis => met_no_parenthesis(sight, is_after_line_end),
+        Duty::Alias => met_alias(sight),
+        Duty::NoCall => met_no_call(sight),
         Duty::Export {
             may_be_member,
             is_claimed,
-        } => {
-            if may_be_member && is_after_line_end && begins_member(sight) {
-                Some(Duty::Nothing)
-            } else {
-                duty_after_export(is_claimed, sight)
-            }
-        }
-        Duty::ExportNames => duty_after_export_names(sight),
-        Duty::ExportStar => duty_after_star(sight),
-        Duty::ExportAs => duty_after_export_as(sight),
-        Duty::ExportEnd => duty_after_export_end(sight),
-        Duty::From => duty_after_from(sight),
-        Duty::Module => duty_after_module(sight, is_after_line_end),
+        } => met_export(may_be_member, is_claimed, sight, is_after_line_end),
+        Duty::ExportNames => met_export_names(sight),
+        Duty::ExportStar => met_export_star(sight),
+        Duty::ExportAs => only(is_name(sight), Duty::ExportEnd),
+        Duty::ExportEnd => met_export_end(sight),
+        Duty::From => met_from(sight),
+        Duty::Module => met_module(sight, is_after_line_end),
     }
 }
 
-/// Returns whether a member of a class or a type may begin with a token.
-fn begins_member(sight: Sight) -> bool
-    ensures { result ≡ begins_member sight }
+/// Returns a duty, if a token is right.
+fn only(is_right: bool, duty: Duty) -> Option<Duty>
+    ensures { result ≡ only is_right duty }
+{
+    if is_right { Some(duty) } else { None }
+}
+
+/// Returns whether a token is one of these bytes of punctuation.
+fn is_byte(bytes: &[u8], sight: Sight) -> bool
+    ensures { result ≡ is_byte bytes.now sight }
+{
+    match sight {
+        Sight::Byte(byte) => is_one_of(bytes, byte),
+        _ => false,
+    }
+}
+
+/// Returns whether a byte is one of these.
+fn is_one_of(bytes: &[u8], byte: u8) -> bool
+    ensures { result ≡ is_one_of bytes.now byte }
+{
+    bytes.contains(&byte)
+}
+
+/// Returns whether a token is a word or a string.
+fn is_name(sight: Sight) -> bool
+    ensures { result ≡ is_name sight }
 {
     match sight {
         Sight::Word(_) | Sight::String { .. } => true,
-        Sight::Byte(byte) => byte == b'*',
-        Sight::Other => false,
+        _ => false,
     }
 }
 
-/// Returns what the next token must be after a word `import` and a token on its line.
-fn duty_after_import(may_be_method: bool, sight: Sight) -> Option<Duty>
-    ensures { result ≡ duty_after_import may_be_method sight }
+/// Returns what the next token must be after a word `import` and a token.
+#[tactic(auto, unfolding(crate::specs::Duties::met_by))]
+fn met_import(
+    in_braces: bool,
+    may_be_method: bool,
+    sight: Sight,
+    is_after_line_end: bool,
+) -> Option<Duty>
+    ensures { (is_typed : Bool) → result ≡ met_by (Import in_braces may_be_method) sight is_after_line_end is_typed }
 {
     match sight {
-        Sight::Word(name) => follows_import_word(name),
-        Sight::String { .. } => None,
-        Sight::Byte(byte) => follows_import(may_be_method, byte),
-        Sight::Other => Some(Duty::Nothing),
-    }
-}
-
-/// Returns what the next token must be after a word `import` and another word.
-fn follows_import_word(name: Name) -> Option<Duty>
-    ensures { result ≡ follows_import_word name }
-{
-    match name {
-        Name::As => Some(Duty::As),
+        Sight::Word(_) | Sight::String { .. } if in_braces && is_after_line_end => Some(
+            Duty::Nothing,
+        ),
+        Sight::Word(Name::As) => Some(Duty::As),
+        Sight::Byte(byte) => after_import(may_be_method, in_braces && is_after_line_end, byte),
         _ => None,
     }
 }
 
 /// Returns what the next token must be after a word `import` and a byte of punctuation.
-fn follows_import(may_be_method: bool, byte: u8) -> Option<Duty>
-    ensures { result ≡ follows_import may_be_method byte }
+fn after_import(may_be_method: bool, may_end: bool, byte: u8) -> Option<Duty>
+    ensures { result ≡ after_import may_be_method may_end byte }
 {
-    match byte {
-        b'(' => {
-            if may_be_method {
-                Some(Duty::Parenthesis)
-            } else {
-                None
-            }
-        }
-        b'*' | b'{' | b'.' => None,
-        _ => Some(Duty::Nothing),
-    }
-}
-
-/// Returns what the next token must be after `import as` and a token.
-fn duty_after_name(sight: Sight) -> Option<Duty>
-    ensures { result ≡ duty_after_name sight }
-{
-    match sight {
-        Sight::Word(_) | Sight::String { .. } => Some(Duty::AsName),
-        _ => None,
-    }
-}
-
-/// Returns what the next token must be after `import as name` and a token.
-fn duty_after_names(sight: Sight) -> Option<Duty>
-    ensures { result ≡ follows_name sight }
-{
-    match sight {
-        Sight::Byte(byte) if byte == b',' || byte == b'}' => Some(Duty::Nothing),
-        _ => None,
+    if byte == b'(' {
+        only(may_be_method, Duty::Parenthesis)
+    } else {
+        only(
+            may_end && byte == b'*' || !is_one_of(b"*{.", byte),
+            Duty::Nothing,
+        )
     }
 }
 
 /// Returns what the next token must be after `import (` and a token.
-fn duty_after_parenthesis(sight: Sight) -> Option<Duty>
-    ensures { result ≡ duty_after_parenthesis sight }
+#[tactic(auto, unfolding(crate::specs::Duties::met_by))]
+fn met_parenthesis(sight: Sight) -> Option<Duty>
+    ensures { (is_after is_typed : Bool) → result ≡ met_by Parenthesis sight is_after is_typed }
 {
     match sight {
         Sight::Word(_) => Some(Duty::Nothing),
-        Sight::Byte(byte) if matches!(byte, b')' | b'{' | b'[' | b'@' | b'.') => Some(
-            Duty::Nothing,
-        ),
-        _ => None,
+        _ => only(is_byte(b"){[@.", sight), Duty::Nothing),
     }
 }
 
 /// Returns what the next token must be after the parameters of a method and a token.
-fn duty_after_parameters(sight: Sight, is_after_line_end: bool, is_typed: bool) -> Option<Duty>
-    ensures { result ≡ duty_after_parameters sight is_after_line_end is_typed }
+#[tactic(auto, unfolding(crate::specs::Duties::met_by))]
+fn met_parameters(sight: Sight, is_after_line_end: bool, is_typed: bool) -> Option<Duty>
+    ensures { result ≡ met_by Parameters sight is_after_line_end is_typed }
 {
-    match sight {
-        Sight::Byte(byte) if byte == b'{' || byte == b':' => Some(Duty::Nothing),
-        _ if is_typed && (is_after_line_end || ends_member(sight)) => Some(Duty::Nothing),
-        _ => None,
-    }
-}
-
-/// Returns whether a member of a type may end with a token.
-fn ends_member(sight: Sight) -> bool
-    ensures { result ≡ ends_member sight }
-{
-    match sight {
-        Sight::Byte(byte) => matches!(byte, b';' | b',' | b'}'),
-        _ => false,
-    }
+    only(
+        is_byte(b"{:", sight) || is_typed && (is_after_line_end || is_byte(b";,}", sight)),
+        Duty::Nothing,
+    )
 }
 
 /// Returns what the next token must be after a word `require` and a token.
-fn duty_after_require(may_be_method: bool, sight: Sight, is_after_line_end: bool) -> Option<Duty>
-    ensures { result ≡ duty_after_require may_be_method sight is_after_line_end }
+#[tactic(auto, unfolding(crate::specs::Duties::met_by))]
+fn met_require(
+    may_be_method: bool,
+    sight: Sight,
+    is_after_line_end: bool,
+    is_typed: bool,
+) -> Option<Duty>
+    ensures { result ≡ met_by (Require may_be_method) sight is_after_line_end is_typed }
 {
     match sight {
-        Sight::Byte(b'(') => {
-            if may_be_method {
-                Some(Duty::Parenthesis)
-            } else if is_after_line_end {
-                Some(Duty::Nothing)
-            } else {
-                None
-            }
-        }
+        Sight::Byte(byte) => after_require(may_be_method, is_after_line_end, is_typed, byte),
         _ => Some(Duty::Nothing),
     }
 }
 
+/// Returns what the next token must be after a word `require` and a byte of punctuation.
+fn after_require(
+    may_be_method: bool,
+    is_after_line_end: bool,
+    is_typed: bool,
+    byte: u8,
+) -> Option<Duty>
+    ensures { result ≡ after_require may_be_method is_after_line_end is_typed byte }
+{
+    if byte == b'(' {
+        if may_be_method {
+            Some(Duty::Parenthesis)
+        } else {
+            only(is_after_line_end, Duty::Nothing)
+        }
+    } else if byte == b'<' && is_typed && !(may_be_method || is_after_line_end) {
+        Some(Duty::TypeName)
+    } else {
+        Some(Duty::Nothing)
+    }
+}
+
+/// Returns what the next token must be after `require <` and a token.
+#[tactic(auto, unfolding(crate::specs::Duties::met_by))]
+fn met_type(sight: Sight) -> Option<Duty>
+    ensures { (is_after is_typed : Bool) → result ≡ met_by TypeName sight is_after is_typed }
+{
+    match sight {
+        Sight::Word(Name::Operator) => Some(Duty::Nothing),
+        _ if is_name(sight) => Some(Duty::TypeEnd),
+        _ => Some(Duty::Nothing),
+    }
+}
+
+/// Returns what the next token must be after a type in `require <` and a token.
+#[tactic(auto, unfolding(crate::specs::Duties::met_by))]
+fn met_type_end(sight: Sight) -> Option<Duty>
+    ensures { (is_after is_typed : Bool) → result ≡ met_by TypeEnd sight is_after is_typed }
+{
+    if is_byte(b",|&", sight) {
+        Some(Duty::TypeName)
+    } else if is_byte(b">", sight) {
+        Some(Duty::NoParenthesis)
+    } else {
+        Some(Duty::Nothing)
+    }
+}
+
+/// Returns what the next token must be after `require <type>` and a token.
+#[tactic(auto, unfolding(crate::specs::Duties::met_by))]
+fn met_no_parenthesis(sight: Sight, is_after_line_end: bool) -> Option<Duty>
+    ensures { (is_typed : Bool) → result ≡ met_by NoParenthesis sight is_after_line_end is_typed }
+{
+    only(is_after_line_end || !is_byte(b"(", sight), Duty::Nothing)
+}
+
 /// Returns what the next token must be after a word `import`, at which a node begins, and a token.
-fn duty_after_alias(sight: Sight) -> Option<Duty>
-    ensures { result ≡ duty_after_alias sight }
+#[tactic(auto, unfolding(crate::specs::Duties::met_by))]
+fn met_alias(sight: Sight) -> Option<Duty>
+    ensures { (is_after is_typed : Bool) → result ≡ met_by Alias sight is_after is_typed }
 {
     match sight {
         Sight::Word(_) => Some(Duty::Alias),
@@ -383,117 +433,91 @@ fn duty_after_alias(sight: Sight) -> Option<Duty>
 }
 
 /// Returns what the next token must be after `new` or `function` and a token.
-fn duty_after_new(sight: Sight) -> Option<Duty>
-    ensures { result ≡ duty_after_new sight }
+#[tactic(auto, unfolding(crate::specs::Duties::met_by))]
+fn met_no_call(sight: Sight) -> Option<Duty>
+    ensures { (is_after is_typed : Bool) → result ≡ met_by NoCall sight is_after is_typed }
 {
-    match sight {
-        Sight::Byte(b'*') => Some(Duty::NoCall),
-        _ => Some(Duty::Nothing),
+    if is_byte(b"*", sight) {
+        Some(Duty::NoCall)
+    } else {
+        Some(Duty::Nothing)
     }
 }
 
 /// Returns what the next token must be after a word `export` and a token.
-fn duty_after_export(is_claimed: bool, sight: Sight) -> Option<Duty>
-    ensures { result ≡ duty_after_export is_claimed sight }
+#[tactic(auto, unfolding(crate::specs::Duties::met_by))]
+fn met_export(
+    may_be_member: bool,
+    is_claimed: bool,
+    sight: Sight,
+    is_after_line_end: bool,
+) -> Option<Duty>
+    ensures { (is_typed : Bool)
+        → result ≡ met_by (Export may_be_member is_claimed) sight is_after_line_end is_typed }
 {
     match sight {
-        Sight::Word(name) => follows_export_word(is_claimed, name),
-        Sight::Byte(b'{') => {
-            if is_claimed {
-                Some(Duty::ExportNames)
-            } else {
-                None
-            }
-        }
-        Sight::Byte(b'*') => {
-            if is_claimed {
-                Some(Duty::ExportStar)
-            } else {
-                None
-            }
-        }
+        Sight::Word(_) if may_be_member && is_after_line_end => Some(Duty::Nothing),
+        Sight::Word(Name::Type) => Some(Duty::Export {
+            may_be_member: false,
+            is_claimed,
+        }),
+        Sight::Byte(byte) => after_export(is_claimed, may_be_member && is_after_line_end, byte),
         _ => Some(Duty::Nothing),
     }
 }
 
-/// Returns what the next token must be after a word `export` and another word.
-fn follows_export_word(is_claimed: bool, name: Name) -> Option<Duty>
-    ensures { result ≡ follows_export_word is_claimed name }
+/// Returns what the next token must be after a word `export` and a byte of punctuation.
+fn after_export(is_claimed: bool, may_end: bool, byte: u8) -> Option<Duty>
+    ensures { result ≡ after_export is_claimed may_end byte }
 {
-    match name {
-        Name::Type => Some(Duty::Export {
-            may_be_member: false,
-            is_claimed,
-        }),
-        _ => Some(Duty::Nothing),
+    if byte == b'{' {
+        only(is_claimed, Duty::ExportNames)
+    } else if byte == b'*' && !may_end {
+        only(is_claimed, Duty::ExportStar)
+    } else {
+        Some(Duty::Nothing)
     }
 }
 
 /// Returns what the next token must be after `export {` and more tokens.
-fn duty_after_export_names(sight: Sight) -> Option<Duty>
-    ensures { result ≡ duty_after_export_names sight }
+#[tactic(auto, unfolding(crate::specs::Duties::met_by))]
+fn met_export_names(sight: Sight) -> Option<Duty>
+    ensures { (is_after is_typed : Bool) → result ≡ met_by ExportNames sight is_after is_typed }
 {
-    match sight {
-        Sight::Word(_) | Sight::String { .. } | Sight::Byte(b',') => Some(Duty::ExportNames),
-        Sight::Byte(b'}') => Some(Duty::ExportEnd),
-        _ => None,
+    if is_byte(b"}", sight) {
+        Some(Duty::ExportEnd)
+    } else {
+        only(is_name(sight) || is_byte(b",", sight), Duty::ExportNames)
     }
 }
 
 /// Returns what the next token must be after `export *` and a token.
-fn duty_after_star(sight: Sight) -> Option<Duty>
-    ensures { result ≡ duty_after_star sight }
+#[tactic(auto, unfolding(crate::specs::Duties::met_by))]
+fn met_export_star(sight: Sight) -> Option<Duty>
+    ensures { (is_after is_typed : Bool) → result ≡ met_by ExportStar sight is_after is_typed }
 {
     match sight {
-        Sight::Word(name) => follows_star(name),
-        _ => None,
-    }
-}
-
-/// Returns what the next token must be after `export *` and a word.
-fn follows_star(name: Name) -> Option<Duty>
-    ensures { result ≡ follows_star name }
-{
-    match name {
-        Name::From => Some(Duty::From),
-        Name::As => Some(Duty::ExportAs),
-        _ => None,
-    }
-}
-
-/// Returns what the next token must be after `export * as` and a token.
-fn duty_after_export_as(sight: Sight) -> Option<Duty>
-    ensures { result ≡ duty_after_export_as sight }
-{
-    match sight {
-        Sight::Word(_) | Sight::String { .. } => Some(Duty::ExportEnd),
+        Sight::Word(Name::From) => Some(Duty::From),
+        Sight::Word(Name::As) => Some(Duty::ExportAs),
         _ => None,
     }
 }
 
 /// Returns what the next token must be after the names of an export and a token.
-fn duty_after_export_end(sight: Sight) -> Option<Duty>
-    ensures { result ≡ duty_after_export_end sight }
+#[tactic(auto, unfolding(crate::specs::Duties::met_by))]
+fn met_export_end(sight: Sight) -> Option<Duty>
+    ensures { (is_after is_typed : Bool) → result ≡ met_by ExportEnd sight is_after is_typed }
 {
     match sight {
-        Sight::Word(name) => follows_names(name),
-        _ => Some(Duty::Nothing),
-    }
-}
-
-/// Returns what the next token must be after the names of an export and a word.
-fn follows_names(name: Name) -> Option<Duty>
-    ensures { result ≡ follows_names name }
-{
-    match name {
-        Name::From => Some(Duty::From),
+        Sight::Word(Name::From) => Some(Duty::From),
         _ => Some(Duty::Nothing),
     }
 }
 
 /// Returns what the next token must be after the `from` of an export and a token.
-fn duty_after_from(sight: Sight) -> Option<Duty>
-    ensures { result ≡ duty_after_from sight }
+#[tactic(auto, unfolding(crate::specs::Duties::met_by))]
+fn met_from(sight: Sight) -> Option<Duty>
+    ensures { (is_after is_typed : Bool) → result ≡ met_by From sight is_after is_typed }
 {
     match sight {
         Sight::String { is_claimed: true } => Some(Duty::Nothing),
@@ -502,17 +526,12 @@ fn duty_after_from(sight: Sight) -> Option<Duty>
 }
 
 /// Returns what the next token must be after `module` and a token.
-fn duty_after_module(sight: Sight, is_after_line_end: bool) -> Option<Duty>
-    ensures { result ≡ duty_after_module sight is_after_line_end }
+#[tactic(auto, unfolding(crate::specs::Duties::met_by))]
+fn met_module(sight: Sight, is_after_line_end: bool) -> Option<Duty>
+    ensures { (is_typed : Bool) → result ≡ met_by Module sight is_after_line_end is_typed }
 {
     match sight {
-        Sight::String { is_claimed } => {
-            if is_claimed || is_after_line_end {
-                Some(Duty::Nothing)
-            } else {
-                None
-            }
-        }
+        Sight::String { is_claimed: false } if !is_after_line_end => None,
         _ => Some(Duty::Nothing),
     }
 }

@@ -1,7 +1,7 @@
 //! Words that dependencies begin with.
 
 ghost use Rattle.std.specs.Prelude.{◌≡◌};
-ghost use Rattle.modinfo_imports.specs.Keywords.{has_escape, is_import_word, keyword_of, may_be_require};
+ghost use Rattle.modinfo_imports.specs.Keywords.{has_escape, keyword_of, may_be_require};
 
 use modinfo_pieces::bytes::byte_at;
 
@@ -20,13 +20,25 @@ pub enum Keyword {
 
 /// Returns what a word is.
 #[inline(always)]
-#[tactic(auto, unfolding(crate::specs::Keywords::keyword_of))]
+#[tactic(auto, using(crate::proofs::FirstLetters::keyword_of_other))]
 pub fn keyword_of(word: &[u8]) -> Keyword
+    ensures { result ≡ keyword_of word.now }
+{
+    match byte_at(word, 0) {
+        b'e' | b'f' | b'i' | b'm' | b'n' | b'r' | b'\\' => keyword_among(word),
+        // Nearly every word.
+        _ => Keyword::Other,
+    }
+}
+
+/// Returns what a word is that may begin like one of these.
+#[tactic(auto, unfolding(crate::specs::Keywords::keyword_of))]
+fn keyword_among(word: &[u8]) -> Keyword
     ensures { result ≡ keyword_of word.now }
 {
     if may_be_require(word) {
         Keyword::Require
-    } else if is_import_word(word) {
+    } else if word == b"import".as_slice() {
         Keyword::Import
     } else if word == b"export".as_slice() {
         Keyword::Export
@@ -37,14 +49,6 @@ pub fn keyword_of(word: &[u8]) -> Keyword
     } else {
         Keyword::Other
     }
-}
-
-/// Returns whether a word is `import`.
-#[inline(always)]
-pub fn is_import_word(word: &[u8]) -> bool
-    ensures { result ≡ is_import_word word.now }
-{
-    word == b"import".as_slice()
 }
 
 /// Returns whether a word is `require`, or may spell it with escapes.

@@ -8,32 +8,26 @@ ghost use Rattle.deno_graph_source.specs.Node.{children_of, kind_of, literal_of,
 ghost use Rattle.modinfo_imports.specs.Nodes.{
   AreCalls,
   AreClaims,
-  alias_claim,
   begin_claim,
   bytes_at,
-  call_claim,
   call_word,
   call_words,
   calls_of,
   claims_of,
   export_claim,
-  has_word,
-  is_ident,
   literal_claim,
   module_claim,
   name_claim,
   no_piece,
   piece_at,
-  span,
-  template_claim,
   value_claim,
   word_claim,
 };
 
-use crate::keyword::{has_escape, is_import_word, may_be_require};
+use crate::keyword::{has_escape, may_be_require};
 use deno_graph_base::text::SourceRange;
 use deno_graph_source::tree::{Callee, Kind, Node, Program, StrLit};
-use modinfo_pieces::bytes::byte_at;
+use modinfo_pieces::bytes::{byte_at, has_bytes};
 use modinfo_pieces::piece::{Piece, PieceKind};
 use std::alloc::{AllocError, Global};
 
@@ -102,9 +96,16 @@ fn begin_claim(text: &[u8], at: usize, kind: &Kind) -> Option<Piece>
             Some(import_claim(text, at))
         }
         Kind::NamedExport { .. } | Kind::ExportAll { .. } => Some(export_claim(text, at)),
-        Kind::ImportEquals { is_export, .. } => Some(alias_claim(text, at, *is_export)),
+        Kind::ImportEquals {
+            is_export: true,
+            ..
+        } => Some(export_claim(text, at)),
+        Kind::ImportEquals { .. } => Some(import_claim(text, at)),
         Kind::ModuleDecl { .. } => Some(module_claim(text, at)),
-        Kind::Call { callee, .. } => call_claim(text, at, *callee),
+        Kind::Call {
+            callee: Callee::Import(_),
+            ..
+        } => Some(import_claim(text, at)),
         _ => None,
     }
 }
@@ -135,31 +136,10 @@ fn export_claim(text: &[u8], at: usize) -> Piece
 fn module_claim(text: &[u8], at: usize) -> Piece
     ensures { result ≡ module_claim text.now at }
 {
-    if has_word(text, at, b"module") {
+    if has_bytes(text, at, b"module") {
         word_claim(text, at, b"module")
     } else {
         word_claim(text, at, b"declare")
-    }
-}
-
-/// Returns the word that an alias begins with.
-fn alias_claim(text: &[u8], at: usize, is_export: bool) -> Piece
-    ensures { result ≡ alias_claim text.now at is_export }
-{
-    if is_export {
-        export_claim(text, at)
-    } else {
-        import_claim(text, at)
-    }
-}
-
-/// Returns the word `import` that a call begins with.
-fn call_claim(text: &[u8], at: usize, callee: Callee) -> Option<Piece>
-    ensures { result ≡ call_claim text.now at callee }
-{
-    match callee {
-        Callee::Import(_) => Some(import_claim(text, at)),
-        _ => None,
     }
 }
 
@@ -167,7 +147,7 @@ fn call_claim(text: &[u8], at: usize, callee: Callee) -> Option<Piece>
 fn word_claim(text: &[u8], at: usize, word: &[u8]) -> Piece
     ensures { result ≡ word_claim text.now at word.now }
 {
-    if has_word(text, at, word) {
+    if has_bytes(text, at, word) {
         Piece {
             kind: PieceKind::Word,
             start: at,
@@ -176,13 +156,6 @@ fn word_claim(text: &[u8], at: usize, word: &[u8]) -> Piece
     } else {
         no_piece(at)
     }
-}
-
-/// Returns whether a word is at an offset.
-fn has_word(text: &[u8], at: usize, word: &[u8]) -> bool
-    ensures { result ≡ has_word text.now at word.now }
-{
-    at <= text.len() && word.len() <= text.len() - at && &text[at..at + word.len()] == word
 }
 
 /// Returns a piece that no text has.
@@ -228,14 +201,14 @@ fn piece_at(kind: PieceKind, range: SourceRange) -> Piece
     }
 }
 
-/// Returns the string, the name or the template that a node of a kind is.
+/// Returns the string, the name or the template without expressions that a node of a kind is.
 fn value_claim(text: &[u8], range: SourceRange, children: &[Node], kind: &Kind) -> Option<Piece>
     ensures { result ≡ value_claim text.now range children.now kind.now }
 {
-    match kind {
-        Kind::Str(_) => Some(piece_at(PieceKind::String, range)),
-        Kind::Ident(name) => Some(name_claim(text, range, name.as_str().as_bytes())),
-        Kind::Template(_) => template_claim(range, children),
+    match (children, kind) {
+        (_, Kind::Str(_)) => Some(piece_at(PieceKind::String, range)),
+        (_, Kind::Ident(name)) => Some(name_claim(text, range, name.as_str().as_bytes())),
+        ([], Kind::Template(_)) => Some(piece_at(PieceKind::Template, range)),
         _ => None,
     }
 }
@@ -245,7 +218,7 @@ fn name_claim(text: &[u8], range: SourceRange, name: &[u8]) -> Piece
     ensures { result ≡ name_claim text.now range name.now }
 {
     let word = bytes_at(text, range);
-    if is_import_word(word) || !(has_escape(word) || word == name) {
+    if word == b"import".as_slice() || !(has_escape(word) || word == name) {
         no_piece(range.start)
     } else {
         piece_at(PieceKind::Word, range)
@@ -260,16 +233,6 @@ fn bytes_at(text: &[u8], range: SourceRange) -> &[u8]
         &text[range.start..range.end]
     } else {
         &[]
-    }
-}
-
-/// Returns the template at a range, if it has no expressions.
-fn template_claim(range: SourceRange, children: &[Node]) -> Option<Piece>
-    ensures { result ≡ template_claim range children.now }
-{
-    match children {
-        [] => Some(piece_at(PieceKind::Template, range)),
-        _ => None,
     }
 }
 
@@ -328,38 +291,30 @@ fn call_words(text: &[u8], range: SourceRange, children: &[Node], kind: &Kind) -
                 callee: Callee::Expr,
                 ..
             },
-        ) => call_word(text, range, callee),
+        ) => call_word(text, span(range, callee.range), &callee.kind),
         _ => None,
     }
 }
 
-/// Returns the word that a call of a name begins with, if the word may be `require`.
-fn call_word(text: &[u8], range: SourceRange, callee: &Node) -> Option<Piece>
+/// Returns the word at a range that a call of a callee begins with, if it is a name that may be `require`.
+fn call_word(text: &[u8], range: SourceRange, callee: &Kind) -> Option<Piece>
     ensures { result ≡ call_word text.now range callee.now }
 {
-    let span = span(range, callee.range);
-    if is_ident(&callee.kind) && may_be_require(bytes_at(text, span)) {
-        Some(piece_at(PieceKind::Word, span))
-    } else {
-        None
+    match callee {
+        Kind::Ident(_) if may_be_require(bytes_at(text, range)) => Some(piece_at(
+            PieceKind::Word,
+            range,
+        )),
+        _ => None,
     }
 }
 
 /// Returns the range from the start of one to the end of another.
 fn span(range: SourceRange, other: SourceRange) -> SourceRange
-    ensures { result ≡ span range other }
+    ensures { result ≡ record { start = range.start; end = other.end } }
 {
     SourceRange {
         start: range.start,
         end: other.end,
-    }
-}
-
-fn is_ident(kind: &Kind) -> bool
-    ensures { result ≡ is_ident kind.now }
-{
-    match kind {
-        Kind::Ident(_) => true,
-        _ => false,
     }
 }

@@ -1,40 +1,30 @@
 //! A watch over the tokens of a text, so that no word that a dependency begins with is lost.
 
-ghost use Rattle.std.specs.Prelude.{[], ◌≡◌, ◌<◌, ◌≤◌, ◌&&◌, IfOk, IfSome, OnOk, length, IsTrue, slice_index, ◌-◌};
-ghost use Rattle.modinfo_imports.specs.Duties.{met_by, sight_of};
+ghost use Rattle.std.specs.Prelude.{[], ◌≡◌, ◌<◌, ◌≤◌, ◌&&◌, IfOk, IfSome, OnOk, codes, length, IsTrue, slice_index, ◌-◌};
+ghost use Rattle.modinfo_imports.specs.Duties.{is_byte, met_by, sight_of};
 ghost use Rattle.modinfo_pieces.specs.Openings.{is_brace};
 ghost use Rattle.modinfo_imports.specs.Sights.{watch_of};
 ghost use Rattle.modinfo_imports.specs.Watches.{
   IsWatchEnd,
-  begins_parameters,
-  closes_method,
   duty_after,
   duty_after_word,
-  is_after_claim,
-  is_alias,
-  is_byte,
-  is_done,
-  is_dot,
   is_flags,
   is_gap,
-  is_in_tag,
   is_listed,
+  is_member,
+  is_method,
   is_name,
-  is_no_call,
   is_value,
-  is_waiting,
   keyword_at,
   last_of,
   may_be_method,
-  may_end_member,
   parentheses_after,
   watch_after,
   watch_start,
-  with_parenthesis,
 };
 
 use crate::claims::{claims_after, is_claimed};
-use crate::duty::{Duty, Parentheses, met_by, sight_of};
+use crate::duty::{Duty, Parentheses, Sight, met_by, sight_of};
 use crate::keyword::{Keyword, keyword_of};
 use modinfo_pieces::befores::bytes_of;
 use modinfo_pieces::bytes::byte_at;
@@ -97,7 +87,7 @@ pub fn watch_piece<'a>(
         claims: claims_after(piece, seen.claims),
         calls: claims_after(piece, seen.calls),
     };
-    change(text, piece, met, parentheses)?;
+    change(text, seen.claims, piece, met, parentheses)?;
     Ok(Some(after))
 }
 
@@ -144,7 +134,7 @@ fn is_gap(kind: PieceKind) -> bool
 
 /// Returns what the next token must be.
 #[inline(always)]
-#[tactic(auto, unfolding(crate::specs::Watches::duty_after))]
+#[tactic(auto, unfolding(crate::specs::Watches::duty_after, crate::specs::Duties::sight_of))]
 fn duty_after(
     text: &[u8],
     is_typed: bool,
@@ -155,8 +145,8 @@ fn duty_after(
     met: Duty,
 ) -> Duty
     ensures { piece.start < piece.end → piece.end ≤ length text.now
-        → result ≡ duty_after text.now is_typed context piece piece.kind
-        (watch_of seen.entry parentheses.now) met }
+        → result ≡ duty_after text.now is_typed context piece piece.kind (watch_of seen.entry parentheses.now)
+        (sight_of text.now seen.entry.claims.now piece piece.kind) met }
 {
     match piece.kind {
         PieceKind::Word => {
@@ -174,13 +164,14 @@ fn duty_after(
                 )
             }
         }
-        _ => {
-            if closes_method(text, piece, parentheses) && is_waiting(seen.duty) {
+        PieceKind::Punctuation => {
+            if byte_at(text, piece.start) == b')' && parentheses.is_method() {
                 Duty::Parameters
             } else {
                 met
             }
         }
+        _ => met,
     }
 }
 
@@ -213,30 +204,30 @@ fn duty_after_word(
 {
     match keyword {
         Keyword::Other => { if is_claimed { Duty::Claimed } else { met } }
-        Keyword::Import => {
-            if is_claimed || is_after_claim(before) {
-                Duty::Alias
-            } else {
-                Duty::Import {
-                    in_braces,
-                    may_be_method: in_braces && may_be_method,
-                }
-            }
-        }
-        Keyword::Require => {
-            if is_call || is_no_call(before) || is_alias(met) {
-                met
-            } else {
-                Duty::Require {
-                    may_be_method: in_braces && may_be_method,
-                }
-            }
-        }
+        Keyword::Import => match before {
+            _ if is_claimed => Duty::Alias,
+            Duty::Claimed => Duty::Alias,
+            Duty::Export {
+                is_claimed: true,
+                ..
+            } => Duty::Alias,
+            _ => Duty::Import {
+                in_braces,
+                may_be_method: in_braces && may_be_method,
+            },
+        },
+        Keyword::Require => match before {
+            _ if is_call => met,
+            Duty::NoCall => met,
+            _ => Duty::Require {
+                may_be_method: in_braces && may_be_method,
+            },
+        },
         Keyword::Export => Duty::Export {
             may_be_member: in_braces && !is_claimed,
             is_claimed,
         },
-        Keyword::Module => { if is_alias(met) { met } else { Duty::Module } }
+        Keyword::Module => Duty::Module,
         Keyword::New => Duty::NoCall,
     }
 }
@@ -247,9 +238,8 @@ fn duty_after_word(
 fn is_name(context: Context, previous: u8, last: u8) -> bool
     ensures { result ≡ is_name context previous last }
 {
-    is_dot(context.before)
+    is_member(context.before, context.inside)
         || previous == b'#'
-        || is_in_tag(context.inside)
         || is_flags(context, previous, last)
 }
 
@@ -265,53 +255,18 @@ fn is_listed(duty: Duty) -> bool
     ensures { result ≡ is_listed duty }
 {
     match duty {
-        Duty::AsName | Duty::ExportNames | Duty::ExportEnd => true,
+        Duty::AsName | Duty::ExportNames | Duty::ExportEnd | Duty::Alias => true,
         _ => false,
     }
 }
 
-fn is_alias(duty: Duty) -> bool
-    ensures { result ≡ is_alias duty }
+/// Returns whether a word is the name of a member or a name in a tag.
+fn is_member(before: Before, inside: Opening) -> bool
+    ensures { result ≡ is_member before inside }
 {
-    match duty {
-        Duty::Alias => true,
-        _ => false,
-    }
-}
-
-fn is_no_call(duty: Duty) -> bool
-    ensures { result ≡ is_no_call duty }
-{
-    match duty {
-        Duty::NoCall => true,
-        _ => false,
-    }
-}
-
-fn is_dot(before: Before) -> bool
-    ensures { result ≡ is_dot before }
-{
-    match before {
-        Before::Dot | Before::DotDot => true,
-        _ => false,
-    }
-}
-
-fn is_in_tag(inside: Opening) -> bool
-    ensures { result ≡ is_in_tag inside }
-{
-    match inside {
-        Opening::Tag | Opening::ClosingTag => true,
-        _ => false,
-    }
-}
-
-fn is_after_claim(duty: Duty) -> bool
-    ensures { result ≡ is_after_claim duty }
-{
-    match duty {
-        Duty::Claimed => true,
-        Duty::Export { is_claimed, .. } => is_claimed,
+    match (before, inside) {
+        (Before::Dot | Before::DotDot, _) => true,
+        (_, Opening::Tag | Opening::ClosingTag) => true,
         _ => false,
     }
 }
@@ -331,15 +286,8 @@ fn may_be_method(is_typed: bool, context: Context, last: u8) -> bool
     ensures { result ≡ may_be_method is_typed context last }
 {
     is_value(context.before)
-        || may_end_member(is_typed, context, last)
         || matches!(last, b'{' | b'}' | b';' | b',' | b'*' | b'>')
-}
-
-/// Returns whether a member of a type may end after a token, at a line end.
-fn may_end_member(is_typed: bool, context: Context, last: u8) -> bool
-    ensures { result ≡ may_end_member is_typed context last }
-{
-    is_typed && context.is_after_line_end && matches!(last, b'v' | b'?')
+        || is_typed && context.is_after_line_end && matches!(last, b'v' | b'?')
 }
 
 fn is_value(before: Before) -> bool
@@ -351,71 +299,30 @@ fn is_value(before: Before) -> bool
     }
 }
 
-fn is_waiting(duty: Duty) -> bool
-    ensures { result ≡ is_waiting duty }
-{
-    match duty {
-        Duty::Parenthesis => false,
-        _ => true,
-    }
-}
-
-/// Returns whether a token is the `)` of the parameters of a method that is named `import` or `require`.
-#[inline(always)]
-fn closes_method(text: &[u8], piece: Piece, parentheses: &Parentheses) -> bool
-    ensures { result ≡ closes_method text.now piece parentheses.now }
-{
-    is_byte(text, piece, b')') && parentheses.is_method()
-}
-
-/// Returns whether a token is this byte of punctuation.
-#[inline(always)]
-fn is_byte(text: &[u8], piece: Piece, byte: u8) -> bool
-    ensures { result ≡ is_byte text.now piece piece.kind byte }
-{
-    match piece.kind {
-        PieceKind::Punctuation => byte_at(text, piece.start) == byte,
-        _ => false,
-    }
-}
-
 /// Changes the parentheses by a token.
 #[inline(always)]
+#[tactic(auto, unfolding(crate::specs::Duties::sight_of))]
 fn change(
     text: &[u8],
+    claims: &[Piece],
     piece: Piece,
     met: Duty,
     parentheses: &mut Parentheses,
 ) -> Result<(), AllocError>
-    ensures { OnOk result (parentheses.new ≡ parentheses_after text.now piece met parentheses.old) }
+    ensures { OnOk result (parentheses.new
+        ≡ parentheses_after (sight_of text.now claims.now piece piece.kind) met parentheses.old) }
 {
-    if begins_parameters(met) {
-        parentheses.push(true)?;
-    } else if is_byte(text, piece, b'(') {
-        add(parentheses)?;
-    } else if is_byte(text, piece, b')') {
-        let _parenthesis = parentheses.pop();
+    match piece.kind {
+        PieceKind::Punctuation => match byte_at(text, piece.start) {
+            b'(' => parentheses.push(met)?,
+            b')' => {
+                let _parenthesis = parentheses.pop();
+            }
+            _ => (),
+        },
+        _ => (),
     }
     Ok(())
-}
-
-/// Adds a parenthesis that is in the parameters of a method.
-fn add(parentheses: &mut Parentheses) -> Result<(), AllocError>
-    ensures { OnOk result (parentheses.new ≡ with_parenthesis parentheses.old) }
-{
-    if !parentheses.is_empty() {
-        parentheses.push(false)?;
-    }
-    Ok(())
-}
-
-fn begins_parameters(met: Duty) -> bool
-    ensures { result ≡ begins_parameters met }
-{
-    match met {
-        Duty::Parenthesis => true,
-        _ => false,
-    }
 }
 
 /// Returns the byte by which the next token knows the last one.
@@ -433,22 +340,5 @@ fn last_of(previous: u8, byte: u8) -> u8
 pub fn is_watch_end(seen: Seen<'_>, parentheses: &Parentheses) -> bool
     ensures { IsTrue result → IsWatchEnd (watch_of seen.entry parentheses.now) }
 {
-    seen.claims.is_empty() && is_done(seen.duty)
-}
-
-fn is_done(duty: Duty) -> bool
-    ensures { result ≡ is_done duty }
-{
-    match duty {
-        Duty::Import { .. }
-        | Duty::As
-        | Duty::AsName
-        | Duty::Parenthesis
-        | Duty::Parameters
-        | Duty::ExportNames
-        | Duty::ExportStar
-        | Duty::ExportAs
-        | Duty::From => false,
-        _ => true,
-    }
+    seen.claims.is_empty() && met_by(seen.duty, Sight::Other, false, false).is_some()
 }

@@ -4,10 +4,6 @@ use Rattle.std.specs.Prelude.{ℕ, ◌+◌, ◌==◌, Bool, true, false, not, �
 use Rattle.std.specs.Prelude.{if◌then◌else◌, length, nat_lt, slice_index}
 use Rattle.modinfo_pieces.specs.Spaces.{is_line_end}
 
--- The byte at an offset inside the text.
-abbrev pub is_at : List ℕ → ℕ → ℕ → Bool
-is_at text byte at = nat_lt at (length text) && (slice_index text at == byte)
-
 -- Where an escape in a string ends: after a backslash and one byte, or after a backslash, CR and LF.
 abbrev pub escape_end : List ℕ → ℕ → ℕ
 escape_end text at =
@@ -22,7 +18,8 @@ string_step quote text at =
 
 -- The offset after a quote.
 abbrev pub quote_close : ℕ → List ℕ → ℕ → Option ℕ
-quote_close quote text at = (if is_at text quote at then Some (at + 1) else None)
+quote_close quote text at =
+    (if nat_lt at (length text) && (slice_index text at == quote) then Some (at + 1) else None)
 
 -- `${` is at an offset.
 abbrev pub is_substitution : List ℕ → ℕ → Bool

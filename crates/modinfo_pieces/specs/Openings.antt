@@ -34,11 +34,6 @@ abbrev pub is_element : Opening → Bool
 is_element Element = true
 is_element _ = false
 
--- The token before is a slash in a tag.
-abbrev pub is_tag_slash : Before → Bool
-is_tag_slash TagSlash = true
-is_tag_slash _ = false
-
 -- The openings without the innermost, if that passes a test.
 abbrev pub closed : (Opening → Bool) → List Opening → Option (List Opening)
 closed test [] = None
@@ -62,20 +57,18 @@ begins_tag inside before chosen = false
 
 -- The openings after a `<` that begins no tag: one more in a tag, where type arguments begin.
 abbrev pub around_after_angle : List Opening → List Opening
-around_after_angle [] = []
 around_after_angle (Tag ∷ around) = Angle ∷ Tag ∷ around
 around_after_angle (Angle ∷ around) = Angle ∷ Angle ∷ around
-around_after_angle (opening ∷ around) = opening ∷ around
+around_after_angle around = around
 
 -- The openings after a `>` with a byte before: type arguments end, but not by `=>`; a tag ends, and its
 -- element ends if a slash is before; the tag that begins with `</` ends, and its element.
 abbrev pub around_after_greater : ℕ → Before → List Opening → Option (List Opening)
-around_after_greater byte before [] = Some []
 around_after_greater byte before (Angle ∷ around) = Some (if byte == 61 then Angle ∷ around else around)
-around_after_greater byte before (Tag ∷ around) =
-    Some (if is_tag_slash before then around else Element ∷ around)
+around_after_greater byte TagSlash (Tag ∷ around) = Some around
+around_after_greater byte before (Tag ∷ around) = Some (Element ∷ around)
 around_after_greater byte before (ClosingTag ∷ around) = closed is_element around
-around_after_greater byte before (opening ∷ around) = Some (opening ∷ around)
+around_after_greater byte before around = Some around
 
 -- The openings after a slash: `</` begins another tag.
 abbrev pub around_after_slash : Before → List Opening → List Opening

@@ -6,10 +6,6 @@ use Rattle.std.specs.Prelude.{if◌then◌else◌, nat_le, slice_index}
 abbrev pub is_ascii_space : ℕ → Bool
 is_ascii_space byte = (nat_le 9 byte && nat_le byte 13) || (byte == 32)
 
--- U+00A0, and U+0085, which TypeScript reads as white space.
-abbrev pub is_space_of_two : ℕ → ℕ → Bool
-is_space_of_two first second = (first == 0xC2) && ((second == 0x85) || (second == 0xA0))
-
 -- U+2000 to U+200A, U+2028, U+2029 and U+202F after their first byte, and U+200B, which TypeScript reads as
 -- white space.
 abbrev pub is_space_of_e280 : ℕ → Bool
@@ -26,10 +22,12 @@ is_space_of_three first second third =
     || (((first == 0xE3) && ((second == 0x80) && (third == 0x80)))
     || ((first == 0xEF) && ((second == 0xBB) && (third == 0xBF)))))
 
--- How many of three bytes are white space or a line terminator above U+007F.
+-- How many of three bytes are white space or a line terminator above U+007F. U+00A0 has two, and U+0085,
+-- which TypeScript reads as white space.
 abbrev pub wide_space_size : ℕ → ℕ → ℕ → ℕ
 wide_space_size first second third =
-    (if is_space_of_two first second then 2 else (if is_space_of_three first second third then 3 else 0))
+    (if (first == 0xC2) && ((second == 0x85) || (second == 0xA0)) then 2
+    else (if is_space_of_three first second third then 3 else 0))
 
 -- How many bytes the white space or the line terminator at an offset has; none if there is none.
 unfoldable pub space_size : List ℕ → ℕ → ℕ

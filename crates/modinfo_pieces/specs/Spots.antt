@@ -6,10 +6,11 @@ use Rattle.modinfo_pieces.specs.declared.places.Spot.{Spot}
 
 -- The place of a spot with these openings around.
 abbrev pub place_of : Spot → List Opening → Place
-place_of spot around = record {
-  at = spot.at;
-  around = around;
-  before = spot.before;
-  is_after_line_end = spot.is_after_line_end;
-  choices = spot.choices.now;
-}
+place_of spot around =
+    record {
+      at = spot.at;
+      around = around;
+      before = spot.before;
+      is_after_line_end = spot.is_after_line_end;
+      choices = spot.choices.now;
+    }

@@ -4,8 +4,7 @@ ghost use Rattle.std.specs.Prelude.{◌≡◌};
 ghost use Rattle.modinfo_pieces.specs.Kinds.{
   begins_hashbang,
   begins_html_comment,
-  is_comment_closing,
-  is_comment_opening,
+  begins_regular_expression,
   is_operator,
   kind_at,
   kind_in_code,
@@ -14,10 +13,9 @@ ghost use Rattle.modinfo_pieces.specs.Kinds.{
   kind_of_punctuation,
   kind_of_quote,
   kind_of_slash,
-  may_be_regular_expression,
 };
 
-use crate::bytes::byte_at;
+use crate::bytes::{byte_at, has_bytes};
 use crate::choice::ChoiceKind;
 use crate::classes::is_word_byte;
 use crate::piece::PieceKind;
@@ -88,14 +86,15 @@ fn kind_of_slash(second: u8, context: Context) -> PieceKind
     match second {
         b'/' => PieceKind::LineComment,
         b'*' => PieceKind::BlockComment,
-        _ if may_be_regular_expression(context) => PieceKind::RegularExpression,
+        _ if begins_regular_expression(context) => PieceKind::RegularExpression,
         _ => PieceKind::Punctuation,
     }
 }
 
-/// Returns whether a slash may begin a regular expression.
-fn may_be_regular_expression(context: Context) -> bool
-    ensures { result ≡ may_be_regular_expression context }
+/// Returns whether a slash begins a regular expression.
+fn begins_regular_expression(context: Context) -> bool
+    ensures { result
+        ≡ begins_regular_expression context.chosen context.is_after_line_end context.before }
 {
     match context.chosen {
         Some(ChoiceKind::RegularExpression) => context.is_after_line_end
@@ -116,7 +115,7 @@ fn is_operator(before: Before) -> bool
 
 /// Returns the kind of the piece that begins with a quote.
 fn kind_of_quote(context: Context) -> PieceKind
-    ensures { result ≡ kind_of_quote context }
+    ensures { result ≡ kind_of_quote context.inside context.before }
 {
     match (context.inside, context.before) {
         (Opening::Tag, Before::Equal) => PieceKind::JsxString,
@@ -138,35 +137,13 @@ fn kind_of_closing_brace(inside: Opening) -> PieceKind
 #[inline(always)]
 #[tactic(auto, unfolding(crate::specs::Kinds::begins_html_comment))]
 fn begins_html_comment(text: &[u8], at: usize, context: Context) -> bool
-    ensures { result ≡ begins_html_comment text.now at context }
+    ensures { result ≡ begins_html_comment text.now at context.chosen context.is_after_line_end }
 {
     match context.chosen {
-        Some(ChoiceKind::HtmlComment) => {
-            begins_with_less(text, at) || context.is_after_line_end && begins_with_minus(text, at)
-        }
+        Some(ChoiceKind::HtmlComment) => has_bytes(text, at, b"<!--")
+            || context.is_after_line_end && has_bytes(text, at, b"-->"),
         _ => false,
     }
-}
-
-/// Returns whether `<!--` is at an offset.
-fn begins_with_less(text: &[u8], at: usize) -> bool
-    ensures { result ≡ is_comment_opening text.now at }
-{
-    at < text.len()
-        && text[at] == b'<'
-        && byte_at(text, at + 1) == b'!'
-        && byte_at(text, at + 2) == b'-'
-        && byte_at(text, at + 3) == b'-'
-}
-
-/// Returns whether `-->` is at an offset.
-fn begins_with_minus(text: &[u8], at: usize) -> bool
-    ensures { result ≡ is_comment_closing text.now at }
-{
-    at < text.len()
-        && text[at] == b'-'
-        && byte_at(text, at + 1) == b'-'
-        && byte_at(text, at + 2) == b'>'
 }
 
 /// Returns whether `#!` is at an offset, at the text's start.
@@ -175,8 +152,5 @@ fn begins_with_minus(text: &[u8], at: usize) -> bool
 fn begins_hashbang(text: &[u8], at: usize) -> bool
     ensures { result ≡ begins_hashbang text.now at }
 {
-    at < 4
-        && byte_at(text, at) == b'#'
-        && byte_at(text, at + 1) == b'!'
-        && (at == 0 || at == 3 && space_size(text, 0) == 3)
+    at < 4 && has_bytes(text, at, b"#!") && (at == 0 || at == 3 && space_size(text, 0) == 3)
 }

@@ -15,6 +15,5 @@ pub mod piece;
 pub mod place;
 pub mod places;
 pub mod scan;
-pub mod tiles;
 pub mod trails;
 pub mod word_classes;

@@ -8,7 +8,6 @@ ghost use Rattle.modinfo_pieces.specs.Openings.{
   is_element,
   is_parenthesis,
   is_substitution,
-  is_tag_slash,
   around_after_angle,
   around_after_greater,
   around_after_punctuation,
@@ -16,7 +15,7 @@ ghost use Rattle.modinfo_pieces.specs.Openings.{
   around_after_template,
   opening_of_parenthesis,
 };
-ghost use Rattle.modinfo_pieces.specs.declared.place.Opening.TheVariants.{Element, Tag};
+ghost use Rattle.modinfo_pieces.specs.declared.place.Opening.TheVariants.{Tag};
 
 use crate::choice::ChoiceKind;
 use crate::place::{Before, Context, Opening, Openings};
@@ -165,7 +164,7 @@ fn change_by_greater(
 
 /// Adds the element whose tag has ended, unless a slash is at the tag's end, and returns `true`.
 fn end_tag(around: &mut Openings, before: Before) -> Result<bool, AllocError>
-    ensures { IfOk result (λ nests. Some (if is_tag_slash before then around.old else Element ∷ around.old)
+    ensures { IfOk result (λ nests. around_after_greater 0 before (Tag ∷ around.old)
         ≡ (if nests then Some around.new else None)) }
 {
     match before {

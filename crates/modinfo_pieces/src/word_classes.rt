@@ -1,18 +1,7 @@
 //! What a word says of what may follow.
 
-ghost use Rattle.std.specs.Prelude.{◌≡◌};
-ghost use Rattle.modinfo_pieces.specs.WordClasses.{
-  class_after,
-  class_of,
-  class_of_five,
-  class_of_four,
-  class_of_seven,
-  class_of_six,
-  class_of_three,
-  class_of_two,
-  is_await,
-  is_one_of,
-};
+ghost use Rattle.std.specs.Prelude.{◌≡◌, length};
+ghost use Rattle.modinfo_pieces.specs.WordClasses.{class_after, class_of};
 
 use crate::place::Before;
 
@@ -24,14 +13,14 @@ pub fn class_after(before: Before, word: &[u8]) -> Before
 {
     match before {
         Before::Dot => Before::Value,
-        Before::Head if is_await(word) => Before::Head,
+        Before::Head if word == b"await".as_slice() => Before::Head,
         _ => class_of(word),
     }
 }
 
 /// Returns what a word is, if no dot is before the word.
 #[inline(always)]
-#[tactic(auto, unfolding(crate::specs::WordClasses::class_of))]
+#[tactic(auto, using(crate::proofs::WordLengths::class_of_other))]
 fn class_of(word: &[u8]) -> Before
     ensures { result ≡ class_of word.now }
 {
@@ -42,51 +31,72 @@ fn class_of(word: &[u8]) -> Before
         5 => class_of_five(word),
         6 => class_of_six(word),
         7 => class_of_seven(word),
-        10 if word == b"instanceof".as_slice() => Before::Free,
+        10 => class_of_ten(word),
         _ => Before::Value,
     }
 }
 
-#[tactic(auto, unfolding(crate::specs::WordClasses::class_of_two))]
+#[tactic(auto, using(crate::proofs::WordLengths::class_of_two))]
 fn class_of_two(word: &[u8]) -> Before
-    ensures { result ≡ class_of_two word.now }
+    ensures { length word.now ≡ 2 → result ≡ class_of word.now }
 {
-    is_one_of(
-        word == b"if".as_slice(),
-        word == b"in".as_slice() || word == b"of".as_slice() || word == b"do".as_slice(),
-    )
+    if word == b"if".as_slice() {
+        Before::Head
+    } else if word == b"in".as_slice() || word == b"of".as_slice() || word == b"do".as_slice() {
+        Before::Free
+    } else {
+        Before::Value
+    }
 }
 
-#[tactic(auto, unfolding(crate::specs::WordClasses::class_of_three))]
+#[tactic(auto, using(crate::proofs::WordLengths::class_of_three))]
 fn class_of_three(word: &[u8]) -> Before
-    ensures { result ≡ class_of_three word.now }
+    ensures { length word.now ≡ 3 → result ≡ class_of word.now }
 {
-    is_one_of(word == b"for".as_slice(), word == b"new".as_slice())
+    if word == b"for".as_slice() {
+        Before::Head
+    } else if word == b"new".as_slice() {
+        Before::Free
+    } else {
+        Before::Value
+    }
 }
 
-#[tactic(auto, unfolding(crate::specs::WordClasses::class_of_four))]
+#[tactic(auto, using(crate::proofs::WordLengths::class_of_four))]
 fn class_of_four(word: &[u8]) -> Before
-    ensures { result ≡ class_of_four word.now }
+    ensures { length word.now ≡ 4 → result ≡ class_of word.now }
 {
-    is_one_of(
-        word == b"with".as_slice(),
-        word == b"else".as_slice() || word == b"case".as_slice() || word == b"void".as_slice(),
-    )
+    if word == b"with".as_slice() {
+        Before::Head
+    } else if word == b"else".as_slice()
+        || word == b"case".as_slice()
+        || word == b"void".as_slice()
+    {
+        Before::Free
+    } else {
+        Before::Value
+    }
 }
 
-#[tactic(auto, unfolding(crate::specs::WordClasses::class_of_five))]
+#[tactic(auto, using(crate::proofs::WordLengths::class_of_five))]
 fn class_of_five(word: &[u8]) -> Before
-    ensures { result ≡ class_of_five word.now }
+    ensures { length word.now ≡ 5 → result ≡ class_of word.now }
 {
-    is_one_of(
-        word == b"while".as_slice(),
-        word == b"throw".as_slice() || word == b"await".as_slice() || word == b"yield".as_slice(),
-    )
+    if word == b"while".as_slice() {
+        Before::Head
+    } else if word == b"throw".as_slice()
+        || word == b"await".as_slice()
+        || word == b"yield".as_slice()
+    {
+        Before::Free
+    } else {
+        Before::Value
+    }
 }
 
-#[tactic(auto, unfolding(crate::specs::WordClasses::class_of_six))]
+#[tactic(auto, using(crate::proofs::WordLengths::class_of_six))]
 fn class_of_six(word: &[u8]) -> Before
-    ensures { result ≡ class_of_six word.now }
+    ensures { length word.now ≡ 6 → result ≡ class_of word.now }
 {
     if word == b"return".as_slice()
         || word == b"typeof".as_slice()
@@ -98,9 +108,9 @@ fn class_of_six(word: &[u8]) -> Before
     }
 }
 
-#[tactic(auto, unfolding(crate::specs::WordClasses::class_of_seven))]
+#[tactic(auto, using(crate::proofs::WordLengths::class_of_seven))]
 fn class_of_seven(word: &[u8]) -> Before
-    ensures { result ≡ class_of_seven word.now }
+    ensures { length word.now ≡ 7 → result ≡ class_of word.now }
 {
     if word == b"extends".as_slice() || word == b"default".as_slice() {
         Before::Free
@@ -109,23 +119,13 @@ fn class_of_seven(word: &[u8]) -> Before
     }
 }
 
-/// Returns what a word is that is before the parenthesis of a statement's head, an operator, or neither.
-#[inline(always)]
-fn is_one_of(is_head: bool, is_operator: bool) -> Before
-    ensures { result ≡ is_one_of is_head is_operator }
+#[tactic(auto, using(crate::proofs::WordLengths::class_of_ten))]
+fn class_of_ten(word: &[u8]) -> Before
+    ensures { length word.now ≡ 10 → result ≡ class_of word.now }
 {
-    if is_head {
-        Before::Head
-    } else if is_operator {
+    if word == b"instanceof".as_slice() {
         Before::Free
     } else {
         Before::Value
     }
-}
-
-/// Returns whether a word is `await`.
-fn is_await(word: &[u8]) -> bool
-    ensures { result ≡ is_await word.now }
-{
-    word == b"await".as_slice()
 }
