@@ -34,7 +34,8 @@ folder_text (Some folder) empty is = refl
 pub found_info : {E : Type 0} (folder : Option (List ℕ)) (name text : List ℕ) (url : Parts)
     (found : Result ModuleInfo E) → IsUrlOf folder name url → text ≡ serialize url
     → IfOk found (IsInfoOfFile url)
-    → IfOk found (λ info. (at : Parts) × IsUrlOf folder name at × IsInfoOfFile at info × (text ≡ serialize at))
+    → IfOk found (λ info. (at : Parts) × IsUrlOf folder name at × IsInfoOfFile at info × (text ≡ serialize
+    at))
 found_info folder name text url (Ok info) is_url same is = (url, is_url, is, same)
 found_info folder name text url (Err fault) is_url same is = tt
 

@@ -239,7 +239,8 @@ PrintsEach-next Prints lines line passes next sent waiting written left printed 
 
 -- Like `PrintsEach-more`, if the printed text was put after what is waiting.
 pub PrintsEach-put : (Prints : List ℕ → Bool → List ℕ → Type 0) (lines : List (List ℕ)) (line : List ℕ)
-    (passes next : Bool) (sent waiting printed new : List ℕ) → PrintsEach Prints lines passes (sent ++ waiting)
+    (passes next : Bool) (sent waiting printed new : List ℕ) → PrintsEach Prints lines passes (sent ++
+    waiting)
     → Prints line next printed → new ≡ waiting ++ printed
     → PrintsEach Prints (lines ++ line ∷ []) (passes && next) (sent ++ new)
 PrintsEach-put Prints lines line passes next sent waiting printed new all one put =

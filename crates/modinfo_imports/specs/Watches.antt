@@ -9,6 +9,7 @@ use Rattle.modinfo_imports.specs.Keywords.{keyword_of}
 use Rattle.modinfo_pieces.specs.Openings.{is_brace}
 use Rattle.modinfo_pieces.specs.Places.{IsNext, Place, context_of}
 use Rattle.modinfo_pieces.specs.Tiles.{is_comment_kind}
+use Rattle.modinfo_pieces.specs.Words.{is_word_byte}
 use Rattle.modinfo_imports.specs.declared.duty.Duty.{Duty}
 use Rattle.modinfo_imports.specs.declared.duty.Duty.TheVariants as duties
 use Rattle.modinfo_imports.specs.declared.duty.Sight.{Sight}
@@ -77,14 +78,19 @@ keyword_at text context piece last =
     (if is_name context (slice_index text (piece.start - 1)) last then keywords.Other
     else keyword_of (slice_range text piece.start piece.end))
 
--- A method may be named after a token: after `{`, `}`, `;`, `,`, `*` or `>`, the end of a member, or a word
--- as `get`, but not after `?`, `:`, `=`, `=>`, `(` or an operator, as `a ? import(b) : c`, `case import(b):`,
--- `await import(b)`. In TypeScript a member may end at a line end after `void` or `?`:
--- `interface A { a(): void⏎ import(b): c }`, `class A { a?⏎ import() {} }`.
+-- On another line a member may have ended with a token: a word, as in `class A { in⏎ import() {} }`, a `)`,
+-- and in TypeScript a `?` or a `!`, as in `class A { a?⏎ import() {} }`.
+abbrev pub may_end_member : Bool → ℕ → Bool
+may_end_member is_typed last =
+    is_word_byte last || ((last == 41) || (is_typed && is_one_of (codes "?!") last))
+
+-- A method may be named after a token: after `{`, `}`, `;`, `,`, `*` or `>`, a decorator, the end of a
+-- member, or a word as `get`, but not after `:`, `=`, `=>`, `(` or an operator, as in `a = import(b)`, `a ?
+-- import(b) : c`, `case import(b):`, `await import(b)`.
 abbrev pub may_be_method : Bool → Context → ℕ → Bool
 may_be_method is_typed context last =
-    (is_value context.before || is_one_of (codes "{};,*>") last)
-    || ((is_typed && context.is_after_line_end) && is_one_of (codes "v?") last)
+    (is_value context.before || is_one_of (codes "{};,*>@") last)
+    || (context.is_after_line_end && may_end_member is_typed last)
 
 -- The word that meets a duty is a name: in the list of an import or an export, as in
 -- `export { import as require }`, or between `import` and `=`, as in `import require = a.b`.
@@ -134,9 +140,10 @@ parentheses_after sight met parentheses =
     (if is_byte (codes "(") sight then met ∷ parentheses
     else (if is_byte (codes ")") sight then drop 1 parentheses else parentheses))
 
--- The first byte of a token, but `=` for the second byte of `=>`.
+-- The first byte of a token, but `=` for the second byte of `=>`, and `@` for the name of a decorator.
 abbrev pub last_of : ℕ → ℕ → ℕ
-last_of previous byte = (if (byte == 62) && (previous == 61) then 61 else byte)
+last_of previous byte =
+    (if (byte == 62) && (previous == 61) then 61 else (if previous == 64 then 64 else byte))
 
 -- The watch after a token, by the duty that the token has met.
 abbrev pub watch_met : List ℕ → Bool → Context → Piece → Watch → Sight → Duty → Watch

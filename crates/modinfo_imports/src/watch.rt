@@ -18,6 +18,7 @@ ghost use Rattle.modinfo_imports.specs.Watches.{
   keyword_at,
   last_of,
   may_be_method,
+  may_end_member,
   parentheses_after,
   watch_after,
   watch_start,
@@ -28,6 +29,7 @@ use crate::duty::{Duty, Parentheses, Sight, met_by, sight_of};
 use crate::keyword::{Keyword, keyword_of};
 use modinfo_pieces::befores::bytes_of;
 use modinfo_pieces::bytes::byte_at;
+use modinfo_pieces::classes::is_word_byte;
 use modinfo_pieces::piece::{Piece, PieceKind};
 use modinfo_pieces::place::{Before, Context, Opening};
 use std::alloc::AllocError;
@@ -286,8 +288,15 @@ fn may_be_method(is_typed: bool, context: Context, last: u8) -> bool
     ensures { result ≡ may_be_method is_typed context last }
 {
     is_value(context.before)
-        || matches!(last, b'{' | b'}' | b';' | b',' | b'*' | b'>')
-        || is_typed && context.is_after_line_end && matches!(last, b'v' | b'?')
+        || matches!(last, b'{' | b'}' | b';' | b',' | b'*' | b'>' | b'@')
+        || context.is_after_line_end && may_end_member(is_typed, last)
+}
+
+/// Returns whether a member may have ended with a token on another line.
+fn may_end_member(is_typed: bool, last: u8) -> bool
+    ensures { result ≡ may_end_member is_typed last }
+{
+    is_word_byte(last) || last == b')' || is_typed && matches!(last, b'?' | b'!')
 }
 
 fn is_value(before: Before) -> bool
@@ -331,6 +340,8 @@ fn last_of(previous: u8, byte: u8) -> u8
 {
     if byte == b'>' && previous == b'=' {
         b'='
+    } else if previous == b'@' {
+        b'@'
     } else {
         byte
     }

@@ -94,7 +94,8 @@ loop-name-preserved g c =
     let passes = c.loop-name.is_whole && c.in-Ok.has_info in
     let left = c.write_waiting-in-loop-name.new.waiting.items in (
       sent ++ written,
-      PrintsEach-written P (texts_of (take (n + 1) names)) passes sent c.put_file.new.waiting.items written left
+      PrintsEach-written P (texts_of (take (n + 1) names)) passes sent c.put_file.new.waiting.items written
+          left
           (subst (λ l. PrintsEach P l passes (sent ++ c.put_file.new.waiting.items))
           (sym (names_next names n _ c.loop-name-test.true))
           (PrintsEach-put P (texts_of (take n names)) _ c.loop-name.is_whole c.in-Ok.has_info sent

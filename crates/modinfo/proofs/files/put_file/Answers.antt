@@ -25,6 +25,7 @@ returns g c =
     (subst (λ text. parse_url None (file_text c.unwrap_or.result.now text) ≡ Ok url) c.in-Ok.ensures.0
     c.in_ok-specifier.ensures) in
     c.put_line.ensures (text_of c.args.folder) c.args.name.now
-    (found_info (text_of c.args.folder) c.args.name.now c.as_str.result.now url c.info_of_file-found.result is_url c.as_str.ensures.value
+    (found_info (text_of c.args.folder) c.args.name.now c.as_str.result.now url c.info_of_file-found.result
+    is_url c.as_str.ensures.value
     c.info_of_file-found.ensures)
     (inl (url, is_url, c.as_str.ensures.value))
