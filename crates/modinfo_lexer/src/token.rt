@@ -50,8 +50,6 @@ pub enum TokenKind {
     AndAnd,
     OrOr,
     QuestionQuestion,
-    /// `>` after which a JSX element has ended.
-    JsxEnd,
     JsxText,
     String,
     Number,

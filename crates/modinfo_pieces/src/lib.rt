@@ -1,5 +1,5 @@
 //! The pieces of a text, side by side: white space, comments, words, strings, parts of templates, regular
-//! expressions, text and strings of JSX, and single bytes of punctuation.
+//! expressions, text and strings of JSX, and single bytes of punctuation. And where its comments are filed.
 #![tactic(auto)]
 
 pub mod befores;

@@ -95,11 +95,6 @@ impl<'a> Lexer<'a> {
         }
     }
 
-    /// Marks the current token, a `>`, as the end of a JSX element.
-    pub fn end_jsx(&mut self) {
-        self.token.kind = TokenKind::JsxEnd;
-    }
-
     /// Goes on to the value of an attribute in JSX, in which a string has no escapes.
     pub fn next_jsx_value(&mut self) -> Result<(), ReadError> {
         match self.advance_to_jsx_value() {

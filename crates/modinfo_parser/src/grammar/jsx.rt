@@ -28,7 +28,6 @@ impl<'a> Parser<'a> {
         self.lexer.begin_jsx()?;
         self.next()?;
         self.jsx_element(depth - 1)?;
-        self.lexer.end_jsx();
         self.next()
     }
 
