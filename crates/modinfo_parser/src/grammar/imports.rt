@@ -224,6 +224,9 @@ impl<'a> Parser<'a> {
             self.expect(TokenKind::ParenClose, "expected `)` after the specifier")?;
             return Ok(Some(range));
         }
+        if !self.kind().is_identifier() {
+            return Err(self.error("expected a name after the `=`"));
+        }
         self.entity_name()?;
         Ok(None)
     }

@@ -38,6 +38,9 @@ impl<'a> Parser<'a> {
             return Err(self.too_deep());
         }
         let name = self.jsx_name()?;
+        if name.start == name.end && self.at(TokenKind::Slash) {
+            return Err(self.error("expected a name or `>` after the `<`"));
+        }
         if self.language.is_typescript
             && matches!(self.kind(), TokenKind::Less | TokenKind::ShiftLeft)
         {

@@ -116,6 +116,7 @@ impl<'a> Parser<'a> {
             | TokenKind::BraceClose
             | TokenKind::EndOfText => true,
             TokenKind::Star => !may_precede_star(word) || token.is_after_line_end,
+            TokenKind::At => token.is_after_line_end,
             _ => token.is_after_line_end && ends_with_line(word),
         }
     }
