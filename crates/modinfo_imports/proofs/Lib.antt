@@ -1,4 +1,3 @@
 pub mod ClaimedPieces
 pub mod Walks
 pub mod ClaimedNodes
-pub mod FirstLetters

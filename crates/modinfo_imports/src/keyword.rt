@@ -20,20 +20,8 @@ pub enum Keyword {
 
 /// Returns what a word is.
 #[inline(always)]
-#[tactic(auto, using(crate::proofs::FirstLetters::keyword_of_other))]
-pub fn keyword_of(word: &[u8]) -> Keyword
-    ensures { result ≡ keyword_of word.now }
-{
-    match byte_at(word, 0) {
-        b'e' | b'f' | b'i' | b'm' | b'n' | b'r' | b'\\' => keyword_among(word),
-        // Nearly every word.
-        _ => Keyword::Other,
-    }
-}
-
-/// Returns what a word is that may begin like one of these.
 #[tactic(auto, unfolding(crate::specs::Keywords::keyword_of))]
-fn keyword_among(word: &[u8]) -> Keyword
+pub fn keyword_of(word: &[u8]) -> Keyword
     ensures { result ≡ keyword_of word.now }
 {
     if may_be_require(word) {
