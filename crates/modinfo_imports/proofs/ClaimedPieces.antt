@@ -6,10 +6,10 @@ use Rattle.std.specs.List.{All, Contains}
 use Rattle.std.proofs.lemmas.Bool.{and_parts, eqb-true}
 use Rattle.std.proofs.lemmas.List.Elements.{Contains-append_left, Contains-get_or, Contains-push}
 use Rattle.modinfo_imports.specs.Claims.{claims_after, is_same, is_same_kind}
-use Rattle.modinfo_imports.specs.Duties.{met_by, sight_of}
+use Rattle.modinfo_imports.specs.Duties.{met_duty, sight_of}
 use Rattle.modinfo_pieces.specs.Places.{Place, context_of}
-use Rattle.modinfo_imports.specs.Watches.{IsWatchEnd, Watch, Watches, is_gap, watch_after, watch_met}
-use Rattle.modinfo_imports.specs.Watches.{watch_start}
+use Rattle.modinfo_imports.specs.Watches.{IsWatchEnd, Watch, Watches, is_gap, is_specifier, watch_after}
+use Rattle.modinfo_imports.specs.Watches.{watch_met, watch_start}
 use Rattle.modinfo_imports.specs.Watches.Watches.{more, none}
 use Rattle.modinfo_imports.specs.declared.duty.Duty.{Duty}
 use Rattle.modinfo_pieces.specs.declared.piece.Piece.{Piece}
@@ -63,9 +63,9 @@ after_claims : (text : List ℕ) (is_typed : Bool) (context : Context) (piece : 
     (watch after : Watch) → watch_after text is_typed context piece watch ≡ Some after
     → (watch.claims ≡ after.claims) ⊎ (claims_after piece watch.claims ≡ after.claims)
 after_claims text is_typed context piece watch after is =
-    let sight = sight_of text watch.claims piece piece.kind in
+    let sight = sight_of text piece piece.kind in
     step_claims (is_gap piece.kind)
-    (met_by watch.duty sight context.is_after_line_end is_typed) watch after
+    (met_duty (is_specifier piece watch.marks) watch.duty sight context.is_after_line_end is_typed) watch after
     (watch_met text is_typed context piece watch sight) (claims_after piece watch.claims) (λ duty. refl) is
 
 -- each claim is a piece, or is still one of the claims
@@ -86,19 +86,19 @@ met text is_typed from start pieces place watch (more {pieces = before} {place =
 no_claim : (claim : Piece) → Contains [] claim → ⊥
 no_claim claim at = omega arith
 
-claim_is_piece : (text : List ℕ) (is_typed : Bool) (from : Place) (claims calls pieces : List Piece)
+claim_is_piece : (text : List ℕ) (is_typed : Bool) (from : Place) (claims marks pieces : List Piece)
     (place : Place) (watch : Watch)
-    → Watches text is_typed from (watch_start claims calls) pieces place watch → IsWatchEnd watch
+    → Watches text is_typed from (watch_start claims marks) pieces place watch → IsWatchEnd watch
     → (claim : Piece) → Contains claims claim → Contains pieces claim
-claim_is_piece text is_typed from claims calls pieces place watch watched end claim at =
+claim_is_piece text is_typed from claims marks pieces place watch watched end claim at =
     ⊎_elim (λ inside. inside)
     (λ left. absurd (no_claim claim (subst (λ cs. Contains cs claim) end.claims left)))
-    (met text is_typed from (watch_start claims calls) pieces place watch watched claim at)
+    (met text is_typed from (watch_start claims marks) pieces place watch watched claim at)
 
 -- at the end of the text each claim is a piece
-pub claims-are_pieces : (text : List ℕ) (is_typed : Bool) (from : Place) (claims calls pieces : List Piece)
-    (place : Place) (watch : Watch) → Watches text is_typed from (watch_start claims calls) pieces place watch
+pub claims-are_pieces : (text : List ℕ) (is_typed : Bool) (from : Place) (claims marks pieces : List Piece)
+    (place : Place) (watch : Watch) → Watches text is_typed from (watch_start claims marks) pieces place watch
     → IsWatchEnd watch → All (Contains pieces) claims
-claims-are_pieces text is_typed from claims calls pieces place watch watched end k d below =
-    claim_is_piece text is_typed from claims calls pieces place watch watched end (get_or claims k d)
+claims-are_pieces text is_typed from claims marks pieces place watch watched end k d below =
+    claim_is_piece text is_typed from claims marks pieces place watch watched end (get_or claims k d)
     (Contains-get_or claims k d below)

@@ -16,21 +16,21 @@ use Rattle.modinfo_imports.proofs.ClaimedPieces.{claims-are_pieces}
 
 -- Pieces from the start lead to a place, a watch goes over them, and their comments are filed as far as can
 -- be.
-pub record IsWalked (text : List ℕ) (is_typed : Bool) (choices : List Choice) (claims calls : List Piece)
+pub record IsWalked (text : List ℕ) (is_typed : Bool) (choices : List Choice) (claims marks : List Piece)
     (place : Place) (watch : Watch) (so_far : SoFar) : Type 0 where
   pub pieces : List Piece
   pub leads : Leads text (start choices) pieces place
-  pub watches : Watches text is_typed (start choices) (watch_start claims calls) pieces place watch
+  pub watches : Watches text is_typed (start choices) (watch_start claims marks) pieces place watch
   pub are_filed : AreFiledTo text choices pieces place so_far
 
-pub IsWalked-more : (text : List ℕ) (is_typed : Bool) (choices : List Choice) (claims calls : List Piece)
+pub IsWalked-more : (text : List ℕ) (is_typed : Bool) (choices : List Choice) (claims marks : List Piece)
     (place next : Place) (context : Context) (watch after : Watch) (so_far new : SoFar) (piece : Piece)
-    → IsWalked text is_typed choices claims calls place watch so_far
+    → IsWalked text is_typed choices claims marks place watch so_far
     → IsNext text place piece next → context ≡ context_of place
     → watch_after text is_typed context piece watch ≡ Some after
     → new ≡ so_far_after text context piece piece.kind so_far
-    → IsWalked text is_typed choices claims calls next after new
-IsWalked-more text is_typed choices claims calls place next context watch after so_far new piece walked step
+    → IsWalked text is_typed choices claims marks next after new
+IsWalked-more text is_typed choices claims marks place next context watch after so_far new piece walked step
     is seen becomes = record {
       pieces = walked.pieces ++ piece ∷ [];
       leads = more walked.leads step;
@@ -40,11 +40,11 @@ IsWalked-more text is_typed choices claims calls place next context watch after 
           walked.are_filed step is becomes;
     }
 
-pub HasFound-walked : (text : List ℕ) (is_typed : Bool) (choices : List Choice) (claims calls : List Piece)
+pub HasFound-walked : (text : List ℕ) (is_typed : Bool) (choices : List Choice) (claims marks : List Piece)
     (place : Place) (watch : Watch) (so_far : SoFar) (comments : List FiledComment)
-    → IsWalked text is_typed choices claims calls place watch so_far → IsEnd text place → IsWatchEnd watch
-    → comments ≡ filed_by text so_far [] → HasFound text is_typed choices claims calls comments
-HasFound-walked text is_typed choices claims calls place watch so_far comments walked end watch_end
+    → IsWalked text is_typed choices claims marks place watch so_far → IsEnd text place → IsWatchEnd watch
+    → comments ≡ filed_by text so_far [] → HasFound text is_typed choices claims marks comments
+HasFound-walked text is_typed choices claims marks place watch so_far comments walked end watch_end
     are = record {
       pieces = walked.pieces;
       are_tiles = record { end = place; leads = walked.leads; is_end = end };
@@ -54,24 +54,24 @@ HasFound-walked text is_typed choices claims calls place watch so_far comments w
         watches = walked.watches;
         is_watch_end = watch_end;
       };
-      are_pieces = claims-are_pieces text is_typed (start choices) claims calls walked.pieces place watch
+      are_pieces = claims-are_pieces text is_typed (start choices) claims marks walked.pieces place watch
           walked.watches
           watch_end;
       comments_are = are ∙ AreFiledTo-all text choices walked.pieces place so_far walked.are_filed;
     }
 
 -- No piece leads from the start to the start.
-pub IsWalked-none : (text : List ℕ) (is_typed : Bool) (choices : List Choice) (claims calls : List Piece)
+pub IsWalked-none : (text : List ℕ) (is_typed : Bool) (choices : List Choice) (claims marks : List Piece)
     (place : Place) (watch : Watch) (so_far : SoFar) → place ≡ start choices
-    → watch ≡ watch_start claims calls
+    → watch ≡ watch_start claims marks
     → so_far ≡ record { filed = []; waiting = []; newest = None; token = None }
-    → IsWalked text is_typed choices claims calls place watch so_far
-IsWalked-none text is_typed choices claims calls place watch so_far is is_watch nothing = record {
+    → IsWalked text is_typed choices claims marks place watch so_far
+IsWalked-none text is_typed choices claims marks place watch so_far is is_watch nothing = record {
   pieces = [];
   leads = subst (λ (p : Place). Leads text (start choices) [] p) (sym is) none;
-  watches = subst (λ (p : Place). Watches text is_typed (start choices) (watch_start claims calls) [] p watch)
+  watches = subst (λ (p : Place). Watches text is_typed (start choices) (watch_start claims marks) [] p watch)
       (sym is)
-      (subst (λ (w : Watch). Watches text is_typed (start choices) (watch_start claims calls) [] (start
+      (subst (λ (w : Watch). Watches text is_typed (start choices) (watch_start claims marks) [] (start
       choices) w)
       (sym is_watch) watch_none);
   are_filed = AreFiledTo-none text choices place so_far is nothing;

@@ -29,11 +29,11 @@ name_of word =
     else (if is_among operators word then names.Operator else names.Other))))
 
 -- A token, as far as duties tell tokens apart.
-unfoldable pub sight_of : List ℕ → List Piece → Piece → PieceKind → Sight
-sight_of text claims piece kinds.Word = Word (name_of (slice_range text piece.start piece.end))
-sight_of text claims piece kinds.String = String (is_claimed piece claims)
-sight_of text claims piece kinds.Punctuation = Byte (slice_index text piece.start)
-sight_of text claims piece _ = Other
+unfoldable pub sight_of : List ℕ → Piece → PieceKind → Sight
+sight_of text piece kinds.Word = Word (name_of (slice_range text piece.start piece.end))
+sight_of text piece kinds.String = String
+sight_of text piece kinds.Punctuation = Byte (slice_index text piece.start)
+sight_of text piece _ = Other
 
 -- A byte is one of these.
 abbrev pub is_one_of : List ℕ → ℕ → Bool
@@ -47,7 +47,7 @@ is_byte bytes sight = false
 -- A name: a word, or a string as in `{ "a" as b }`.
 abbrev pub is_name : Sight → Bool
 is_name (Word name) = true
-is_name (String claimed) = true
+is_name String = true
 is_name sight = false
 
 -- This duty, if a token is right.
@@ -92,14 +92,15 @@ after_require may_be_method after is_typed byte =
 -- * `require <`: in TypeScript names and literals between `,`, `|` or `&` are types, after which `(` begins
 --   a call: `require<A | "b">("c")`. Other types need their grammar: `require < f(x) > (c)` is a
 --   comparison, `require<(x) => y>(c)` a call.
--- * `import` at which a node begins: the names and the `=` of `import type a = require("a")`.
+-- * `import` at which a node begins: names up to the specifier, which follows `from` or the `import`, as in
+--   `import a, { "b" as c } from "d"`, `import "a"`; or up to the `=` of `import type a = require("a")`.
 -- * `new`, `function`: `function *require() {}`.
 -- * `export`: `export type { a } from "a"`, `export { a } from "a"`, `export * from "a"`,
 --   `export * as a from "a"`. After `from` comes a specifier of the tree.
 -- * `module`: a string on its line is a specifier of the tree.
 unfoldable pub met_by : Duty → Sight → Bool → Bool → Option Duty
 met_by (duties.Import true _) (Word name) true _ = Some duties.Nothing
-met_by (duties.Import true _) (String claimed) true _ = Some duties.Nothing
+met_by (duties.Import true _) String true _ = Some duties.Nothing
 met_by (duties.Import _ _) (Word names.As) _ _ = Some duties.As
 met_by (duties.Import in_braces method) (Byte byte) after _ = after_import method (in_braces && after) byte
 met_by (duties.Import _ _) _ _ _ = None
@@ -116,8 +117,11 @@ met_by duties.TypeEnd sight _ _ =
     Some (if is_byte (codes ",|&") sight then duties.TypeName
     else (if is_byte (codes ">") sight then duties.NoParenthesis else duties.Nothing))
 met_by duties.NoParenthesis sight after _ = only (after || not (is_byte (codes "(") sight)) duties.Nothing
-met_by duties.Alias (Word name) _ _ = Some duties.Alias
-met_by duties.Alias sight _ _ = Some (if is_byte (codes "=") sight then duties.NoCall else duties.Nothing)
+met_by (duties.Names true) String _ _ = None
+met_by (duties.Names _) (Word names.From) _ _ = Some (duties.Names true)
+met_by (duties.Names _) sight _ _ =
+    Some (if is_name sight || is_byte (codes "{,}*") sight then duties.Names false
+    else (if is_byte (codes "=") sight then duties.NoCall else duties.Nothing))
 met_by duties.NoCall sight _ _ = Some (if is_byte (codes "*") sight then duties.NoCall else duties.Nothing)
 met_by (duties.Export true _) (Word name) true _ = Some duties.Nothing
 met_by (duties.Export _ claimed) (Word names.Type) _ _ = Some (duties.Export false claimed)
@@ -130,7 +134,19 @@ met_by duties.ExportStar (Word names.As) _ _ = Some duties.ExportAs
 met_by duties.ExportStar _ _ _ = None
 met_by duties.ExportAs sight _ _ = only (is_name sight) duties.ExportEnd
 met_by duties.ExportEnd (Word names.From) _ _ = Some duties.From
-met_by duties.From (String true) _ _ = Some duties.Nothing
 met_by duties.From _ _ _ = None
-met_by duties.Module (String false) false _ = None
+met_by duties.Module String false _ = None
 met_by _ _ _ _ = Some duties.Nothing
+
+-- A specifier of the tree is right after `import`, after the `from` of a declaration, or after `module`, and
+-- nowhere else.
+abbrev pub takes_specifier : Duty → Bool
+takes_specifier (duties.Names true) = true
+takes_specifier duties.From = true
+takes_specifier duties.Module = true
+takes_specifier duty = false
+
+-- The duty after a token that is a specifier of the tree, or another.
+unfoldable pub met_duty : Bool → Duty → Sight → Bool → Bool → Option Duty
+met_duty true duty sight after is_typed = only (takes_specifier duty) duties.Nothing
+met_duty false duty sight after is_typed = met_by duty sight after is_typed

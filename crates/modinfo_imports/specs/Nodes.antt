@@ -107,13 +107,23 @@ call_words text range (callee ∷ _) (kinds.Call callees.Expr _) =
     call_word text (record { start = range.start; end = (range_of callee).end }) (kind_of callee)
 call_words text range children _ = None
 
-abbrev pub calls_of : List ℕ → Node → List Piece
-calls_of text node = option_to_list (call_words text (range_of node) (children_of node) (kind_of node))
+-- The specifier of a declaration: the string of `import a from "a"`, `export * from "a"`,
+-- `declare module "a" {}`.
+abbrev pub specifier_of : Kind → Option StrLit
+specifier_of (kinds.ImportEquals _ _ _) = None
+specifier_of (kinds.ImportType _ _) = None
+specifier_of kind = literal_of kind
+
+-- The marks of a node: its pieces that may stand in few places alone.
+abbrev pub marks_of : List ℕ → Node → List Piece
+marks_of text node =
+    option_to_list (call_words text (range_of node) (children_of node) (kind_of node))
+    ++ option_to_list (option_map (literal_claim (range_of node)) (specifier_of (kind_of node)))
 
 -- The claims of a tree are those of its nodes, in the order of the text.
 abbrev pub AreClaims : List ℕ → Program → List Piece → Type 0
 AreClaims text program claims = IsPermutation (flat_map (claims_of text) (nodes_of program)) claims
 
--- The calls of a tree, likewise.
-abbrev pub AreCalls : List ℕ → Program → List Piece → Type 0
-AreCalls text program calls = IsPermutation (flat_map (calls_of text) (nodes_of program)) calls
+-- The marks of a tree, likewise.
+abbrev pub AreMarks : List ℕ → Program → List Piece → Type 0
+AreMarks text program marks = IsPermutation (flat_map (marks_of text) (nodes_of program)) marks

@@ -12,5 +12,5 @@ watch_of seen parentheses =
       parentheses = parentheses;
       last = seen.last;
       claims = seen.claims.now;
-      calls = seen.calls.now;
+      marks = seen.marks.now;
     }

@@ -4,7 +4,7 @@ use Rattle.std.specs.Prelude.{◌≡◌, ℕ, ◌-◌, ◌==◌, Bool, true, fal
 use Rattle.std.specs.Prelude.{Option, Some, codes, drop, if◌then◌else◌, is_some, option_map, slice_index}
 use Rattle.std.specs.Prelude.{slice_range}
 use Rattle.modinfo_imports.specs.Claims.{claims_after, is_claimed}
-use Rattle.modinfo_imports.specs.Duties.{is_byte, is_one_of, met_by, sight_of}
+use Rattle.modinfo_imports.specs.Duties.{is_byte, is_one_of, met_by, met_duty, sight_of}
 use Rattle.modinfo_imports.specs.Keywords.{keyword_of}
 use Rattle.modinfo_pieces.specs.Openings.{is_brace}
 use Rattle.modinfo_pieces.specs.Places.{IsNext, Place, context_of}
@@ -18,7 +18,8 @@ use Rattle.modinfo_imports.specs.declared.keyword.Keyword.{Keyword}
 use Rattle.modinfo_imports.specs.declared.keyword.Keyword.TheVariants as keywords
 use Rattle.modinfo_pieces.specs.declared.piece.Piece.{Piece}
 use Rattle.modinfo_pieces.specs.declared.piece.PieceKind.{PieceKind}
-use Rattle.modinfo_pieces.specs.declared.piece.PieceKind.TheVariants.{Hashbang, HtmlComment, Space, Word}
+use Rattle.modinfo_pieces.specs.declared.piece.PieceKind.TheVariants.{Hashbang, HtmlComment, Space, String}
+use Rattle.modinfo_pieces.specs.declared.piece.PieceKind.TheVariants.{Word}
 use Rattle.modinfo_pieces.specs.declared.place.Before.{Before}
 use Rattle.modinfo_pieces.specs.declared.place.Before.TheVariants.{Dot, DotDot, Value}
 use Rattle.modinfo_pieces.specs.declared.place.Context.{Context}
@@ -26,19 +27,19 @@ use Rattle.modinfo_pieces.specs.declared.place.Opening.{Opening}
 use Rattle.modinfo_pieces.specs.declared.place.Opening.TheVariants.{ClosingTag, Tag}
 
 -- What is known of the tokens before a place: what the next one must be, what was asked after each open
--- parenthesis, innermost first, the last token's first byte, and the claims and the words of calls that
--- weren't met yet.
+-- parenthesis, innermost first, the last token's first byte, and the claims and the marks that weren't met
+-- yet.
 pub record Watch : Type 0 where
   pub duty : Duty
   pub parentheses : List Duty
   pub last : ℕ
   pub claims : List Piece
-  pub calls : List Piece
+  pub marks : List Piece
 
 -- At the start of a text.
 abbrev pub watch_start : List Piece → List Piece → Watch
-watch_start claims calls =
-    record { duty = duties.Nothing; parentheses = []; last = 0; claims = claims; calls = calls }
+watch_start claims marks =
+    record { duty = duties.Nothing; parentheses = []; last = 0; claims = claims; marks = marks }
 
 -- White space, a comment or the `#!` line is no token.
 abbrev pub is_gap : PieceKind → Bool
@@ -98,17 +99,17 @@ abbrev pub is_listed : Duty → Bool
 is_listed duties.AsName = true
 is_listed duties.ExportNames = true
 is_listed duties.ExportEnd = true
-is_listed duties.Alias = true
+is_listed (duties.Names _) = true
 is_listed _ = false
 
--- The duty after a word: whether the word is the first of the claims, of the calls, is in braces, and may
+-- The duty after a word: whether the word is the first of the claims, of the marks, is in braces, and may
 -- name a method, the duty before, and the duty that the word has met. The `import` of
 -- `export import a = B.C` is that of a node. A name isn't called in `new require("a")`,
 -- `function require() {}`, `import a = require("a")`.
 unfoldable pub duty_after_word : Keyword → Bool → Bool → Bool → Bool → Duty → Duty → Duty
-duty_after_word keywords.Import true _ _ _ _ _ = duties.Alias
-duty_after_word keywords.Import _ _ _ _ duties.Claimed _ = duties.Alias
-duty_after_word keywords.Import _ _ _ _ (duties.Export _ true) _ = duties.Alias
+duty_after_word keywords.Import true _ _ _ _ _ = duties.Names true
+duty_after_word keywords.Import _ _ _ _ duties.Claimed _ = duties.Names true
+duty_after_word keywords.Import _ _ _ _ (duties.Export _ true) _ = duties.Names true
 duty_after_word keywords.Import _ _ in_braces method _ _ = duties.Import in_braces (in_braces && method)
 duty_after_word keywords.Require _ true _ _ _ met = met
 duty_after_word keywords.Require _ _ _ _ duties.NoCall met = met
@@ -129,7 +130,7 @@ unfoldable pub duty_after : List ℕ → Bool → Context → Piece → PieceKin
 duty_after text is_typed context piece Word watch sight met =
     (if is_listed met then met
     else duty_after_word (keyword_at text context piece watch.last) (is_claimed piece watch.claims)
-    (is_claimed piece watch.calls) (is_brace context.inside) (may_be_method is_typed context watch.last)
+    (is_claimed piece watch.marks) (is_brace context.inside) (may_be_method is_typed context watch.last)
     watch.duty met)
 duty_after text is_typed context piece kind watch sight met =
     (if is_byte (codes ")") sight && is_method watch.parentheses then duties.Parameters else met)
@@ -152,16 +153,24 @@ watch_met text is_typed context piece watch sight met = record {
   parentheses = parentheses_after sight met watch.parentheses;
   last = last_of (slice_index text (piece.start - 1)) (slice_index text piece.start);
   claims = claims_after piece watch.claims;
-  calls = claims_after piece watch.calls;
+  marks = claims_after piece watch.marks;
 }
+
+abbrev pub is_string : PieceKind → Bool
+is_string String = true
+is_string kind = false
+
+-- A token is the first of the marks, and a string: a specifier.
+abbrev pub is_specifier : Piece → List Piece → Bool
+is_specifier piece marks = is_string piece.kind && is_claimed piece marks
 
 -- The watch after a piece, if the piece meets the duty.
 abbrev pub watch_after : List ℕ → Bool → Context → Piece → Watch → Option Watch
 watch_after text is_typed context piece watch =
-    let sight = sight_of text watch.claims piece piece.kind in
+    let sight = sight_of text piece piece.kind in
     (if is_gap piece.kind then Some watch
     else option_map (watch_met text is_typed context piece watch sight)
-    (met_by watch.duty sight context.is_after_line_end is_typed))
+    (met_duty (is_specifier piece watch.marks) watch.duty sight context.is_after_line_end is_typed))
 
 -- Pieces lead from one place to another, and a watch goes over them.
 pub data Watches (text : List ℕ) (is_typed : Bool) (from : Place) (watch : Watch)
@@ -176,4 +185,5 @@ pub data Watches (text : List ℕ) (is_typed : Bool) (from : Place) (watch : Wat
 -- token.
 pub record IsWatchEnd (watch : Watch) : Type 0 where
   pub claims : watch.claims ≡ []
+  pub marks : watch.marks ≡ []
   pub duty : is_some (met_by watch.duty Other false false) ≡ true

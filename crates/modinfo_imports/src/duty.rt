@@ -2,7 +2,6 @@
 
 ghost use Rattle.std.specs.Prelude.{◌≡◌, ◌∷◌, ◌<◌, ◌≤◌, Bool, OnOk, drop, length};
 ghost use Rattle.modinfo_imports.specs.declared.duty.Duty.TheVariants.{
-  Alias,
   Export,
   ExportEnd,
   ExportNames,
@@ -10,6 +9,7 @@ ghost use Rattle.modinfo_imports.specs.declared.duty.Duty.TheVariants.{
   From,
   Import,
   Module,
+  Names,
   NoCall,
   NoParenthesis,
   Parameters,
@@ -27,13 +27,14 @@ ghost use Rattle.modinfo_imports.specs.Duties.{
   is_name,
   is_one_of,
   met_by,
+  met_duty,
   name_of,
   only,
   operators,
   sight_of,
+  takes_specifier,
 };
 
-use crate::claims::is_claimed;
 use modinfo_pieces::befores::bytes_of;
 use modinfo_pieces::bytes::byte_at;
 use modinfo_pieces::piece::{Piece, PieceKind};
@@ -73,8 +74,11 @@ pub enum Duty {
     TypeEnd,
     /// Anything but the `(` of a call, after `require <type>`.
     NoParenthesis,
-    /// Anything, after a word `import` at which a node begins: it may be the name of an alias.
-    Alias,
+    /// A name or a specifier, after a word `import` at which a node begins.
+    Names {
+        /// Whether a string is the specifier.
+        is_before_specifier: bool,
+    },
     /// Anything, after `new`, `function` or the `=` of an alias: a name isn't called.
     NoCall,
     /// What follows a word `export`.
@@ -102,10 +106,7 @@ pub enum Duty {
 #[derive(Clone, Copy)]
 pub enum Sight {
     Word(Name),
-    String {
-        /// Whether the tree has the string.
-        is_claimed: bool,
-    },
+    String,
     /// A byte of punctuation.
     Byte(u8),
     Other,
@@ -179,15 +180,13 @@ impl Parentheses {
 /// Returns a token as far as duties tell tokens apart.
 #[inline(always)]
 #[tactic(auto, unfolding(crate::specs::Duties::sight_of))]
-pub fn sight_of(text: &[u8], claims: &[Piece], piece: Piece) -> Sight
+pub fn sight_of(text: &[u8], piece: Piece) -> Sight
     ensures { piece.start < piece.end → piece.end ≤ length text.now
-        → result ≡ sight_of text.now claims.now piece piece.kind }
+        → result ≡ sight_of text.now piece piece.kind }
 {
     match piece.kind {
         PieceKind::Word => Sight::Word(name_of(bytes_of(text, piece))),
-        PieceKind::String => Sight::String {
-            is_claimed: is_claimed(piece, claims),
-        },
+        PieceKind::String => Sight::String,
         PieceKind::Punctuation => Sight::Byte(byte_at(text, piece.start)),
         _ => Sight::Other,
     }
@@ -243,7 +242,9 @@ pub fn met_by(duty: Duty, sight: Sight, is_after_line_end: bool, is_typed: bool)
         Duty::TypeName => met_type(sight),
         Duty::TypeEnd => met_type_end(sight),
         Duty::NoParenthesis => met_no_parenthesis(sight, is_after_line_end),
-        Duty::Alias => met_alias(sight),
+        Duty::Names {
+            is_before_specifier,
+        } => met_names(is_before_specifier, sight),
         Duty::NoCall => met_no_call(sight),
         Duty::Export {
             may_be_member,
@@ -253,7 +254,7 @@ pub fn met_by(duty: Duty, sight: Sight, is_after_line_end: bool, is_typed: bool)
         Duty::ExportStar => met_export_star(sight),
         Duty::ExportAs => only(is_name(sight), Duty::ExportEnd),
         Duty::ExportEnd => met_export_end(sight),
-        Duty::From => met_from(sight),
+        Duty::From => None,
         Duty::Module => met_module(sight, is_after_line_end),
     }
 }
@@ -287,7 +288,7 @@ fn is_name(sight: Sight) -> bool
     ensures { result ≡ is_name sight }
 {
     match sight {
-        Sight::Word(_) | Sight::String { .. } => true,
+        Sight::Word(_) | Sight::String => true,
         _ => false,
     }
 }
@@ -303,9 +304,7 @@ fn met_import(
     ensures { (is_typed : Bool) → result ≡ met_by (Import in_braces may_be_method) sight is_after_line_end is_typed }
 {
     match sight {
-        Sight::Word(_) | Sight::String { .. } if in_braces && is_after_line_end => Some(
-            Duty::Nothing,
-        ),
+        Sight::Word(_) | Sight::String if in_braces && is_after_line_end => Some(Duty::Nothing),
         Sight::Word(Name::As) => Some(Duty::As),
         Sight::Byte(byte) => after_import(may_be_method, in_braces && is_after_line_end, byte),
         _ => None,
@@ -422,13 +421,54 @@ fn met_no_parenthesis(sight: Sight, is_after_line_end: bool) -> Option<Duty>
 
 /// Returns what the next token must be after a word `import`, at which a node begins, and a token.
 #[tactic(auto, unfolding(crate::specs::Duties::met_by))]
-fn met_alias(sight: Sight) -> Option<Duty>
-    ensures { (is_after is_typed : Bool) → result ≡ met_by Alias sight is_after is_typed }
+fn met_names(is_before_specifier: bool, sight: Sight) -> Option<Duty>
+    ensures { (is_after is_typed : Bool)
+        → result ≡ met_by (Names is_before_specifier) sight is_after is_typed }
 {
     match sight {
-        Sight::Word(_) => Some(Duty::Alias),
-        Sight::Byte(b'=') => Some(Duty::NoCall),
+        Sight::String if is_before_specifier => None,
+        Sight::Word(Name::From) => Some(Duty::Names {
+            is_before_specifier: true,
+        }),
+        _ if is_name(sight) || is_byte(b"{,}*", sight) => Some(Duty::Names {
+            is_before_specifier: false,
+        }),
+        _ if is_byte(b"=", sight) => Some(Duty::NoCall),
         _ => Some(Duty::Nothing),
+    }
+}
+
+/// Returns what the next token must be after a token that is a specifier of the tree, or another; or `None` if
+/// the token doesn't meet a duty.
+#[inline(always)]
+#[tactic(auto, unfolding(crate::specs::Duties::met_duty))]
+pub fn met_duty(
+    is_specifier: bool,
+    duty: Duty,
+    sight: Sight,
+    is_after_line_end: bool,
+    is_typed: bool,
+) -> Option<Duty>
+    ensures { result ≡ met_duty is_specifier duty sight is_after_line_end is_typed }
+{
+    if is_specifier {
+        only(takes_specifier(duty), Duty::Nothing)
+    } else {
+        met_by(duty, sight, is_after_line_end, is_typed)
+    }
+}
+
+/// Returns whether a specifier of the tree meets a duty.
+fn takes_specifier(duty: Duty) -> bool
+    ensures { result ≡ takes_specifier duty }
+{
+    match duty {
+        Duty::Names {
+            is_before_specifier: true,
+        }
+        | Duty::From
+        | Duty::Module => true,
+        _ => false,
     }
 }
 
@@ -514,24 +554,13 @@ fn met_export_end(sight: Sight) -> Option<Duty>
     }
 }
 
-/// Returns what the next token must be after the `from` of an export and a token.
-#[tactic(auto, unfolding(crate::specs::Duties::met_by))]
-fn met_from(sight: Sight) -> Option<Duty>
-    ensures { (is_after is_typed : Bool) → result ≡ met_by From sight is_after is_typed }
-{
-    match sight {
-        Sight::String { is_claimed: true } => Some(Duty::Nothing),
-        _ => None,
-    }
-}
-
 /// Returns what the next token must be after `module` and a token.
 #[tactic(auto, unfolding(crate::specs::Duties::met_by))]
 fn met_module(sight: Sight, is_after_line_end: bool) -> Option<Duty>
     ensures { (is_typed : Bool) → result ≡ met_by Module sight is_after_line_end is_typed }
 {
     match sight {
-        Sight::String { is_claimed: false } if !is_after_line_end => None,
+        Sight::String if !is_after_line_end => None,
         _ => Some(Duty::Nothing),
     }
 }

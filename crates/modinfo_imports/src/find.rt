@@ -26,16 +26,16 @@ pub fn find(
     is_typed: bool,
     choices: &[Choice],
     claims: &[Piece],
-    calls: &[Piece],
+    marks: &[Piece],
 ) -> Result<Result<Vec<FiledComment>, usize>, AllocError>
     ensures { IfOk result (λ found. IfOk found (λ comments.
-        HasFound text.now is_typed choices.now claims.now calls.now comments.items)) }
+        HasFound text.now is_typed choices.now claims.now marks.now comments.items)) }
 {
     let mut around = Openings::new(alloc);
     let mut parentheses = Parentheses::new(alloc);
     let mut filing = Filing::new(alloc);
     let mut spot = start(choices);
-    let mut seen = watch_start(claims, calls);
+    let mut seen = watch_start(claims, marks);
     'pieces: while spot.at < text.len() {
         let context = context_of(spot, &around);
         let Some(step) = next_piece(text, spot, &mut around)? else {

@@ -6,13 +6,13 @@ ghost use Rattle.std.specs.List.{flat_map};
 ghost use Rattle.std.specs.Option.{option_to_list};
 ghost use Rattle.deno_graph_source.specs.Node.{children_of, kind_of, literal_of, nodes_in, range_of};
 ghost use Rattle.modinfo_imports.specs.Nodes.{
-  AreCalls,
+  AreMarks,
   AreClaims,
   begin_claim,
   bytes_at,
   call_word,
   call_words,
-  calls_of,
+  marks_of,
   claims_of,
   export_claim,
   literal_claim,
@@ -20,6 +20,7 @@ ghost use Rattle.modinfo_imports.specs.Nodes.{
   name_claim,
   no_piece,
   piece_at,
+  specifier_of,
   value_claim,
   word_claim,
 };
@@ -236,48 +237,60 @@ fn bytes_at(text: &[u8], range: SourceRange) -> &[u8]
     }
 }
 
-/// Returns the words of a program's calls that may be `require`, in the order of the text.
+/// Returns the marks of a program, in the order of the text: the words of its calls that may be `require`, and the
+/// specifiers of its declarations.
 #[tactic(auto, unfolding(deno_graph_source::specs::Node::nodes_of))]
-pub fn calls_of(alloc: Global, text: &[u8], program: &Program) -> Result<Vec<Piece>, AllocError>
-    ensures { IfOk result (λ calls. AreCalls text.now program.now calls.items) }
+pub fn marks_of(alloc: Global, text: &[u8], program: &Program) -> Result<Vec<Piece>, AllocError>
+    ensures { IfOk result (λ marks. AreMarks text.now program.now marks.items) }
 {
-    let mut calls = Vec::new(alloc);
-    add_calls(text, program.body.as_slice(), &mut calls)?;
-    calls.sort_by_key(|call| call.start)?;
-    Ok(calls)
+    let mut marks = Vec::new(alloc);
+    add_marks(text, program.body.as_slice(), &mut marks)?;
+    marks.sort_by_key(|mark| mark.start)?;
+    Ok(marks)
 }
 
-/// Adds the words of calls of nodes, and of all nodes below them.
-fn add_calls(text: &[u8], nodes: &[Node], calls: &mut Vec<Piece>) -> Result<(), AllocError>
-    ensures { OnOk result (calls.new.items
-        ≡ calls.old.items ++ flat_map (calls_of text.now) (flat_map nodes_in nodes.now)) }
+/// Adds the marks of nodes, and of all nodes below them.
+fn add_marks(text: &[u8], nodes: &[Node], marks: &mut Vec<Piece>) -> Result<(), AllocError>
+    ensures { OnOk result (marks.new.items
+        ≡ marks.old.items ++ flat_map (marks_of text.now) (flat_map nodes_in nodes.now)) }
 {
     for node in nodes {
-        add_calls_below(text, node, calls)?;
+        add_marks_below(text, node, marks)?;
     }
     Ok(())
 }
 
-/// Adds the words of calls of a node, and of all nodes below it.
-fn add_calls_below(text: &[u8], node: &Node, calls: &mut Vec<Piece>) -> Result<(), AllocError>
-    ensures { OnOk result (calls.new.items
-        ≡ calls.old.items ++ flat_map (calls_of text.now) (nodes_in node.now)) }
+/// Adds the marks of a node, and of all nodes below it.
+fn add_marks_below(text: &[u8], node: &Node, marks: &mut Vec<Piece>) -> Result<(), AllocError>
+    ensures { OnOk result (marks.new.items
+        ≡ marks.old.items ++ flat_map (marks_of text.now) (nodes_in node.now)) }
 {
-    add_call(text, node, calls)?;
+    add_mark(text, node, marks)?;
     for child in node.children.as_slice() {
-        add_calls_below(text, child, calls)?;
+        add_marks_below(text, child, marks)?;
     }
     Ok(())
 }
 
-/// Adds the word of a call, if a node is one.
-fn add_call(text: &[u8], node: &Node, calls: &mut Vec<Piece>) -> Result<(), AllocError>
-    ensures { OnOk result (calls.new.items ≡ calls.old.items ++ calls_of text.now node.now) }
+/// Adds the marks of a node.
+fn add_mark(text: &[u8], node: &Node, marks: &mut Vec<Piece>) -> Result<(), AllocError>
+    ensures { OnOk result (marks.new.items ≡ marks.old.items ++ marks_of text.now node.now) }
 {
     claim(
         call_words(text, node.range, node.children.as_slice(), &node.kind),
-        calls,
-    )
+        marks,
+    )?;
+    claim(specifier_mark(node.range, &node.kind), marks)
+}
+
+/// Returns the specifier of a declaration, if a node of a kind is one that has it.
+fn specifier_mark(range: SourceRange, kind: &Kind) -> Option<Piece>
+    ensures { result ≡ option_map (literal_claim range) (specifier_of kind.now) }
+{
+    match kind {
+        Kind::ImportEquals { .. } | Kind::ImportType { .. } => None,
+        _ => literal_of(range, kind),
+    }
 }
 
 /// Returns the word of a call, if a node of a kind is one.

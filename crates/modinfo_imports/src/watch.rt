@@ -1,7 +1,7 @@
 //! A watch over the tokens of a text, so that no word that a dependency begins with is lost.
 
 ghost use Rattle.std.specs.Prelude.{[], ◌≡◌, ◌<◌, ◌≤◌, ◌&&◌, IfOk, IfSome, OnOk, codes, length, IsTrue, slice_index, ◌-◌};
-ghost use Rattle.modinfo_imports.specs.Duties.{is_byte, met_by, sight_of};
+ghost use Rattle.modinfo_imports.specs.Duties.{is_byte, met_by, met_duty, sight_of};
 ghost use Rattle.modinfo_pieces.specs.Openings.{is_brace};
 ghost use Rattle.modinfo_imports.specs.Sights.{watch_of};
 ghost use Rattle.modinfo_imports.specs.Watches.{
@@ -14,6 +14,7 @@ ghost use Rattle.modinfo_imports.specs.Watches.{
   is_member,
   is_method,
   is_name,
+  is_specifier,
   is_value,
   keyword_at,
   last_of,
@@ -25,7 +26,7 @@ ghost use Rattle.modinfo_imports.specs.Watches.{
 };
 
 use crate::claims::{claims_after, is_claimed};
-use crate::duty::{Duty, Parentheses, Sight, met_by, sight_of};
+use crate::duty::{Duty, Parentheses, Sight, met_by, met_duty, sight_of};
 use crate::keyword::{Keyword, keyword_of};
 use modinfo_pieces::befores::bytes_of;
 use modinfo_pieces::bytes::byte_at;
@@ -43,19 +44,19 @@ pub struct Seen<'a> {
     pub last: u8,
     /// The claims that weren't met yet.
     pub claims: &'a [Piece],
-    /// The words of calls that weren't met yet.
-    pub calls: &'a [Piece],
+    /// The marks that weren't met yet.
+    pub marks: &'a [Piece],
 }
 
 /// Returns the watch at the start of a text.
-pub fn watch_start<'a>(claims: &'a [Piece], calls: &'a [Piece]) -> Seen<'a>
-    ensures { watch_of result [] ≡ watch_start claims.now calls.now }
+pub fn watch_start<'a>(claims: &'a [Piece], marks: &'a [Piece]) -> Seen<'a>
+    ensures { watch_of result [] ≡ watch_start claims.now marks.now }
 {
     Seen {
         duty: Duty::Nothing,
         last: 0,
         claims,
-        calls,
+        marks,
     }
 }
 
@@ -87,15 +88,15 @@ pub fn watch_piece<'a>(
             byte_at(text, piece.start),
         ),
         claims: claims_after(piece, seen.claims),
-        calls: claims_after(piece, seen.calls),
+        marks: claims_after(piece, seen.marks),
     };
-    change(text, seen.claims, piece, met, parentheses)?;
+    change(text, piece, met, parentheses)?;
     Ok(Some(after))
 }
 
 /// Returns what the next token must be after a token that meets a duty, or `None` if the token doesn't.
 #[inline(always)]
-#[tactic(auto, unfolding(crate::specs::Duties::met_by))]
+#[tactic(auto, unfolding(crate::specs::Duties::met_by, crate::specs::Duties::met_duty))]
 fn met_at(
     text: &[u8],
     is_typed: bool,
@@ -104,18 +105,31 @@ fn met_at(
     seen: Seen<'_>,
 ) -> Option<Duty>
     ensures { piece.start < piece.end → piece.end ≤ length text.now
-        → result ≡ met_by seen.entry.duty (sight_of text.now seen.entry.claims.now piece piece.kind)
-        context.is_after_line_end is_typed }
+        → result ≡ met_duty (is_specifier piece seen.entry.marks.now) seen.entry.duty
+        (sight_of text.now piece piece.kind) context.is_after_line_end is_typed }
 {
+    let is_specifier = is_specifier(piece, seen.marks);
     match seen.duty {
         // Nearly every token has none.
-        Duty::Nothing | Duty::Claimed => Some(Duty::Nothing),
-        _ => met_by(
+        Duty::Nothing | Duty::Claimed if !is_specifier => Some(Duty::Nothing),
+        _ => met_duty(
+            is_specifier,
             seen.duty,
-            sight_of(text, seen.claims, piece),
+            sight_of(text, piece),
             context.is_after_line_end,
             is_typed,
         ),
+    }
+}
+
+/// Returns whether a token is the first of the marks, and a string.
+#[inline(always)]
+fn is_specifier(piece: Piece, marks: &[Piece]) -> bool
+    ensures { result ≡ is_specifier piece marks.now }
+{
+    match piece.kind {
+        PieceKind::String => is_claimed(piece, marks),
+        _ => false,
     }
 }
 
@@ -148,7 +162,7 @@ fn duty_after(
 ) -> Duty
     ensures { piece.start < piece.end → piece.end ≤ length text.now
         → result ≡ duty_after text.now is_typed context piece piece.kind (watch_of seen.entry parentheses.now)
-        (sight_of text.now seen.entry.claims.now piece piece.kind) met }
+        (sight_of text.now piece piece.kind) met }
 {
     match piece.kind {
         PieceKind::Word => {
@@ -158,7 +172,7 @@ fn duty_after(
                 duty_after_word(
                     keyword_at(text, context, piece, seen.last),
                     is_claimed(piece, seen.claims),
-                    is_claimed(piece, seen.calls),
+                    is_claimed(piece, seen.marks),
                     is_brace(context.inside),
                     may_be_method(is_typed, context, seen.last),
                     seen.duty,
@@ -207,12 +221,18 @@ fn duty_after_word(
     match keyword {
         Keyword::Other => { if is_claimed { Duty::Claimed } else { met } }
         Keyword::Import => match before {
-            _ if is_claimed => Duty::Alias,
-            Duty::Claimed => Duty::Alias,
+            _ if is_claimed => Duty::Names {
+                is_before_specifier: true,
+            },
+            Duty::Claimed => Duty::Names {
+                is_before_specifier: true,
+            },
             Duty::Export {
                 is_claimed: true,
                 ..
-            } => Duty::Alias,
+            } => Duty::Names {
+                is_before_specifier: true,
+            },
             _ => Duty::Import {
                 in_braces,
                 may_be_method: in_braces && may_be_method,
@@ -257,7 +277,7 @@ fn is_listed(duty: Duty) -> bool
     ensures { result ≡ is_listed duty }
 {
     match duty {
-        Duty::AsName | Duty::ExportNames | Duty::ExportEnd | Duty::Alias => true,
+        Duty::AsName | Duty::ExportNames | Duty::ExportEnd | Duty::Names { .. } => true,
         _ => false,
     }
 }
@@ -313,13 +333,12 @@ fn is_value(before: Before) -> bool
 #[tactic(auto, unfolding(crate::specs::Duties::sight_of))]
 fn change(
     text: &[u8],
-    claims: &[Piece],
     piece: Piece,
     met: Duty,
     parentheses: &mut Parentheses,
 ) -> Result<(), AllocError>
     ensures { OnOk result (parentheses.new
-        ≡ parentheses_after (sight_of text.now claims.now piece piece.kind) met parentheses.old) }
+        ≡ parentheses_after (sight_of text.now piece piece.kind) met parentheses.old) }
 {
     match piece.kind {
         PieceKind::Punctuation => match byte_at(text, piece.start) {
@@ -351,5 +370,7 @@ fn last_of(previous: u8, byte: u8) -> u8
 pub fn is_watch_end(seen: Seen<'_>, parentheses: &Parentheses) -> bool
     ensures { IsTrue result → IsWatchEnd (watch_of seen.entry parentheses.now) }
 {
-    seen.claims.is_empty() && met_by(seen.duty, Sight::Other, false, false).is_some()
+    seen.claims.is_empty()
+        && seen.marks.is_empty()
+        && met_by(seen.duty, Sight::Other, false, false).is_some()
 }

@@ -3,7 +3,7 @@ use Rattle.std.proofs.Common.{ℕ, Bool, List, None, subst}
 use Rattle.deno_graph_source.specs.Comments.{FiledComments}
 use Rattle.deno_graph_source.specs.declared.tree.node.Program.{Program}
 use Rattle.modinfo_imports.proofs.ClaimedNodes.{claimed-all}
-use Rattle.modinfo_imports.specs.Nodes.{AreCalls, AreClaims}
+use Rattle.modinfo_imports.specs.Nodes.{AreMarks, AreClaims}
 use Rattle.modinfo_pieces.specs.declared.piece.Piece.{Piece}
 use Rattle.modinfo_imports.specs.Found.{HasFound}
 use Rattle.modinfo_pieces.proofs.Filings.{filed-comments}
@@ -14,10 +14,10 @@ use Rattle.modinfo_source.specs.Comments.{AreFiled, AreFrom, HasComments}
 use Rattle.modinfo_source.specs.OfText.{HasClaims, IsOfText}
 
 -- The tree and the comments are of the text.
-pub IsOfText-claimed : (text : List ℕ) (is_typed : Bool) (program : Program) (claims calls : List Piece)
-    (comments : FiledComments) → AreClaims text program claims → AreCalls text program calls
-    → HasClaims text is_typed claims calls comments → IsOfText text is_typed program comments
-IsOfText-claimed text is_typed program claims calls comments are are_calls has = record {
+pub IsOfText-claimed : (text : List ℕ) (is_typed : Bool) (program : Program) (claims marks : List Piece)
+    (comments : FiledComments) → AreClaims text program claims → AreMarks text program marks
+    → HasClaims text is_typed claims marks comments → IsOfText text is_typed program comments
+IsOfText-claimed text is_typed program claims marks comments are are_marks has = record {
   choices = has.choices;
   pieces = has.pieces;
   are_tiles = has.are_tiles;
@@ -25,15 +25,15 @@ IsOfText-claimed text is_typed program claims calls comments are are_calls has =
   are_filed = has.are_filed;
   nothing_invented = claimed-all text program claims has.pieces are has.are_pieces;
   claims = claims;
-  calls = calls;
+  marks = marks;
   are_claims = are;
-  are_calls = are_calls;
+  are_marks = are_marks;
   nothing_lost = has.are_watched;
 }
 
-pub HasComments-claimed : (text : List ℕ) (is_typed : Bool) (claims calls : List Piece)
-    (comments : FiledComments) → HasClaims text is_typed claims calls comments → HasComments text comments
-HasComments-claimed text is_typed claims calls comments has = record {
+pub HasComments-claimed : (text : List ℕ) (is_typed : Bool) (claims marks : List Piece)
+    (comments : FiledComments) → HasClaims text is_typed claims marks comments → HasComments text comments
+HasComments-claimed text is_typed claims marks comments has = record {
   choices = has.choices;
   pieces = has.pieces;
   are_tiles = has.are_tiles;
@@ -42,11 +42,11 @@ HasComments-claimed text is_typed claims calls comments has = record {
 }
 
 -- The text has the claims and the calls, and its comments are filed.
-pub HasClaims-found : (text : List ℕ) (is_typed : Bool) (choices : List Choice) (claims calls : List Piece)
+pub HasClaims-found : (text : List ℕ) (is_typed : Bool) (choices : List Choice) (claims marks : List Piece)
     (filed : List FiledComment) (comments : FiledComments)
-    → HasFound text is_typed choices claims calls filed → AreFiled text filed comments
-    → HasClaims text is_typed claims calls comments
-HasClaims-found text is_typed choices claims calls filed comments found are =
+    → HasFound text is_typed choices claims marks filed → AreFiled text filed comments
+    → HasClaims text is_typed claims marks comments
+HasClaims-found text is_typed choices claims marks filed comments found are =
     let are_filed = subst (λ (l : List FiledComment). AreFiled text l comments) found.comments_are are in
     record {
       choices = choices;

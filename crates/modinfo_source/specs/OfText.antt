@@ -5,7 +5,7 @@ use Rattle.deno_graph_source.specs.Comments.{FiledComments}
 use Rattle.deno_graph_source.specs.Node.{nodes_of}
 use Rattle.deno_graph_source.specs.declared.tree.node.Program.{Program}
 use Rattle.modinfo_imports.specs.Found.{AreWatched}
-use Rattle.modinfo_imports.specs.Nodes.{AreCalls, AreClaims, claims_of}
+use Rattle.modinfo_imports.specs.Nodes.{AreMarks, AreClaims, claims_of}
 use Rattle.modinfo_pieces.specs.Filed.{filed_from}
 use Rattle.modinfo_pieces.specs.Places.{start}
 use Rattle.modinfo_pieces.specs.Tiles.{AreTiles, is_comment}
@@ -14,7 +14,7 @@ use Rattle.modinfo_pieces.specs.declared.piece.Piece.{Piece}
 use Rattle.modinfo_source.specs.Comments.{AreFiled, AreFrom}
 
 -- Comments are those of a text, filed, and the text has these claims and calls.
-pub record HasClaims (text : List ℕ) (is_typed : Bool) (claims calls : List Piece) (comments : FiledComments)
+pub record HasClaims (text : List ℕ) (is_typed : Bool) (claims marks : List Piece) (comments : FiledComments)
     : Type 0 where
   pub choices : List Choice
   pub pieces : List Piece
@@ -22,7 +22,7 @@ pub record HasClaims (text : List ℕ) (is_typed : Bool) (claims calls : List Pi
   pub are_comments : AreFrom text (filter is_comment pieces) comments
   pub are_filed : AreFiled text (filed_from text (start choices) None pieces) comments
   pub are_pieces : All (Contains pieces) claims
-  pub are_watched : AreWatched text is_typed choices claims calls pieces
+  pub are_watched : AreWatched text is_typed choices claims marks pieces
 
 -- A tree and its comments are those of a text: the text is pieces side by side, and the comments are exactly
 -- those among them, filed. Nothing is invented: each piece that a node has is one of the text's. Nothing is
@@ -37,7 +37,7 @@ pub record IsOfText (text : List ℕ) (is_typed : Bool) (program : Program) (com
     pub are_filed : AreFiled text (filed_from text (start choices) None pieces) comments
     pub nothing_invented : All (λ node. All (Contains pieces) (claims_of text node)) (nodes_of program)
     pub claims : List Piece
-    pub calls : List Piece
+    pub marks : List Piece
     pub are_claims : AreClaims text program claims
-    pub are_calls : AreCalls text program calls
-    pub nothing_lost : AreWatched text is_typed choices claims calls pieces
+    pub are_marks : AreMarks text program marks
+    pub nothing_lost : AreWatched text is_typed choices claims marks pieces

@@ -23,11 +23,11 @@ pub(crate) fn comments_of(
     is_typed: bool,
     choices: &[Choice],
     claims: &[Piece],
-    calls: &[Piece],
+    marks: &[Piece],
 ) -> Result<Comments, TreeError>
-    ensures { IfOk result (HasClaims text.now is_typed claims.now calls.now) }
+    ensures { IfOk result (HasClaims text.now is_typed claims.now marks.now) }
 {
-    match find(alloc, text.as_bytes(), is_typed, choices, claims, calls)? {
+    match find(alloc, text.as_bytes(), is_typed, choices, claims, marks)? {
         Ok(filed) => file_each(alloc, text, &filed),
         Err(offset) => Err(TreeError::Defect(offset)),
     }

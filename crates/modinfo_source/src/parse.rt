@@ -20,7 +20,7 @@ use deno_graph_base::values::Text;
 use deno_graph_source::tree::{
     Comments, MediaType, ParseDiagnostic, ParsedSource, Program, SourceFault,
 };
-use modinfo_imports::nodes::{calls_of, claims_of};
+use modinfo_imports::nodes::{marks_of, claims_of};
 use modinfo_lexer::syntax_error::{ReadError, SyntaxError};
 use modinfo_parser::{Syntax, read};
 use std::alloc::{AllocError, Global};
@@ -102,14 +102,14 @@ fn parts_of(alloc: Global, text: &str, media_type: MediaType) -> Result<Parts, T
         has_shebang: has_hashbang,
     };
     let claims = claims_of(alloc, text.as_bytes(), &program)?;
-    let calls = calls_of(alloc, text.as_bytes(), &program)?;
+    let marks = marks_of(alloc, text.as_bytes(), &program)?;
     let comments = comments_of(
         alloc,
         text,
         media_type.is_typed(),
         &choices,
         &claims,
-        &calls,
+        &marks,
     )?;
     Ok(Parts { program, comments })
 }

@@ -7,7 +7,7 @@ use Rattle.modinfo_pieces.specs.Spots.{place_of}
 
 pub pieces-init : goal.pieces-init
 pieces-init c =
-    IsWalked-none c.args.text.now c.args.is_typed c.args.choices.now c.args.claims.now c.args.calls.now _ _ _
+    IsWalked-none c.args.text.now c.args.is_typed c.args.choices.now c.args.claims.now c.args.marks.now _ _ _
     (ap (place_of c.start-spot.result) c.new-around.ensures ∙ c.start-spot.ensures)
     (ap (watch_of c.watch_start-seen.result) c.new-parentheses.ensures ∙ c.watch_start-seen.ensures)
     c.new-filing.ensures
@@ -17,14 +17,14 @@ pieces-preserved c =
     let next = rw c.in-Some.is at c.in_ok-step.ensures in
     let seen = rw c.in-Some-2.is at (c.in_ok-after.ensures
     (omega (arith, next.is_piece.start, next.is_piece.goes_on)) next.is_piece.is_within) in
-    IsWalked-more c.args.text.now c.args.is_typed c.args.choices.now c.args.claims.now c.args.calls.now
+    IsWalked-more c.args.text.now c.args.is_typed c.args.choices.now c.args.claims.now c.args.marks.now
     (place_of c.pieces.spot c.pieces.around) _ c.context_of-context.result
     (watch_of c.pieces.seen c.pieces.parentheses) _ c.pieces.filing _ c.in-Some.step.piece
     c.pieces.invariant next c.context_of-context.ensures seen c.in_ok-add.ensures
 
 pub returns-then-is_watch_end : goal.returns-then-is_watch_end
 returns-then-is_watch_end c =
-    HasFound-walked c.args.text.now c.args.is_typed c.args.choices.now c.args.claims.now c.args.calls.now
+    HasFound-walked c.args.text.now c.args.is_typed c.args.choices.now c.args.claims.now c.args.marks.now
     (place_of c.pieces.spot c.pieces.around) (watch_of c.pieces.seen c.pieces.parentheses)
     c.pieces.filing _ c.pieces.invariant (c.is_end.ensures c.if-is_end.true)
     (c.is_watch_end.ensures c.if-is_watch_end.true) c.in_ok-finish.ensures

@@ -15,11 +15,11 @@ pub returns-in-Ok : goal.returns-in-Ok
 returns-in-Ok c =
     let text = c.args.text.now in
     let claims = c.args.claims.now in
-    let calls = c.args.calls.now in
+    let marks = c.args.marks.now in
     let filed = c.in-Ok.filed.items in
-    let found = subst (λ bytes. HasFound bytes c.args.is_typed c.args.choices.now claims calls filed)
+    let found = subst (λ bytes. HasFound bytes c.args.is_typed c.args.choices.now claims marks filed)
     c.as_bytes.ensures.value (rw c.in-Ok.is at c.in_ok-filed.ensures) in
-    if_ok c.file_each.result (AreFiled text c.deref.result.now) (HasClaims text c.args.is_typed claims calls)
+    if_ok c.file_each.result (AreFiled text c.deref.result.now) (HasClaims text c.args.is_typed claims marks)
     c.file_each.ensures
-    (λ comments are. HasClaims-found text c.args.is_typed c.args.choices.now claims calls filed comments found
+    (λ comments are. HasClaims-found text c.args.is_typed c.args.choices.now claims marks filed comments found
     (subst (λ (l : List FiledComment). AreFiled text l comments) c.deref.ensures.value are))

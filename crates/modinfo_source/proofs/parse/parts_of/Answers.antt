@@ -2,7 +2,7 @@
 use Rattle.std.proofs.Common.{subst}
 use Rattle.deno_graph_source.specs.MediaType.{is_typed}
 use Rattle.deno_graph_source.specs.declared.tree.node.Program.{Program}
-use Rattle.modinfo_imports.specs.Nodes.{AreCalls, AreClaims}
+use Rattle.modinfo_imports.specs.Nodes.{AreMarks, AreClaims}
 use Rattle.modinfo_source.specs.OfText.{HasClaims}
 use Rattle.modinfo_source.proofs.OfTexts.{HasComments-claimed, IsOfText-claimed}
 use Rattle.modinfo_source.proofs.parse.parts_of.Goals as goal
@@ -21,7 +21,7 @@ returns-clause-of_text c =
       has_shebang = c.in_ok-nodes.field-0.has_hashbang;
     } in
     let claims = c.in_ok-claims.claims.items in
-    let calls = c.in_ok-calls.calls.items in
+    let marks = c.in_ok-marks.marks.items in
     let has = subst (λ cs. HasClaims text (is_typed c.args.media_type) claims cs comments)
     c.deref-3.ensures.value
     (subst (λ cs. HasClaims text (is_typed c.args.media_type) cs c.deref-3.result.now comments)
@@ -30,6 +30,6 @@ returns-clause-of_text c =
     c.is_typed.ensures c.in_ok-comments.ensures)) in
     let are = subst (λ bytes. AreClaims bytes program claims) c.as_bytes.ensures.value
     c.in_ok-claims.ensures in
-    let are_calls = subst (λ bytes. AreCalls bytes program calls) c.as_bytes-2.ensures.value
-    c.in_ok-calls.ensures in
-    IsOfText-claimed text (is_typed c.args.media_type) program claims calls comments are are_calls has
+    let are_marks = subst (λ bytes. AreMarks bytes program marks) c.as_bytes-2.ensures.value
+    c.in_ok-marks.ensures in
+    IsOfText-claimed text (is_typed c.args.media_type) program claims marks comments are are_marks has

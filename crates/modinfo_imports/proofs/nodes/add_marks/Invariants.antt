@@ -1,9 +1,9 @@
 -- The calls of the nodes so far.
 use Rattle.std.proofs.Common.{◌≡◌, ◌++◌, take}
 use Rattle.modinfo_imports.proofs.ClaimedNodes.{below}
-use Rattle.modinfo_imports.specs.Nodes.{calls_of}
-use Rattle.modinfo_imports.proofs.nodes.add_calls.Given as goal
+use Rattle.modinfo_imports.specs.Nodes.{marks_of}
+use Rattle.modinfo_imports.proofs.nodes.add_marks.Given as goal
 
 abbrev pub invariant-loop-node : goal.invariant-loop-node
 invariant-loop-node l =
-    l.calls.items ≡ l.fn.calls.items ++ below (calls_of l.text) (take l.node-index l.nodes)
+    l.marks.items ≡ l.fn.marks.items ++ below (marks_of l.text) (take l.node-index l.nodes)
