@@ -79,6 +79,19 @@ after_require may_be_method after is_typed byte =
     else Some (if ((byte == 60) && is_typed) && not (may_be_method || after) then duties.TypeName
     else duties.Nothing))
 
+-- Between `import` and the specifier, or the `=` of an alias; whether the specifier may be next.
+abbrev pub after_names : Bool → Sight → Option Duty
+after_names true String = None
+after_names _ (Word names.From) = Some (duties.Names true)
+after_names _ sight =
+    Some (if is_name sight || is_byte (codes "{,}*") sight then duties.Names false
+    else (if is_byte (codes "=") sight then duties.NoCall else duties.Nothing))
+
+-- The word `from`.
+abbrev pub is_from : Sight → Bool
+is_from (Word names.From) = true
+is_from sight = false
+
 -- The duty after a token that meets this duty, if the token meets it, and whether the token is on another
 -- line than the one before. By rows:
 -- * `import`: a member on the next line ends the one before, as in `class A { import⏎ foo() {} }`,
@@ -93,10 +106,13 @@ after_require may_be_method after is_typed byte =
 --   a call: `require<A | "b">("c")`. Other types need their grammar: `require < f(x) > (c)` is a
 --   comparison, `require<(x) => y>(c)` a call.
 -- * `import` at which a node begins: names up to the specifier, which follows `from` or the `import`, as in
---   `import a, { "b" as c } from "d"`, `import "a"`; or up to the `=` of `import type a = require("a")`.
+--   `import a, { "b" as c } from "d"`, `import "a"`; or up to the `=` of `import type a = require("a")`. A
+--   declaration is of types exactly where `type` and more than a name follow: `import type A from "a"`,
+--   `import type { A } from "a"`, `import type from from "a"`, but `import type from "a"`,
+--   `import type, { b } from "a"`.
 -- * `new`, `function`: `function *require() {}`.
 -- * `export`: `export type { a } from "a"`, `export { a } from "a"`, `export * from "a"`,
---   `export * as a from "a"`. After `from` comes a specifier of the tree.
+--   `export * as a from "a"`. It is of types exactly where `type` follows.
 -- * `module`: a string on its line is a specifier of the tree.
 unfoldable pub met_by : Duty → Sight → Bool → Bool → Option Duty
 met_by (duties.Import true _) (Word name) true _ = Some duties.Nothing
@@ -117,15 +133,23 @@ met_by duties.TypeEnd sight _ _ =
     Some (if is_byte (codes ",|&") sight then duties.TypeName
     else (if is_byte (codes ">") sight then duties.NoParenthesis else duties.Nothing))
 met_by duties.NoParenthesis sight after _ = only (after || not (is_byte (codes "(") sight)) duties.Nothing
-met_by (duties.Names true) String _ _ = None
-met_by (duties.Names _) (Word names.From) _ _ = Some (duties.Names true)
-met_by (duties.Names _) sight _ _ =
-    Some (if is_name sight || is_byte (codes "{,}*") sight then duties.Names false
-    else (if is_byte (codes "=") sight then duties.NoCall else duties.Nothing))
+met_by (duties.Start of_types) (Word names.Type) _ _ = Some (duties.TypeWord of_types)
+met_by (duties.Start true) _ _ _ = None
+met_by (duties.Start false) sight _ _ = after_names true sight
+met_by (duties.Names is_next) sight _ _ = after_names is_next sight
+met_by (duties.TypeWord of_types) (Word names.From) _ _ = Some (duties.TypeFrom of_types)
+met_by (duties.TypeWord true) sight _ _ = only (is_name sight || is_byte (codes "{*") sight) (duties.Names false)
+met_by (duties.TypeWord false) (Word name) _ _ = Some duties.Alias
+met_by (duties.TypeWord false) sight _ _ = only (is_byte (codes ",=") sight) (duties.Names false)
+met_by (duties.TypeFrom true) sight _ _ = only (is_from sight) (duties.Names true)
+met_by (duties.TypeFrom false) sight _ _ = only (is_byte (codes "=") sight) duties.NoCall
+met_by duties.Alias sight _ _ = only (is_byte (codes "=") sight) duties.NoCall
 met_by duties.NoCall sight _ _ = Some (if is_byte (codes "*") sight then duties.NoCall else duties.Nothing)
-met_by (duties.Export true _) (Word name) true _ = Some duties.Nothing
-met_by (duties.Export _ claimed) (Word names.Type) _ _ = Some (duties.Export false claimed)
-met_by (duties.Export member claimed) (Byte byte) after _ = after_export claimed (member && after) byte
+met_by (duties.Export true _ _) (Word name) true _ = Some duties.Nothing
+met_by (duties.Export _ claimed of_types) (Word names.Type) _ _ =
+    Some (duties.Export false (claimed && of_types) false)
+met_by (duties.Export member claimed of_types) (Byte byte) after _ =
+    after_export (claimed && not of_types) (member && after) byte
 met_by duties.ExportNames sight _ _ =
     (if is_byte (codes "}") sight then Some duties.ExportEnd
     else only (is_name sight || is_byte (codes ",") sight) duties.ExportNames)
@@ -141,7 +165,9 @@ met_by _ _ _ _ = Some duties.Nothing
 -- A specifier of the tree is right after `import`, after the `from` of a declaration, or after `module`, and
 -- nowhere else.
 abbrev pub takes_specifier : Duty → Bool
+takes_specifier (duties.Start false) = true
 takes_specifier (duties.Names true) = true
+takes_specifier (duties.TypeFrom false) = true
 takes_specifier duties.From = true
 takes_specifier duties.Module = true
 takes_specifier duty = false

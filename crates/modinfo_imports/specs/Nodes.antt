@@ -114,11 +114,23 @@ specifier_of (kinds.ImportEquals _ _ _) = None
 specifier_of (kinds.ImportType _ _) = None
 specifier_of kind = literal_of kind
 
+-- A declaration is of types alone: `import type A from "a"`, `export type * from "a"`.
+abbrev pub is_type_only : Kind → Bool
+is_type_only (kinds.ImportDecl type_only _ _ _ _) = type_only
+is_type_only (kinds.NamedExport type_only _ _) = type_only
+is_type_only (kinds.ExportAll type_only _ _) = type_only
+is_type_only kind = false
+
+-- The word that a declaration of types alone begins with.
+abbrev pub type_mark : List ℕ → ℕ → Kind → Option Piece
+type_mark text at kind = (if is_type_only kind then begin_claim text at kind else None)
+
 -- The marks of a node: its pieces that may stand in few places alone.
 abbrev pub marks_of : List ℕ → Node → List Piece
 marks_of text node =
     option_to_list (call_words text (range_of node) (children_of node) (kind_of node))
-    ++ option_to_list (option_map (literal_claim (range_of node)) (specifier_of (kind_of node)))
+    ++ (option_to_list (option_map (literal_claim (range_of node)) (specifier_of (kind_of node)))
+    ++ option_to_list (type_mark text (range_of node).start (kind_of node)))
 
 -- The claims of a tree are those of its nodes, in the order of the text.
 abbrev pub AreClaims : List ℕ → Program → List Piece → Type 0

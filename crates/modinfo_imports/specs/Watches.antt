@@ -100,6 +100,7 @@ is_listed duties.AsName = true
 is_listed duties.ExportNames = true
 is_listed duties.ExportEnd = true
 is_listed (duties.Names _) = true
+is_listed duties.Alias = true
 is_listed _ = false
 
 -- The duty after a word: whether the word is the first of the claims, of the marks, is in braces, and may
@@ -107,14 +108,15 @@ is_listed _ = false
 -- `export import a = B.C` is that of a node. A name isn't called in `new require("a")`,
 -- `function require() {}`, `import a = require("a")`.
 unfoldable pub duty_after_word : Keyword → Bool → Bool → Bool → Bool → Duty → Duty → Duty
-duty_after_word keywords.Import true _ _ _ _ _ = duties.Names true
+duty_after_word keywords.Import true marked _ _ _ _ = duties.Start marked
 duty_after_word keywords.Import _ _ _ _ duties.Claimed _ = duties.Names true
-duty_after_word keywords.Import _ _ _ _ (duties.Export _ true) _ = duties.Names true
+duty_after_word keywords.Import _ _ _ _ (duties.Export _ true _) _ = duties.Names true
 duty_after_word keywords.Import _ _ in_braces method _ _ = duties.Import in_braces (in_braces && method)
 duty_after_word keywords.Require _ true _ _ _ met = met
 duty_after_word keywords.Require _ _ _ _ duties.NoCall met = met
 duty_after_word keywords.Require _ _ in_braces method _ _ = duties.Require (in_braces && method)
-duty_after_word keywords.Export claimed _ in_braces _ _ _ = duties.Export (in_braces && not claimed) claimed
+duty_after_word keywords.Export claimed marked in_braces _ _ _ =
+    duties.Export (in_braces && not claimed) claimed marked
 duty_after_word keywords.Module _ _ _ _ _ _ = duties.Module
 duty_after_word keywords.New _ _ _ _ _ _ = duties.NoCall
 duty_after_word keywords.Other true _ _ _ _ _ = duties.Claimed

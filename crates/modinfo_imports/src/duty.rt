@@ -2,6 +2,7 @@
 
 ghost use Rattle.std.specs.Prelude.{◌≡◌, ◌∷◌, ◌<◌, ◌≤◌, Bool, OnOk, drop, length};
 ghost use Rattle.modinfo_imports.specs.declared.duty.Duty.TheVariants.{
+  Alias,
   Export,
   ExportEnd,
   ExportNames,
@@ -15,15 +16,20 @@ ghost use Rattle.modinfo_imports.specs.declared.duty.Duty.TheVariants.{
   Parameters,
   Parenthesis,
   Require,
-  TypeName,
+  Start,
+  TypeWord,
   TypeEnd,
+  TypeFrom,
+  TypeName,
 };
 ghost use Rattle.modinfo_pieces.specs.WordClasses.{is_among};
 ghost use Rattle.modinfo_imports.specs.Duties.{
   after_export,
   after_import,
+  after_names,
   after_require,
   is_byte,
+  is_from,
   is_name,
   is_one_of,
   met_by,
@@ -74,7 +80,24 @@ pub enum Duty {
     TypeEnd,
     /// Anything but the `(` of a call, after `require <type>`.
     NoParenthesis,
-    /// A name or a specifier, after a word `import` at which a node begins.
+    /// What follows a word `import` at which a node begins.
+    Start {
+        /// Whether the node is a declaration of types alone.
+        is_of_types: bool,
+    },
+    /// What follows `import type`, where a node begins.
+    TypeWord {
+        /// Whether the node is a declaration of types alone.
+        is_of_types: bool,
+    },
+    /// What follows `import type from`, where a node begins.
+    TypeFrom {
+        /// Whether the node is a declaration of types alone.
+        is_of_types: bool,
+    },
+    /// The `=` after `import type name`.
+    Alias,
+    /// A name or a specifier, after a word `import` at which a node begins, and more.
     Names {
         /// Whether a string is the specifier.
         is_before_specifier: bool,
@@ -87,6 +110,8 @@ pub enum Duty {
         may_be_member: bool,
         /// Whether a node begins at the word.
         is_claimed: bool,
+        /// Whether the node is a declaration of types alone.
+        is_of_types: bool,
     },
     /// A name, a comma or the brace, after `export {`.
     ExportNames,
@@ -244,12 +269,23 @@ pub fn met_by(duty: Duty, sight: Sight, is_after_line_end: bool, is_typed: bool)
         Duty::NoParenthesis => met_no_parenthesis(sight, is_after_line_end),
         Duty::Names {
             is_before_specifier,
-        } => met_names(is_before_specifier, sight),
+        } => after_names(is_before_specifier, sight),
+        Duty::Start { is_of_types } => met_start(is_of_types, sight),
+        Duty::TypeWord { is_of_types } => met_type_word(is_of_types, sight),
+        Duty::TypeFrom { is_of_types } => met_type_from(is_of_types, sight),
+        Duty::Alias => only(is_byte(b"=", sight), Duty::NoCall),
         Duty::NoCall => met_no_call(sight),
         Duty::Export {
             may_be_member,
             is_claimed,
-        } => met_export(may_be_member, is_claimed, sight, is_after_line_end),
+            is_of_types,
+        } => met_export(
+            may_be_member,
+            is_claimed,
+            is_of_types,
+            sight,
+            is_after_line_end,
+        ),
         Duty::ExportNames => met_export_names(sight),
         Duty::ExportStar => met_export_star(sight),
         Duty::ExportAs => only(is_name(sight), Duty::ExportEnd),
@@ -419,11 +455,9 @@ fn met_no_parenthesis(sight: Sight, is_after_line_end: bool) -> Option<Duty>
     only(is_after_line_end || !is_byte(b"(", sight), Duty::Nothing)
 }
 
-/// Returns what the next token must be after a word `import`, at which a node begins, and a token.
-#[tactic(auto, unfolding(crate::specs::Duties::met_by))]
-fn met_names(is_before_specifier: bool, sight: Sight) -> Option<Duty>
-    ensures { (is_after is_typed : Bool)
-        → result ≡ met_by (Names is_before_specifier) sight is_after is_typed }
+/// Returns what the next token must be between `import`, at which a node begins, and the specifier.
+fn after_names(is_before_specifier: bool, sight: Sight) -> Option<Duty>
+    ensures { result ≡ after_names is_before_specifier sight }
 {
     match sight {
         Sight::String if is_before_specifier => None,
@@ -435,6 +469,61 @@ fn met_names(is_before_specifier: bool, sight: Sight) -> Option<Duty>
         }),
         _ if is_byte(b"=", sight) => Some(Duty::NoCall),
         _ => Some(Duty::Nothing),
+    }
+}
+
+/// Returns what the next token must be after `import`, at which a node begins, and a token.
+#[tactic(auto, unfolding(crate::specs::Duties::met_by))]
+fn met_start(is_of_types: bool, sight: Sight) -> Option<Duty>
+    ensures { (is_after is_typed : Bool) → result ≡ met_by (Start is_of_types) sight is_after is_typed }
+{
+    match sight {
+        Sight::Word(Name::Type) => Some(Duty::TypeWord { is_of_types }),
+        _ if is_of_types => None,
+        _ => after_names(true, sight),
+    }
+}
+
+/// Returns what the next token must be after `import type`, where a node begins, and a token.
+#[tactic(auto, unfolding(crate::specs::Duties::met_by))]
+fn met_type_word(is_of_types: bool, sight: Sight) -> Option<Duty>
+    ensures { (is_after is_typed : Bool) → result ≡ met_by (TypeWord is_of_types) sight is_after is_typed }
+{
+    let names = Duty::Names {
+        is_before_specifier: false,
+    };
+    match sight {
+        Sight::Word(Name::From) => Some(Duty::TypeFrom { is_of_types }),
+        _ if is_of_types => only(is_name(sight) || is_byte(b"{*", sight), names),
+        Sight::Word(_) => Some(Duty::Alias),
+        _ => only(is_byte(b",=", sight), names),
+    }
+}
+
+/// Returns what the next token must be after `import type from`, where a node begins, and a token.
+#[tactic(auto, unfolding(crate::specs::Duties::met_by))]
+fn met_type_from(is_of_types: bool, sight: Sight) -> Option<Duty>
+    ensures { (is_after is_typed : Bool) → result ≡ met_by (TypeFrom is_of_types) sight is_after is_typed }
+{
+    if is_of_types {
+        only(
+            is_from(sight),
+            Duty::Names {
+                is_before_specifier: true,
+            },
+        )
+    } else {
+        only(is_byte(b"=", sight), Duty::NoCall)
+    }
+}
+
+/// Returns whether a token is the word `from`.
+fn is_from(sight: Sight) -> bool
+    ensures { result ≡ is_from sight }
+{
+    match sight {
+        Sight::Word(Name::From) => true,
+        _ => false,
     }
 }
 
@@ -463,9 +552,11 @@ fn takes_specifier(duty: Duty) -> bool
     ensures { result ≡ takes_specifier duty }
 {
     match duty {
-        Duty::Names {
+        Duty::Start { is_of_types: false }
+        | Duty::Names {
             is_before_specifier: true,
         }
+        | Duty::TypeFrom { is_of_types: false }
         | Duty::From
         | Duty::Module => true,
         _ => false,
@@ -489,19 +580,25 @@ fn met_no_call(sight: Sight) -> Option<Duty>
 fn met_export(
     may_be_member: bool,
     is_claimed: bool,
+    is_of_types: bool,
     sight: Sight,
     is_after_line_end: bool,
 ) -> Option<Duty>
     ensures { (is_typed : Bool)
-        → result ≡ met_by (Export may_be_member is_claimed) sight is_after_line_end is_typed }
+        → result ≡ met_by (Export may_be_member is_claimed is_of_types) sight is_after_line_end is_typed }
 {
     match sight {
         Sight::Word(_) if may_be_member && is_after_line_end => Some(Duty::Nothing),
         Sight::Word(Name::Type) => Some(Duty::Export {
             may_be_member: false,
-            is_claimed,
+            is_claimed: is_claimed && is_of_types,
+            is_of_types: false,
         }),
-        Sight::Byte(byte) => after_export(is_claimed, may_be_member && is_after_line_end, byte),
+        Sight::Byte(byte) => after_export(
+            is_claimed && !is_of_types,
+            may_be_member && is_after_line_end,
+            byte,
+        ),
         _ => Some(Duty::Nothing),
     }
 }

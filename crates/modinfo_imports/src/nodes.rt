@@ -15,12 +15,14 @@ ghost use Rattle.modinfo_imports.specs.Nodes.{
   marks_of,
   claims_of,
   export_claim,
+  is_type_only,
   literal_claim,
   module_claim,
   name_claim,
   no_piece,
   piece_at,
   specifier_of,
+  type_mark,
   value_claim,
   word_claim,
 };
@@ -237,8 +239,8 @@ fn bytes_at(text: &[u8], range: SourceRange) -> &[u8]
     }
 }
 
-/// Returns the marks of a program, in the order of the text: the words of its calls that may be `require`, and the
-/// specifiers of its declarations.
+/// Returns the marks of a program, in the order of the text: the words of its calls that may be `require`, the
+/// specifiers of its declarations, and the words that those of types alone begin with.
 #[tactic(auto, unfolding(deno_graph_source::specs::Node::nodes_of))]
 pub fn marks_of(alloc: Global, text: &[u8], program: &Program) -> Result<Vec<Piece>, AllocError>
     ensures { IfOk result (λ marks. AreMarks text.now program.now marks.items) }
@@ -280,7 +282,31 @@ fn add_mark(text: &[u8], node: &Node, marks: &mut Vec<Piece>) -> Result<(), Allo
         call_words(text, node.range, node.children.as_slice(), &node.kind),
         marks,
     )?;
-    claim(specifier_mark(node.range, &node.kind), marks)
+    claim(specifier_mark(node.range, &node.kind), marks)?;
+    claim(type_mark(text, node.range.start, &node.kind), marks)
+}
+
+/// Returns the word that a declaration of types alone begins with, if a node of a kind is one.
+fn type_mark(text: &[u8], at: usize, kind: &Kind) -> Option<Piece>
+    ensures { result ≡ type_mark text.now at kind.now }
+{
+    if is_type_only(kind) {
+        begin_claim(text, at, kind)
+    } else {
+        None
+    }
+}
+
+/// Returns whether a node of a kind is a declaration of types alone.
+fn is_type_only(kind: &Kind) -> bool
+    ensures { result ≡ is_type_only kind.now }
+{
+    match kind {
+        Kind::ImportDecl { type_only, .. }
+        | Kind::NamedExport { type_only, .. }
+        | Kind::ExportAll { type_only, .. } => *type_only,
+        _ => false,
+    }
 }
 
 /// Returns the specifier of a declaration, if a node of a kind is one that has it.

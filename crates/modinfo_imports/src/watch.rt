@@ -210,19 +210,19 @@ fn keyword_at(text: &[u8], context: Context, piece: Piece, last: u8) -> Keyword
 fn duty_after_word(
     keyword: Keyword,
     is_claimed: bool,
-    is_call: bool,
+    is_marked: bool,
     in_braces: bool,
     may_be_method: bool,
     before: Duty,
     met: Duty,
 ) -> Duty
-    ensures { result ≡ duty_after_word keyword is_claimed is_call in_braces may_be_method before met }
+    ensures { result ≡ duty_after_word keyword is_claimed is_marked in_braces may_be_method before met }
 {
     match keyword {
         Keyword::Other => { if is_claimed { Duty::Claimed } else { met } }
         Keyword::Import => match before {
-            _ if is_claimed => Duty::Names {
-                is_before_specifier: true,
+            _ if is_claimed => Duty::Start {
+                is_of_types: is_marked,
             },
             Duty::Claimed => Duty::Names {
                 is_before_specifier: true,
@@ -239,7 +239,7 @@ fn duty_after_word(
             },
         },
         Keyword::Require => match before {
-            _ if is_call => met,
+            _ if is_marked => met,
             Duty::NoCall => met,
             _ => Duty::Require {
                 may_be_method: in_braces && may_be_method,
@@ -248,6 +248,7 @@ fn duty_after_word(
         Keyword::Export => Duty::Export {
             may_be_member: in_braces && !is_claimed,
             is_claimed,
+            is_of_types: is_marked,
         },
         Keyword::Module => Duty::Module,
         Keyword::New => Duty::NoCall,
@@ -277,7 +278,8 @@ fn is_listed(duty: Duty) -> bool
     ensures { result ≡ is_listed duty }
 {
     match duty {
-        Duty::AsName | Duty::ExportNames | Duty::ExportEnd | Duty::Names { .. } => true,
+        Duty::AsName | Duty::ExportNames | Duty::ExportEnd | Duty::Names { .. } | Duty::Alias =>
+            true,
         _ => false,
     }
 }

@@ -20,7 +20,7 @@ use deno_graph_base::values::Text;
 use deno_graph_source::tree::{
     Comments, MediaType, ParseDiagnostic, ParsedSource, Program, SourceFault,
 };
-use modinfo_imports::nodes::{marks_of, claims_of};
+use modinfo_imports::nodes::{claims_of, marks_of};
 use modinfo_lexer::syntax_error::{ReadError, SyntaxError};
 use modinfo_parser::{Syntax, read};
 use std::alloc::{AllocError, Global};
