@@ -138,7 +138,8 @@ met_by (duties.Start true) _ _ _ = None
 met_by (duties.Start false) sight _ _ = after_names true sight
 met_by (duties.Names is_next) sight _ _ = after_names is_next sight
 met_by (duties.TypeWord of_types) (Word names.From) _ _ = Some (duties.TypeFrom of_types)
-met_by (duties.TypeWord true) sight _ _ = only (is_name sight || is_byte (codes "{*") sight) (duties.Names false)
+met_by (duties.TypeWord true) sight _ _ =
+    only (is_name sight || is_byte (codes "{*") sight) (duties.Names false)
 met_by (duties.TypeWord false) (Word name) _ _ = Some duties.Alias
 met_by (duties.TypeWord false) sight _ _ = only (is_byte (codes ",=") sight) (duties.Names false)
 met_by (duties.TypeFrom true) sight _ _ = only (is_from sight) (duties.Names true)
