@@ -25,7 +25,8 @@ def module_info(text: Text, specifier: str, media_type: MediaType | None = None)
     ending.
 
     Raises Fault: Syntax, with the message and the position of the first syntax error; Defect, with a position, where
-    what was read isn't the text's, a defect of modinfo; Specifier, where that is no absolute URL; Input, where a text isn't UTF-8; OutOfMemory. Raises ValueError where no media type has the name.
+    what was read isn't the text's, a defect of modinfo; Specifier, where that is no absolute URL; Input, where a text
+    isn't UTF-8; OutOfMemory. Raises ValueError where no media type has the name.
     """
     return ModuleInfo.from_dict(json.loads(_line(_arguments(text, specifier, media_type))))
 
