@@ -19,20 +19,15 @@ import { unledOf, unreachedOf } from "modinfo-graph/internal/graph/unreached.js"
 import { systemMessage } from "modinfo-graph/internal/runtime/faults.js";
 import { printable, printableLines } from "modinfo-graph/internal/runtime/printable.js";
 import { indexOf, partsOf } from "./data.js";
-import { readLibraries } from "./libraries.js";
-import { Links, edgesOf } from "./links.js";
-import { listsOf, shownCycles, shownUnreached } from "./lists.js";
-import { outsideOf } from "./outside.js";
+import { type Library, readLibraries } from "./libraries.js";
+import { type Edge, Links, edgesOf } from "./links.js";
+import { type Lists, listsOf, shownCycles, shownUnreached } from "./lists.js";
+import { type Classes, outsideOf } from "./outside.js";
 import { pageOf } from "./page.js";
-import { Project } from "./project.js";
+import { type Module, Project } from "./project.js";
 import type { Values, Words } from "modinfo-graph/internal/cli/command_line.js";
 import type { GraphRun } from "modinfo-graph/internal/cli/run.js";
 import type { ReadFile } from "modinfo-graph/internal/graph/read_graph.js";
-import type { Library } from "./libraries.js";
-import type { Edge } from "./links.js";
-import type { Lists } from "./lists.js";
-import type { Classes } from "./outside.js";
-import type { Module } from "./project.js";
 
 type ReportValues = Values & { output?: string, dot?: string };
 

@@ -7,8 +7,7 @@ import { posix } from "node:path";
 
 import { KINDS } from "modinfo-graph/internal/graph/kinds.js";
 import { withinBounds } from "./excerpts.js";
-import { countEdges } from "./links.js";
-import type { Edge, Links } from "./links.js";
+import { type Edge, type Links, countEdges } from "./links.js";
 import type { Lists } from "./lists.js";
 import type { Classes } from "./outside.js";
 import type { Details, Index, RowDetails } from "./page_data.js";

@@ -5,14 +5,11 @@ import { dirname, relative, resolve as absolute } from "node:path";
 import { isFolder } from "modinfo-graph/internal/files/find_files.js";
 import { readRegularText } from "modinfo-graph/internal/files/regular_file.js";
 import { canonicalUrl } from "modinfo-graph/internal/graph/reach.js";
-import { faultOf } from "modinfo-graph/internal/runtime/faults.js";
-import { faultMarks, marksOf } from "./marks.js";
-import { rowsOf } from "./rows.js";
+import { type Fault, faultOf } from "modinfo-graph/internal/runtime/faults.js";
+import { type Mark, faultMarks, marksOf } from "./marks.js";
+import { type Row, rowsOf } from "./rows.js";
 import type { ModuleInfo } from "modinfo";
 import type { ResolvedModuleInfo } from "modinfo-graph";
-import type { Fault } from "modinfo-graph/internal/runtime/faults.js";
-import type { Mark } from "./marks.js";
-import type { Row } from "./rows.js";
 
 export interface Module {
   /** The path of its file, absolute */

@@ -1,7 +1,6 @@
 /** What the commands share: their words, and how they end. */
 
-import { parseArgs } from "node:util";
-import type { ParseArgsConfig } from "node:util";
+import { type ParseArgsConfig, parseArgs } from "node:util";
 
 import { GlobFault } from "../files/globs.js";
 import { readOwnFile } from "../files/own_files.js";

@@ -7,15 +7,13 @@ import { canonicalUrl } from "../graph/reach.js";
 import { unreachedOf } from "../graph/unreached.js";
 import { printable } from "../runtime/printable.js";
 import { UsageFault } from "./command_line.js";
-import { CHECKS } from "./graph_checks.js";
+import { type Answer, CHECKS, type Context, type FilesValues } from "./graph_checks.js";
 import {
   byTypesLine, gapsNote, mayBeReachedLine, mentionData, shownPath, stepLine,
 } from "./graph_output.js";
-import { readRun } from "./run.js";
+import { type Run, readRun } from "./run.js";
 import { writeOutput } from "./standard_output.js";
 import type { Step } from "../graph/graph.cjs";
-import type { Answer, Context, FilesValues } from "./graph_checks.js";
-import type { Run } from "./run.js";
 
 /** Without the findings that are known; `keys` are those of the others */
 type Found = Answer & { question: string, keys: string[] };

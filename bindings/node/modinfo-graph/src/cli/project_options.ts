@@ -7,8 +7,7 @@ import { resolve as absolute, sep } from "node:path";
 
 import { readRegularFile } from "../files/regular_file.js";
 import { realPath } from "../files/urls.js";
-import { UsageFault } from "./command_line.js";
-import type { Values, Words } from "./command_line.js";
+import { UsageFault, type Values, type Words } from "./command_line.js";
 
 /** The most bytes of a package.json: 4 MiB. */
 const MAX_BYTES = 4 * 2 ** 20;

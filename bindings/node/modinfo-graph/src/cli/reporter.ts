@@ -1,11 +1,10 @@
 /** What is printed on the error output while files are read. */
 
 import { readRegularFile } from "../files/regular_file.js";
-import { describeFault } from "../runtime/faults.js";
+import { type Fault, describeFault } from "../runtime/faults.js";
 import { printable } from "../runtime/printable.js";
 import { UsageFault } from "./command_line.js";
 import type { FileResult } from "../files/read_files.js";
-import type { Fault } from "../runtime/faults.js";
 
 const ENDINGS = ".js, .mjs, .cjs, .jsx, .ts, .mts, .cts or .tsx";
 

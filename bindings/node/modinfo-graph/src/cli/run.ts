@@ -4,16 +4,12 @@ import { resolve as absolute } from "node:path";
 import { Readable } from "node:stream";
 
 import { exclusionsOf } from "../files/exclusions.js";
-import { findFiles, readPaths } from "../files/find_files.js";
-import { readFiles } from "../files/read_files.js";
-import { readProject } from "../graph/read_graph.js";
-import { flags, readJobs } from "./command_line.js";
+import { type Found, findFiles, readPaths } from "../files/find_files.js";
+import { type FileResult, readFiles } from "../files/read_files.js";
+import { type ProjectGraph, type ReadFile, readProject } from "../graph/read_graph.js";
+import { type Values, flags, readJobs } from "./command_line.js";
 import { FileReporter } from "./reporter.js";
-import type { Found } from "../files/find_files.js";
-import type { FileResult } from "../files/read_files.js";
-import type { ProjectGraph, ReadFile } from "../graph/read_graph.js";
 import type { ResolverOptions } from "../graph/resolver.js";
-import type { Values } from "./command_line.js";
 
 const [text, texts] = [{ type: "string" }, { type: "string", multiple: true }] as const;
 

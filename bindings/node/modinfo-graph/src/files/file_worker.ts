@@ -1,8 +1,7 @@
 /** A thread that analyzes files by the WebAssembly module as `modinfo files` does, with its messages. */
 
-import { realpathSync } from "node:fs";
+import { type Stats, realpathSync } from "node:fs";
 import { parentPort, workerData } from "node:worker_threads";
-import type { Stats } from "node:fs";
 
 import { Core } from "modinfo/internal/core/instance.cjs";
 import { messageOf } from "modinfo/internal/core/plans.cjs";

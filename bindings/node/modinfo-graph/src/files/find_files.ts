@@ -1,8 +1,7 @@
 /** Finds the files that paths name. */
 
-import { readdirSync, statSync } from "node:fs";
+import { type Dirent, type Stats, readdirSync, statSync } from "node:fs";
 import { dirname, join, sep } from "node:path";
-import type { Dirent, Stats } from "node:fs";
 
 import { FileFault } from "../runtime/faults.js";
 import { isComponent, isModule, isPage } from "./file_kinds.js";

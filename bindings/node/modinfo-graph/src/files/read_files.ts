@@ -1,9 +1,9 @@
 /** Reads many files at once, by `modinfo files` or by the WebAssembly module. */
 
 import { onAbort } from "../runtime/abort_signals.js";
-import { FileFault, faultOf } from "../runtime/faults.js";
+import { type Fault, FileFault, faultOf } from "../runtime/faults.js";
 import { inOrder } from "../runtime/in_order.js";
-import { Pool } from "../runtime/pool.js";
+import { type Answer, Pool } from "../runtime/pool.js";
 import { processesOf } from "../runtime/processes.js";
 import { isModule } from "./file_kinds.js";
 import { isWasm } from "./program.js";
@@ -11,8 +11,6 @@ import { Texts } from "./texts.js";
 import { threadsOf } from "./threads.js";
 import { realPath } from "./urls.js";
 import type { ModuleInfo, Signal } from "modinfo";
-import type { Fault } from "../runtime/faults.js";
-import type { Answer } from "../runtime/pool.js";
 import type { Found } from "./find_files.js";
 
 export interface ReadOptions {

@@ -9,10 +9,9 @@ import { join, resolve as absolute } from "node:path";
 import { memoized } from "../files/by_folder.js";
 import { isDeclaration } from "../files/file_kinds.js";
 import { isPath, pathOf } from "./names.js";
-import { fileAt, firstOf } from "./node_rules.js";
+import { type Found, fileAt, firstOf } from "./node_rules.js";
 import { isObject } from "./package_targets.js";
 import type { RegularFiles } from "../files/regular_files.js";
-import type { Found } from "./node_rules.js";
 import type { Manifest, PackageManifests } from "./package_manifests.js";
 
 const SCRIPT_ENDINGS = [".js", ".jsx", ".mjs"];

@@ -8,11 +8,10 @@ import { isReport } from "../files/report_pages.js";
 import { urlOfPath } from "../files/urls.js";
 import { FileFault, faultOf } from "../runtime/faults.js";
 import { positionsIn } from "./positions.js";
-import { scriptsOf } from "./scripts.js";
+import { type Source, scriptsOf } from "./scripts.js";
 import type { DependencyDescriptor, ModuleInfo } from "modinfo";
 import type { FileResult } from "../files/read_files.js";
 import type { Texts } from "../files/texts.js";
-import type { Source } from "./scripts.js";
 
 /** The most bytes of a component or a page. */
 const MOST_BYTES = 2 ** 24;

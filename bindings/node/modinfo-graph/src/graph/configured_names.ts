@@ -7,10 +7,9 @@ import { isBuiltin } from "node:module";
 import { dirname, join, relative, sep } from "node:path";
 
 import { withoutEnding } from "../files/file_kinds.js";
-import { outDirsOf } from "./configurations.js";
+import { type Configuration, type Configurations, type Options, outDirsOf } from "./configurations.js";
 import { isPath, pathOf } from "./names.js";
 import { longestPattern } from "./package_targets.js";
-import type { Configuration, Configurations, Options } from "./configurations.js";
 import type { Configured, ImportMaps } from "./import_maps.js";
 import type { Format, PackageManifests } from "./package_manifests.js";
 

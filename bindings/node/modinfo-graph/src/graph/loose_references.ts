@@ -4,9 +4,8 @@
  */
 
 import { isModule } from "../files/file_kinds.js";
-import { LONGEST_TEXT, templateParts } from "./literals.js";
+import { LONGEST_TEXT, type LooseReference, type Parts, templateParts } from "./literals.js";
 import type { ReasonKind } from "./graph.cjs";
-import type { LooseReference, Parts } from "./literals.js";
 
 /** What a call names; `isEnded` if names count that have the ending of a module. */
 type What = Pick<LooseReference, "kind" | "isFile"> & { form?: LooseReference["form"], isEnded?: boolean };

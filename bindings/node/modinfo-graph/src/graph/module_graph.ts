@@ -5,9 +5,8 @@ import { isDeclaration, isPage, isTypeScript } from "../files/file_kinds.js";
 import { cyclesOf } from "./cycles.js";
 import { isAlias, isPath } from "./names.js";
 import { wayTo, ways } from "./reach.js";
-import { counts, edgesOf } from "./references.js";
+import { type Counted, counts, edgesOf } from "./references.js";
 import type { Cycle, Edge, Ends, GraphModule, Mention, Reference, Step } from "./graph.cjs";
-import type { Counted } from "./references.js";
 
 export class ModuleGraph {
   #counted;

@@ -3,9 +3,8 @@
 import { dirname, join } from "node:path";
 
 import { isPage } from "../files/file_kinds.js";
-import { plainGlob } from "./literals.js";
+import { type LooseReference, type Parts, plainGlob } from "./literals.js";
 import { isPath, isRelative, tailOf } from "./names.js";
-import type { LooseReference, Parts } from "./literals.js";
 import type { Candidates } from "./name_patterns.js";
 import type { Resolver } from "./resolver.js";
 

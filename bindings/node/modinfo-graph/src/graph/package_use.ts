@@ -7,13 +7,11 @@ import { memoized } from "../files/by_folder.js";
 import { RegularFiles } from "../files/regular_files.js";
 import { urlOfPath } from "../files/urls.js";
 import { packageOf } from "./names.js";
-import { PackageManifests } from "./package_manifests.js";
-import { packageReasons, packagesIn, typesOf } from "./package_reasons.js";
+import { type Manifest, PackageManifests } from "./package_manifests.js";
+import { type PackageReason, packageReasons, packagesIn, typesOf } from "./package_reasons.js";
 import { projectsOf } from "./projects.js";
 import type { Ends, Mention, Reference } from "./graph.cjs";
 import type { ModuleGraph } from "./module_graph.js";
-import type { Manifest } from "./package_manifests.js";
-import type { PackageReason } from "./package_reasons.js";
 
 /** `manifest` is the URL of the nearest package.json, `by` has a reference of each file */
 export type Unlisted = { package: string, manifest?: string, by: Mention[] };

@@ -5,23 +5,18 @@ import { fileURLToPath } from "node:url";
 
 import { exclusionsOf } from "../files/exclusions.js";
 import { isComponent, isDeclaration, isModule, isPage } from "../files/file_kinds.js";
-import { findFiles } from "../files/find_files.js";
-import { readFiles } from "../files/read_files.js";
+import { type Found, findFiles } from "../files/find_files.js";
+import { type FileResult, type ReadOptions, readFiles } from "../files/read_files.js";
 import { readComponent } from "./components.js";
 import { entryPoints } from "./entry_points.js";
 import { ModuleGraph } from "./module_graph.js";
-import { canonicalUrls } from "./reach.js";
-import { counts, referencesOf } from "./references.js";
-import { Resolver } from "./resolver.js";
+import { type KeyOf, canonicalUrls } from "./reach.js";
+import { type Counted, counts, referencesOf } from "./references.js";
+import { Resolver, type ResolverOptions } from "./resolver.js";
 import type { ModuleInfo } from "modinfo";
-import type { Found } from "../files/find_files.js";
-import type { FileResult, ReadOptions } from "../files/read_files.js";
 import type { Texts } from "../files/texts.js";
 import type { Ends, GraphModule, ResolveHook } from "./graph.cjs";
-import type { KeyOf } from "./reach.js";
 import type { Project } from "./reasons.js";
-import type { Counted } from "./references.js";
-import type { ResolverOptions } from "./resolver.js";
 
 export interface ReadFile extends Pick<FileResult, "path" | "isLeft" | "fault"> {
   /** The file's `ModuleInfo`, in which each object that names a module has `resolved`; none with a fault */

@@ -11,7 +11,7 @@ import { readRegularFile } from "../files/regular_file.js";
 import { isReport } from "../files/report_pages.js";
 import { urlOfPath } from "../files/urls.js";
 import { loaderOf } from "./conventions.js";
-import { commentsOf, literalOf, literalsOf } from "./literals.js";
+import { type Parts, commentsOf, literalOf, literalsOf } from "./literals.js";
 import { looseCalls, looseImports } from "./loose_references.js";
 import { Candidates } from "./name_patterns.js";
 import { filesNamed } from "./named_paths.js";
@@ -21,7 +21,6 @@ import { isRunKind } from "./references.js";
 import { searchedText } from "./scripts.js";
 import type { Perhaps } from "./entry_points.js";
 import type { Ends, GraphModule, Reason, Reference } from "./graph.cjs";
-import type { Parts } from "./literals.js";
 import type { ModuleGraph } from "./module_graph.js";
 import type { Resolver } from "./resolver.js";
 

@@ -4,11 +4,10 @@ import { resolve as absolute } from "node:path";
 import { fileURLToPath } from "node:url";
 
 import { checkKnown } from "../runtime/call_options.js";
-import { Resolver } from "./resolver.js";
+import { Resolver, type ResolverOptions } from "./resolver.js";
 import type { ModuleInfo, Url } from "modinfo";
 import type { ResolveOptions, ResolverOptions as Options } from "../options.cjs";
 import type { ResolvedModuleInfo } from "./graph.cjs";
-import type { ResolverOptions } from "./resolver.js";
 
 /** The path is the module's, absolute. */
 type Task = { info: ModuleInfo, path: string, options: ResolverOptions };

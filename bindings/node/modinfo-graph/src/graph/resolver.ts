@@ -7,26 +7,21 @@ import { memoized } from "../files/by_folder.js";
 import {
   declarationOf, globalFolders, isAsset, isDeclaration, isInstalled, isTypeScript,
 } from "../files/file_kinds.js";
-import { RegularFiles } from "../files/regular_files.js";
+import { RegularFiles, type System } from "../files/regular_files.js";
 import { urlOfPath } from "../files/urls.js";
-import { Configurations } from "./configurations.js";
+import { Configurations, type Options } from "./configurations.js";
 import { ConfiguredNames } from "./configured_names.js";
 import { ImportMaps } from "./import_maps.js";
 import { packageOf, schemeOf } from "./names.js";
 import { fileAt } from "./node_rules.js";
-import { PackageManifests } from "./package_manifests.js";
+import { type Format as Mode, PackageManifests } from "./package_manifests.js";
 import { isObject } from "./package_targets.js";
 import { projectsOf } from "./projects.js";
-import { namedBy } from "./references.js";
-import { Search } from "./search.js";
+import { type Named, type Syntax, namedBy } from "./references.js";
+import { type Importer, type Name, type Run, Search } from "./search.js";
 import { TypeScriptTypes } from "./typescript_types.js";
 import type { ModuleInfo, PositionRange } from "modinfo";
-import type { System } from "../files/regular_files.js";
-import type { Options } from "./configurations.js";
 import type { Resolution, Rules } from "./graph.cjs";
-import type { Format as Mode } from "./package_manifests.js";
-import type { Named, Syntax } from "./references.js";
-import type { Importer, Name, Run } from "./search.js";
 
 /** The most characters of a name. */
 const MAX_LENGTH = 4096;

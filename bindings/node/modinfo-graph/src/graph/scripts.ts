@@ -6,9 +6,8 @@
 import { extname } from "node:path";
 
 import { isComponent, isPage, mediaTypeOfLanguage, mediaTypeOfMime } from "../files/file_kinds.js";
-import { scriptTags } from "./tags.js";
+import { type Range, scriptTags } from "./tags.js";
 import type { MediaType } from "modinfo";
-import type { Range } from "./tags.js";
 
 /** The `src` of a script, with the range of its quotes. */
 export type Source = Range & { name: string };

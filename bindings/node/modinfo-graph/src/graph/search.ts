@@ -9,18 +9,16 @@ import { dirname, join, relative, resolve as absolute } from "node:path";
 
 import { isDeclaration, isTypeScript, withoutEnding } from "../files/file_kinds.js";
 import { pathOfUrl, urlOfFolder } from "../files/urls.js";
-import { BundlerRules, plainNames } from "./bundler_rules.js";
+import { BundlerRules, type Source, plainNames } from "./bundler_rules.js";
 import { isPath, isRelative, packageOf, pathOf, schemeOf } from "./names.js";
-import { NodeRules } from "./node_rules.js";
+import { type Found, type Missing, NodeRules } from "./node_rules.js";
 import { PackageFolders } from "./package_folders.js";
 import { allExports, allImports } from "./package_targets.js";
 import { Workspaces } from "./workspaces.js";
 import type { RegularFiles } from "../files/regular_files.js";
-import type { Source } from "./bundler_rules.js";
 import type { ConfiguredNames } from "./configured_names.js";
 import type { Resolution, Rules } from "./graph.cjs";
 import type { Configured } from "./import_maps.js";
-import type { Found, Missing } from "./node_rules.js";
 import type { Format as Mode, PackageManifests } from "./package_manifests.js";
 import type { Syntax } from "./references.js";
 

@@ -4,10 +4,9 @@
  */
 
 import { describedBeside, isDeclaration } from "../files/file_kinds.js";
-import { reasonsOf } from "./reasons.js";
+import { type Project, reasonsOf } from "./reasons.js";
 import type { Mention, Reason, Unreached } from "./graph.cjs";
 import type { ModuleGraph } from "./module_graph.js";
-import type { Project } from "./reasons.js";
 
 /** @param listed the keys of the modules that are asked about, in whose order the lists are */
 export function unreachedOf(graph: ModuleGraph, listed: string[], project: Project): Unreached {

@@ -3,12 +3,11 @@
 import { element } from "./elements.js";
 import { moduleLook } from "./graph_nodes.js";
 import { sceneWith } from "./graph_scene.js";
-import { graphFrame, planOfScene, roomIn, showFault, showPlan } from "./graph_view.js";
+import { type Frame, graphFrame, planOfScene, roomIn, showFault, showPlan } from "./graph_view.js";
 import { labelsOf } from "./labels.js";
 import { counted, kindLabel, moduleLink, nameLabel } from "./pieces.js";
 import { report } from "./report.js";
 import type { Found } from "../lists.js";
-import type { Frame } from "./graph_view.js";
 
 /** What isn't known of some cycles. */
 const OF_TYPES = "It has imports of TypeScript files; a compiler removes those that name types alone, and then " +

@@ -1,10 +1,9 @@
 /** A drawing as SVG. */
 
 import { drawn } from "./elements.js";
-import { kindsText, strongestKind } from "./graph_kinds.js";
+import { type KindCounts, kindsText, strongestKind } from "./graph_kinds.js";
 import { kindNamed, report } from "./report.js";
 import type { CycleKind } from "./cycles.js";
-import type { KindCounts } from "./graph_kinds.js";
 import type { Look } from "./graph_tree.js";
 
 export interface Plan {

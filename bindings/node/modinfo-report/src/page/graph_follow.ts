@@ -4,10 +4,9 @@
  */
 
 import { drawnEnds, eachPair } from "./graph_edges.js";
-import { eachModuleOf } from "./graph_tree.js";
+import { type Item, eachModuleOf } from "./graph_tree.js";
 import { eachImporter } from "./report.js";
 import type { Scene } from "./graph_scene.js";
-import type { Item } from "./graph_tree.js";
 
 export function followPointer(drawing: SVGElement, scene: Scene) {
   const items = new Map<string, Item>();

@@ -1,11 +1,10 @@
 /** The legend of a graph: its kinds of edges, of which a click hides one, and its states of modules. */
 
-import { CYCLES } from "./cycles.js";
+import { CYCLES, type CycleKind } from "./cycles.js";
 import { drawn, element } from "./elements.js";
 import { hiddenKinds } from "./graph_kinds.js";
 import { moduleStates, report, stateTitle } from "./report.js";
 import type { ShownKind } from "../page_data.js";
-import type { CycleKind } from "./cycles.js";
 import type { Plan } from "./graph_drawing.js";
 
 /** The states of modules that are drawn, in the order of the legend. */

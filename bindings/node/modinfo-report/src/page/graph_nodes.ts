@@ -2,11 +2,10 @@
 
 import { cycleOf } from "./cycles.js";
 import { shortLabel } from "./graph_layout.js";
-import { eachModuleOf } from "./graph_tree.js";
+import { type Item, type Look, eachModuleOf } from "./graph_tree.js";
 import { counted, hashOf, weightText } from "./pieces.js";
 import { moduleStates, paths, report, visible } from "./report.js";
 import type { Folder } from "./folders.js";
-import type { Item, Look } from "./graph_tree.js";
 
 export function lookOf(item: Item): Look {
   if (item.look) {

@@ -1,10 +1,8 @@
 /** The items and edges of a drawing: of a folder and of its neighbours. */
 
-import { chainOf, root } from "./folders.js";
-import { edgesIn, leavesOf } from "./graph_edges.js";
+import { type Folder, chainOf, root } from "./folders.js";
+import { type DrawnEdge, edgesIn, leavesOf } from "./graph_edges.js";
 import { boxOf, boxWith, eachModuleOf, folderIn, folderItem, itemsIn, moreItem, ownItems } from "./graph_tree.js";
-import type { Folder } from "./folders.js";
-import type { DrawnEdge } from "./graph_edges.js";
 import type { Item, Look } from "./graph_tree.js";
 
 /** Bounds that are tried: the most items, and the most modules of one folder. */

@@ -3,8 +3,7 @@
  * inside, as long as there aren't too many items.
  */
 
-import { eachModuleBelow } from "./folders.js";
-import type { Folder } from "./folders.js";
+import { type Folder, eachModuleBelow } from "./folders.js";
 
 export interface Look {
   href: string;

@@ -1,25 +1,19 @@
 /** The graph of a folder, and functions that all graphs use. */
 
 import { element } from "./elements.js";
-import { fadeGraph } from "./filter.js";
-import { chainOf, root } from "./folders.js";
-import { draw } from "./graph_drawing.js";
+import { type Matches, fadeGraph } from "./filter.js";
+import { type Folder, chainOf, root } from "./folders.js";
+import { type Plan, type PlannedEdge, type PlannedNode, draw } from "./graph_drawing.js";
 import { followPointer } from "./graph_follow.js";
 import { listenInGraph } from "./graph_keys.js";
 import { askLayout, sizeOfLabel, widthOf } from "./graph_layout.js";
 import { hideEdges, legend, partsOfPlan } from "./graph_legend.js";
-import { Mover, fitScale, heightFor } from "./graph_move.js";
+import { Mover, type Size, fitScale, heightFor } from "./graph_move.js";
 import { lookOf } from "./graph_nodes.js";
-import { boxesOf, sceneOf } from "./graph_scene.js";
-import { folderIn, itemsIn } from "./graph_tree.js";
+import { type Scene, boxesOf, sceneOf } from "./graph_scene.js";
+import { type Item, type Look, folderIn, itemsIn } from "./graph_tree.js";
 import { counted, nameText } from "./pieces.js";
 import { report } from "./report.js";
-import type { Matches } from "./filter.js";
-import type { Folder } from "./folders.js";
-import type { Plan, PlannedEdge, PlannedNode } from "./graph_drawing.js";
-import type { Size } from "./graph_move.js";
-import type { Scene } from "./graph_scene.js";
-import type { Item, Look } from "./graph_tree.js";
 import type { Given, Layout } from "./layout_boxes.js";
 
 /** The least scale at which labels can be read: their letters have 12 pixels at the scale 1, and 11 then. */

@@ -2,9 +2,9 @@
 
 import { cycleView } from "./cycle_view.js";
 import { element, nextTask } from "./elements.js";
-import { folders, root } from "./folders.js";
+import { type Folder, folders, root } from "./folders.js";
 import { showHidden } from "./graph_legend.js";
-import { graphView } from "./graph_view.js";
+import { type Figure, graphView } from "./graph_view.js";
 import { largeFolderView } from "./large_view.js";
 import { listsView, summaryView } from "./lists_view.js";
 import { matrixView } from "./matrix_view.js";
@@ -16,8 +16,6 @@ import { paths, report, visible } from "./report.js";
 import { longList } from "./reveal.js";
 import { sizesView } from "./sizes_view.js";
 import type { Matches } from "./filter.js";
-import type { Folder } from "./folders.js";
-import type { Figure } from "./graph_view.js";
 
 /** A number or a name in an address. */
 type Word = number | string;

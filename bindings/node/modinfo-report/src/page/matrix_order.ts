@@ -3,13 +3,11 @@
  * so that marks on the other side of the diagonal are edges between folders or of cycles.
  */
 
-import { cycleOfEdge, strongerCycle } from "./cycles.js";
+import { type CycleKind, cycleOfEdge, strongerCycle } from "./cycles.js";
 import { eachPair } from "./graph_edges.js";
-import { countKind } from "./graph_kinds.js";
+import { type KindCounts, countKind } from "./graph_kinds.js";
 import { report } from "./report.js";
-import type { CycleKind } from "./cycles.js";
 import type { Folder } from "./folders.js";
-import type { KindCounts } from "./graph_kinds.js";
 
 /** An edge from the module of a row to that of a column */
 export interface Mark {

@@ -2,20 +2,16 @@
 
 import { CYCLES } from "./cycles.js";
 import { element } from "./elements.js";
-import { hiddenKinds, kindsText, strongestKind } from "./graph_kinds.js";
+import { type KindCounts, hiddenKinds, kindsText, strongestKind } from "./graph_kinds.js";
 import { shortLabel } from "./graph_layout.js";
 import { legend } from "./graph_legend.js";
-import { Mover } from "./graph_move.js";
-import { crumbs, graphFrame, roomIn, showMoved } from "./graph_view.js";
-import { matrixOf } from "./matrix_order.js";
+import { Mover, type Placing } from "./graph_move.js";
+import { type Frame, crumbs, graphFrame, roomIn, showMoved } from "./graph_view.js";
+import { type Band, type Mark, type Matrix, matrixOf } from "./matrix_order.js";
 import { counted, hashOf } from "./pieces.js";
 import { eachEdge, paths, report, visible } from "./report.js";
 import type { Matches } from "./filter.js";
 import type { Folder } from "./folders.js";
-import type { KindCounts } from "./graph_kinds.js";
-import type { Placing } from "./graph_move.js";
-import type { Frame } from "./graph_view.js";
-import type { Band, Mark, Matrix } from "./matrix_order.js";
 
 /** Lengths at the scale 1: of a cell, and of the names before the rows and above the columns. */
 const CELL = 14;

@@ -5,15 +5,13 @@ import { folderOf } from "./folders.js";
 import { eachPair } from "./graph_edges.js";
 import { hiddenKinds } from "./graph_kinds.js";
 import { moduleLook, moreLook } from "./graph_nodes.js";
-import { sceneWith } from "./graph_scene.js";
+import { type Scene, sceneWith } from "./graph_scene.js";
 import { moreItem } from "./graph_tree.js";
-import { crumbs, graphFrame, planOfScene, roomIn, showFault, showPlan } from "./graph_view.js";
+import { type Frame, crumbs, graphFrame, planOfScene, roomIn, showFault, showPlan } from "./graph_view.js";
 import { labelsOf } from "./labels.js";
 import { counted, hashOf, nameText } from "./pieces.js";
 import { eachImporter, report } from "./report.js";
 import type { Plan } from "./graph_drawing.js";
-import type { Scene } from "./graph_scene.js";
-import type { Frame } from "./graph_view.js";
 
 /** The counts of modules of a step that are tried, the most first; all others of a step are one item. */
 const MOST_OF_STEP = [24, 16, 11, 7, 5];

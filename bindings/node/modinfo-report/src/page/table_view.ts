@@ -2,12 +2,11 @@
 
 import { element } from "./elements.js";
 import { hashOf, kindLabel, moduleLink, nameLabel, targetLabel } from "./pieces.js";
-import { importers, report } from "./report.js";
+import { type Importer, importers, report } from "./report.js";
 import { longList } from "./reveal.js";
 import type { ImportAttributes } from "modinfo";
 import type { Target } from "../links.js";
 import type { RowDetails } from "../page_data.js";
-import type { Importer } from "./report.js";
 
 /** Names in a `ModuleInfo` that repeat the kind. */
 const PLAIN = new Set(["import", "require", "JSDoc import"]);

@@ -4,8 +4,7 @@ import { detailsOf } from "./details.js";
 import { element } from "./elements.js";
 import { kindLabel, moduleLink, nameLabel } from "./pieces.js";
 import { kindRuns, report } from "./report.js";
-import { wayTo } from "./ways.js";
-import type { Step } from "./ways.js";
+import { type Step, wayTo } from "./ways.js";
 
 export function wayView(module: number): HTMLElement {
   const way = wayTo(module);
