@@ -7,7 +7,7 @@ import { test } from "node:test";
 import { fileURLToPath } from "node:url";
 
 import { matchesName, matchesPath } from "../modinfo-graph/dist/files/wildcards.js";
-import { parseWithComments } from "../modinfo-graph/dist/graph/json_with_comments.js";
+import { parseWithComments } from "../modinfo-graph/dist/graph/members.js";
 import { Resolver } from "../modinfo-graph/dist/graph/resolver.js";
 import { folderOf } from "./run_commands.mjs";
 

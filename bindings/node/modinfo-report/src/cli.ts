@@ -13,8 +13,8 @@ import { withProjectOptions } from "modinfo-graph/internal/cli/project_options.j
 import { ENTRY_HELP, RESOLUTION_HELP, RUN_OPTIONS, readRun } from "modinfo-graph/internal/cli/run.js";
 import { PROGRAM_HELP, checkProgram, modinfoPath } from "modinfo-graph/internal/files/program.js";
 import { isReplaceable, placeOf, replaceFile } from "modinfo-graph/internal/files/replace_file.js";
-import { isReport } from "modinfo-graph/internal/files/report_pages.js";
 import { dotText, isDot } from "modinfo-graph/internal/graph/pictures.js";
+import { isReport } from "modinfo-graph/internal/graph/scripts.js";
 import { unledOf, unreachedOf } from "modinfo-graph/internal/graph/unreached.js";
 import { systemMessage } from "modinfo-graph/internal/runtime/faults.js";
 import { printable, printableLines } from "modinfo-graph/internal/runtime/printable.js";

@@ -1,9 +1,9 @@
 /** The page, in one file that loads nothing. */
 
 import { createHash } from "node:crypto";
+import { readFileSync } from "node:fs";
 import { deflateSync } from "node:zlib";
 
-import { readOwnFile } from "modinfo-graph/internal/files/own_files.js";
 import { KINDS } from "modinfo-graph/internal/graph/kinds.js";
 import type { Library } from "./libraries.js";
 import type { Details, Index } from "./page_data.js";
@@ -27,7 +27,7 @@ const LAYOUT_SCRIPTS = ["layout_grid.js", "layout_curves.js", "layout_boxes.js",
 export function pageOf(index: Omit<Index, "absent">, parts: Iterable<Details[]>, libraries: Library[]): string {
   const [layout, sizes] = libraries;
   const script = `${sizes.text ? `${sizes.text}\n` : ""}${scriptOf(SCRIPTS)}`;
-  const style = `${colours()}${readOwnFile(new URL("../style.css", import.meta.url))}`;
+  const style = `${colours()}${read("../style.css")}`;
   const policy = [
     "default-src 'none'", `script-src '${hash(script)}'`, `style-src '${hash(style)}'`,
     "worker-src blob:", "require-trusted-types-for 'script'", "trusted-types layout",
@@ -57,8 +57,7 @@ ${[...parts].map((part, at) => partElement(part, at)).join("\n")}
 /** Joins modules to one script. */
 function scriptOf(names: string[]): string {
   const parts = names.map((name) => {
-    const text = read(name);
-    return text.replace(/^import [^;]*;\n/gm, "").replace(/^export /gm, "");
+    return read(`./page/${name}`).replace(/^import [^;]*;\n/gm, "").replace(/^export /gm, "");
   });
   return `\n${parts.join("\n")}`;
 }
@@ -90,8 +89,9 @@ ${classes}
 `;
 }
 
-function read(name: string) {
-  return readOwnFile(new URL(`./page/${name}`, import.meta.url));
+/** @param path from here */
+function read(path: string) {
+  return readFileSync(new URL(path, import.meta.url), "utf8");
 }
 
 function hash(text: string) {

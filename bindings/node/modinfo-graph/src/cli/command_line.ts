@@ -1,9 +1,9 @@
 /** What the commands share: their words, and how they end. */
 
+import { readFileSync } from "node:fs";
 import { type ParseArgsConfig, parseArgs } from "node:util";
 
 import { GlobFault } from "../files/globs.js";
-import { readOwnFile } from "../files/own_files.js";
 import { programName } from "../files/program.js";
 import { EntryFault } from "../graph/entry_points.js";
 import { readJobs as processors } from "../runtime/call_options.js";
@@ -94,7 +94,7 @@ async function printHelp(name: string, help: string, { values }: Words) {
     await writeOutput(help);
   } else if (values.version) {
     const own = new URL("../../package.json", import.meta.url);
-    const { version } = JSON.parse(readOwnFile(own));
+    const { version } = JSON.parse(readFileSync(own, "utf8"));
     await writeOutput(`${name} ${version} (${printable(programName())})\n`);
   }
   return Boolean(values.help || values.version);

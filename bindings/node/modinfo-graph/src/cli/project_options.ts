@@ -7,6 +7,7 @@ import { resolve as absolute, sep } from "node:path";
 
 import { readRegularFile } from "../files/regular_file.js";
 import { realPath } from "../files/urls.js";
+import { unlessThrown } from "../runtime/faults.js";
 import { UsageFault, type Values, type Words } from "./command_line.js";
 
 /** The most bytes of a package.json: 4 MiB. */
@@ -57,13 +58,9 @@ export function withProjectOptions<V extends Values>(
 }
 
 function readMember(): object {
-  try {
-    const { modinfo } = JSON.parse(String(readRegularFile("package.json", MAX_BYTES)));
-    return typeof modinfo === "object" ? modinfo ?? {} : {};
-  } catch {
-    // There is none, or it is no JSON: the resolution of names warns of that.
-    return {};
-  }
+  // Where there is no package.json, or it is no JSON, the resolution of names warns of that.
+  const modinfo = unlessThrown(() => JSON.parse(String(readRegularFile("package.json", MAX_BYTES))).modinfo);
+  return typeof modinfo === "object" ? modinfo ?? {} : {};
 }
 
 function valueOf(name: string, value: unknown): unknown {

@@ -1,7 +1,7 @@
 /** What is printed on the error output while files are read. */
 
 import { readRegularFile } from "../files/regular_file.js";
-import { type Fault, describeFault } from "../runtime/faults.js";
+import { type Fault, describeFault, unlessThrown } from "../runtime/faults.js";
 import { printable } from "../runtime/printable.js";
 import { UsageFault } from "./command_line.js";
 import type { FileResult } from "../files/read_files.js";
@@ -101,14 +101,11 @@ function excerptLines(path: string, { line, column = 1 }: Fault): string[] {
   if (line === undefined) {
     return [];
   }
-  try {
-    const characters = [...readRegularFile(path).toString().split("\n", line)[line - 1]];
-    const from = Math.max(0, column - 1 - AROUND);
-    const before = printable(characters.slice(from, column - 1).join(""));
-    const rest = printable(characters.slice(column - 1, column - 1 + AROUND).join("").replace(/\r$/, ""));
-    return [`  | ${before}${rest}`, `  | ${before.replace(/[^\t]/g, " ")}^`];
-  } catch {
-    // The file has changed.
-    return [];
-  }
+  // A file that has changed has no such line.
+  const text = unlessThrown(() => String(readRegularFile(path)).split("\n", line)[line - 1]);
+  const characters = [...text ?? ""];
+  const from = Math.max(0, column - 1 - AROUND);
+  const before = printable(characters.slice(from, column - 1).join(""));
+  const rest = printable(characters.slice(column - 1, column - 1 + AROUND).join("").replace(/\r$/, ""));
+  return text === undefined ? [] : [`  | ${before}${rest}`, `  | ${before.replace(/[^\t]/g, " ")}^`];
 }

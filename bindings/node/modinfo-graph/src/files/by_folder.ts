@@ -2,21 +2,14 @@
 
 import { dirname } from "node:path";
 
-/**
- * @param known what is remembered
- * @returns like the function, which is called once for each key
- */
-export function memoized<Key, Value>(
-  make: (key: Key) => Value, known: Map<Key, Value> = new Map(),
-): (key: Key) => Value {
+/** @returns like the function, which is called once for each key */
+export function memoized<Key, Value>(make: (key: Key) => Value): (key: Key) => Value {
+  const known = new Map<Key, Value>();
   return (key) => {
-    const value = known.get(key);
-    if (value !== undefined || known.has(key)) {
-      return value as Value;
+    if (!known.has(key)) {
+      known.set(key, make(key));
     }
-    const made = make(key);
-    known.set(key, made);
-    return made;
+    return known.get(key) as Value;
   };
 }
 
@@ -36,20 +29,12 @@ export function foldersFrom(folder: string): string[] {
 export function nearest<Value>(
   find: (folder: string) => Value | null | undefined,
 ): (folder: string) => Value | undefined {
-  const known = new Map<string, Value | undefined>();
-  return memoized((folder) => {
-    const passed: string[] = [];
-    let found: Value | null | undefined;
-    for (const each of foldersFrom(folder)) {
-      found = known.has(each) ? known.get(each) ?? null : find(each);
-      passed.push(each);
-      if (found !== undefined) {
-        break;
-      }
-    }
-    passed.forEach((each) => known.set(each, found ?? undefined));
-    return found ?? undefined;
-  }, known);
+  const of: (folder: string) => Value | undefined = memoized((folder) => {
+    const found = find(folder);
+    const above = dirname(folder);
+    return found === undefined && above !== folder ? of(above) : found ?? undefined;
+  });
+  return of;
 }
 
 /**
@@ -59,13 +44,9 @@ export function nearest<Value>(
 export function inherited<Value>(
   make: (folder: string, above: Value | undefined) => Value,
 ): (folder: string) => Value {
-  const known = new Map<string, Value>();
-  return memoized((folder) => {
-    let above: Value | undefined;
-    for (const each of foldersFrom(folder).reverse()) {
-      above = known.has(each) ? known.get(each) : make(each, above);
-      known.set(each, above as Value);
-    }
-    return above as Value;
-  }, known);
+  const of: (folder: string) => Value = memoized((folder) => {
+    const above = dirname(folder);
+    return make(folder, above === folder ? undefined : of(above));
+  });
+  return of;
 }

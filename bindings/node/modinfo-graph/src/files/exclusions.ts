@@ -1,9 +1,10 @@
 /** Which files are left out: those that globs match, and those that git ignores. */
 
 import { execFile } from "node:child_process";
-import { dirname, join, relative, resolve as absolute, sep } from "node:path";
+import { join, relative, resolve as absolute, sep } from "node:path";
 import { promisify } from "node:util";
 
+import { inherited } from "./by_folder.js";
 import { foldersOf } from "./find_files.js";
 import { globMatcher } from "./globs.js";
 
@@ -56,13 +57,7 @@ export function pathMatcher(globs: string[]): IsOut {
 
 /** True for what is in such a folder too. `isAny` is whether any path is out. */
 function withFolders(isNamed: IsOut, isAny: boolean): IsOut {
-  const known = new Map<string, boolean>();
-  const isOut: IsOut = (path) => {
-    const folder = dirname(path);
-    const found = known.get(path) ?? (isNamed(path) || (folder !== path && isOut(folder)));
-    known.set(path, found);
-    return found;
-  };
+  const isOut = inherited<boolean>((path, isFolderOut) => isFolderOut || isNamed(path));
   return isAny ? (path) => isOut(absolute(path)) : () => false;
 }
 

@@ -1,9 +1,9 @@
 /** Finds the files that paths name. */
 
-import { type Dirent, type Stats, readdirSync, statSync } from "node:fs";
+import { type Dirent, readdirSync, statSync } from "node:fs";
 import { dirname, join, sep } from "node:path";
 
-import { FileFault } from "../runtime/faults.js";
+import { FileFault, unlessThrown } from "../runtime/faults.js";
 import { isComponent, isModule, isPage } from "./file_kinds.js";
 import { realPath } from "./urls.js";
 
@@ -131,15 +131,6 @@ function realPaths(paths: string[]): string[] {
   return paths.flatMap((path) => realPath(path) ?? []);
 }
 
-/** @returns nothing where it leads to nothing */
-function statusOf(path: string): Stats | undefined {
-  try {
-    return statSync(path);
-  } catch {
-    return undefined;
-  }
-}
-
 /** @returns true also where that can't be found out */
 function isThere(path: string): boolean {
   try {
@@ -148,6 +139,9 @@ function isThere(path: string): boolean {
     return (error as NodeJS.ErrnoException).code !== "ERR_INVALID_ARG_VALUE";
   }
 }
+
+/** @returns nothing where it leads to nothing */
+const statusOf = (path: string) => unlessThrown(() => statSync(path));
 
 /** @returns false also where nothing is there */
 export function isFolder(path: string): boolean {

@@ -1,6 +1,5 @@
 /** The files of this package itself, and of the packages that are installed for it. */
 
-import { readFileSync } from "node:fs";
 import { createRequire } from "node:module";
 
 /** The folder of Debian's packages. Debian's node looks for modules there, others don't. */
@@ -21,9 +20,4 @@ export function loadTypeScript(): unknown {
     }
   }
   throw new Error("types need TypeScript: npm install typescript, or Debian's node-typescript");
-}
-
-/** The text of a file of this package, or of one that is installed for it. */
-export function readOwnFile(path: string | URL): string {
-  return readFileSync(path, "utf8");
 }

@@ -7,6 +7,7 @@ import { resolve as absolute } from "node:path";
 import { fileURLToPath } from "node:url";
 
 import { compiledModule, modulePath } from "modinfo/internal/wasm_module.js";
+import { unlessThrown } from "../runtime/faults.js";
 import { ownRequire } from "./own_files.js";
 
 /** The package that has the program for this system, where there is one. */
@@ -46,13 +47,7 @@ export function isWasm(program: string): boolean {
   return /\.wasm$|[\\/]module\.js$/.test(program);
 }
 
-function installedPath() {
-  try {
-    return ownRequire.resolve(`${PACKAGE}/modinfo`);
-  } catch {
-    return undefined;
-  }
-}
+const installedPath = () => unlessThrown(() => ownRequire.resolve(`${PACKAGE}/modinfo`));
 
 function builtPath() {
   const path = REPOSITORY && fileURLToPath(new URL("build/modinfo", REPOSITORY));

@@ -1,7 +1,7 @@
 /** Reads many files at once, by `modinfo files` or by the WebAssembly module. */
 
 import { onAbort } from "../runtime/abort_signals.js";
-import { type Fault, FileFault, faultOf } from "../runtime/faults.js";
+import { type Fault, FileFault, faultOf, unlessThrown } from "../runtime/faults.js";
 import { inOrder } from "../runtime/in_order.js";
 import { type Answer, Pool } from "../runtime/pool.js";
 import { processesOf } from "../runtime/processes.js";
@@ -95,10 +95,6 @@ function readAnswer(line: Buffer): Answer | undefined {
   if (at >= 0) {
     return { value: line.subarray(at + INFO.length, -1) };
   }
-  try {
-    const { name, message, position } = JSON.parse(String(line)).fault;
-    return typeof name === "string" ? { error: new FileFault(name, message, position) } : undefined;
-  } catch {
-    return undefined;
-  }
+  const { name, message, position } = unlessThrown(() => JSON.parse(String(line)).fault) ?? {};
+  return typeof name === "string" ? { error: new FileFault(name, message, position) } : undefined;
 }

@@ -3,7 +3,7 @@
 import fs, { constants, statSync } from "node:fs";
 import type { Stats } from "node:fs";
 
-import { FileFault } from "../runtime/faults.js";
+import { FileFault, unlessThrown } from "../runtime/faults.js";
 
 /** The most bytes of a file, where no other limit is given: 64 MiB. */
 export const MAX_BYTES = 64 * 2 ** 20;
@@ -34,11 +34,11 @@ export function readRegularFile(path: string, maxBytes = MAX_BYTES, check: Check
  */
 export function readRegularText(path: string, maxBytes = MAX_BYTES): string {
   const bytes = readRegularFile(path, maxBytes);
-  try {
-    return decoder.decode(bytes);
-  } catch {
+  const text = unlessThrown(() => decoder.decode(bytes));
+  if (text === undefined) {
     throw new FileFault("Input", "the file is not UTF-8");
   }
+  return text;
 }
 
 /**

@@ -1,11 +1,12 @@
 /** Writes files that are there as a whole or not at all. */
 
 import { randomBytes } from "node:crypto";
-import { constants, realpathSync, statSync } from "node:fs";
+import { constants, statSync } from "node:fs";
 import { open, rename, rm, writeFile } from "node:fs/promises";
 import { basename, dirname, join, resolve as absolute } from "node:path";
 
 import { readBeginning } from "./regular_file.js";
+import { realPath } from "./urls.js";
 
 /** The bytes by which a file is known for an earlier output. */
 const BEGINNING = 4096;
@@ -47,12 +48,8 @@ export function isReplaceable(path: string, isOutput: (text: string) => boolean)
 
 /** The path without links, of which the last folders need not exist. */
 export function placeOf(path: string): string {
-  try {
-    return realpathSync.native(path);
-  } catch {
-    const folder = dirname(absolute(path));
-    return folder === path ? path : join(placeOf(folder), basename(path));
-  }
+  const folder = dirname(absolute(path));
+  return realPath(path) ?? (folder === path ? path : join(placeOf(folder), basename(path)));
 }
 
 /** @param mode that of the file which is replaced */

@@ -3,6 +3,8 @@
 import { realpathSync } from "node:fs";
 import { fileURLToPath, pathToFileURL } from "node:url";
 
+import { unlessThrown } from "../runtime/faults.js";
+
 /** A path of which each character stands for itself in a URL. */
 const PLAIN = /^[\w./@+~-]*$/;
 
@@ -43,12 +45,4 @@ export function pathOfUrl(url: URL): string | undefined {
 /** @returns the path without links in it; nothing where it leads to nothing */
 export function realPath(path: string): string | undefined {
   return unlessThrown(() => realpathSync.native(path));
-}
-
-function unlessThrown<T>(call: () => T): T | undefined {
-  try {
-    return call();
-  } catch {
-    return undefined;
-  }
 }

@@ -4,11 +4,9 @@ import { resolve as absolute } from "node:path";
 
 import { isPage } from "../files/file_kinds.js";
 import { readRegularText } from "../files/regular_file.js";
-import { isReport } from "../files/report_pages.js";
 import { urlOfPath } from "../files/urls.js";
 import { FileFault, faultOf } from "../runtime/faults.js";
-import { positionsIn } from "./positions.js";
-import { type Source, scriptsOf } from "./scripts.js";
+import { type Source, isReport, positionsIn, scriptsOf } from "./scripts.js";
 import type { DependencyDescriptor, ModuleInfo } from "modinfo";
 import type { FileResult } from "../files/read_files.js";
 import type { Texts } from "../files/texts.js";

@@ -4,8 +4,7 @@ import { dirname, join, resolve as absolute } from "node:path";
 
 import { foldersFrom, memoized, nearest } from "../files/by_folder.js";
 import { matchesPath } from "../files/wildcards.js";
-import { parseWithComments } from "./json_with_comments.js";
-import { Notices, firstIn, isThere, membersAt } from "./members.js";
+import { Notices, firstIn, isThere, membersAt, parseWithComments } from "./members.js";
 import { isPath } from "./names.js";
 import { isObject } from "./package_targets.js";
 import type { RegularFiles } from "../files/regular_files.js";

@@ -5,6 +5,7 @@ import { dirname, extname, join, resolve as absolute } from "node:path";
 import { MODULE_ENDINGS, isComponent, isDeclaration, isModule } from "../files/file_kinds.js";
 import { isFile, isFolder } from "../files/find_files.js";
 import { readRegularFile } from "../files/regular_file.js";
+import { unlessThrown } from "../runtime/faults.js";
 import { looseImports } from "./loose_references.js";
 import { isPath, isRelative } from "./names.js";
 import { exportedFiles } from "./package_entries.js";
@@ -158,12 +159,9 @@ function asPath(name: string) {
 
 /** The relative names that a script imports, as far as they are known as a whole. */
 function importedBy(path: string): string[] {
-  try {
-    const imports = looseImports(String(readRegularFile(path)), "script").filter(({ kind }) => kind === "script");
-    return imports.flatMap(({ parts }) => (parts.length === 1 ? parts.join("") : [])).filter(isRelative);
-  } catch {
-    return [];
-  }
+  const text = unlessThrown(() => String(readRegularFile(path))) ?? "";
+  return looseImports(text, "script").filter(({ kind, parts }) => kind === "script" && parts.length === 1)
+    .map(({ parts }) => String(parts[0])).filter(isRelative);
 }
 
 /** The path of a module with one of the endings, or of an index of the folder. */

@@ -10,8 +10,7 @@ import { pathToFileURL } from "node:url";
 import { inherited, memoized } from "../files/by_folder.js";
 import { isPage } from "../files/file_kinds.js";
 import { pathOfUrl, urlFrom, urlOfFolder } from "../files/urls.js";
-import { parseWithComments } from "./json_with_comments.js";
-import { Notices, firstIn, membersAt } from "./members.js";
+import { Notices, firstIn, membersAt, parseWithComments } from "./members.js";
 import { isPath } from "./names.js";
 import { isObject } from "./package_targets.js";
 import { scriptsOf } from "./scripts.js";
@@ -73,7 +72,7 @@ export class ImportMaps {
 
   /** The import maps of the pages in a folder, as one. */
   private mapOfPages(folder: string): ImportMap | undefined {
-    const pages = this.files.filesIn(folder).filter(isPage).map((name) => join(folder, name));
+    const pages = this.files.namesIn(folder, "file").filter(isPage).map((name) => join(folder, name));
     const maps = pages.flatMap((path) => this.mapsOfPage(path));
     return maps.length === 0 ? undefined : maps.reduce(withAbove);
   }

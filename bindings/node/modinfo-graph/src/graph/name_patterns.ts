@@ -7,6 +7,7 @@ import { basename, dirname, join, relative, resolve as absolute } from "node:pat
 
 import { compiledPath, isModule, withoutEnding } from "../files/file_kinds.js";
 import { globMatcher } from "../files/globs.js";
+import { unlessThrown } from "../runtime/faults.js";
 import { PLATFORMS } from "./bundler_rules.js";
 
 /** Files to look for names in. */
@@ -56,12 +57,8 @@ export class Candidates {
   globbed(glob: string, folder: string): string[] {
     const [ups] = /^(?:\.{1,2}\/)*/.exec(glob) ?? [""];
     const base = absolute(folder, ups);
-    try {
-      const matches = globMatcher(`./${glob.slice(ups.length).replace(/^\//, "")}`);
-      return this.paths.filter((path) => matches(relative(base, path)));
-    } catch {
-      return [];
-    }
+    const matches = unlessThrown(() => globMatcher(`./${glob.slice(ups.length).replace(/^\//, "")}`));
+    return this.paths.filter((path) => matches?.(relative(base, path)));
   }
 }
 

@@ -10,6 +10,7 @@ import { memoized } from "../files/by_folder.js";
 import { globalFolders } from "../files/file_kinds.js";
 import { readRegularFile } from "../files/regular_file.js";
 import { urlOfPath } from "../files/urls.js";
+import { unlessThrown } from "../runtime/faults.js";
 import { PackageFolders } from "./package_folders.js";
 import { isObject } from "./package_targets.js";
 import type { RegularFiles } from "../files/regular_files.js";
@@ -131,7 +132,7 @@ function textNaming(name: string, texts: Text[]): string | undefined {
 function configurations({ folder, path, members }: Manifest, files: RegularFiles): Text[] {
   const own = Object.entries(members).filter(([member]) => !OTHERS.has(member));
   const named = FOLDERS.map((each) => join(folder, each)).flatMap((each) => {
-    return files.filesIn(each).filter((name) => CONFIGURATION.test(name) && !LOCK.test(name))
+    return files.namesIn(each, "file").filter((name) => CONFIGURATION.test(name) && !LOCK.test(name))
       .map((name) => join(each, name));
   });
   return [{ file: path, text: JSON.stringify(Object.fromEntries(own)) }, ...textsOf(named)];
@@ -146,11 +147,7 @@ function pathsOf({ specifier, references }: GraphModule): string[] {
 /** The texts of files, without those that can't be read. */
 function textsOf(paths: string[]): Text[] {
   return paths.flatMap((file) => {
-    try {
-      return [{ file, text: String(readRegularFile(file, MAX_BYTES)) }];
-    } catch {
-      return [];
-    }
+    return unlessThrown(() => ({ file, text: String(readRegularFile(file, MAX_BYTES)) })) ?? [];
   });
 }
 

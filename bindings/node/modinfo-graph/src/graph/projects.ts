@@ -1,5 +1,7 @@
 /** Which folder the project of a file is. */
 
+import { join } from "node:path";
+
 import { inherited } from "../files/by_folder.js";
 import type { RegularFiles } from "../files/regular_files.js";
 
@@ -21,7 +23,7 @@ export interface Project {
  */
 export function projectsOf(files: RegularFiles): (folder: string) => Project {
   return inherited<Project>((project, above = { isWhole: false }) => {
-    const has = (names: string[]) => names.some((name) => files.in(project, name).kind !== "none");
+    const has = (names: string[]) => names.some((name) => files.at(join(project, name)).kind !== "none");
     if (has(REPOSITORY)) {
       return { project, isWhole: true };
     }

@@ -8,17 +8,16 @@ import { fileURLToPath, pathToFileURL } from "node:url";
 import { memoized } from "../files/by_folder.js";
 import { isComponent, isPage } from "../files/file_kinds.js";
 import { readRegularFile } from "../files/regular_file.js";
-import { isReport } from "../files/report_pages.js";
 import { urlOfPath } from "../files/urls.js";
+import { unlessThrown } from "../runtime/faults.js";
 import { loaderOf } from "./conventions.js";
 import { type Parts, commentsOf, literalOf, literalsOf } from "./literals.js";
 import { looseCalls, looseImports } from "./loose_references.js";
 import { Candidates } from "./name_patterns.js";
 import { filesNamed } from "./named_paths.js";
 import { isAlias, isRelative, tailOf } from "./names.js";
-import { positionsIn } from "./positions.js";
 import { isRunKind } from "./references.js";
-import { searchedText } from "./scripts.js";
+import { isReport, positionsIn, searchedText } from "./scripts.js";
 import type { Perhaps } from "./entry_points.js";
 import type { Ends, GraphModule, Reason, Reference } from "./graph.cjs";
 import type { ModuleGraph } from "./module_graph.js";
@@ -186,11 +185,7 @@ function shown(parts: Parts) {
 
 /** The text of a file, empty where it can't be read. */
 function textOf(path: string): string {
-  try {
-    const text = String(readRegularFile(path));
-    // The scripts of an earlier report are no part of the project.
-    return isReport(text) ? "" : searchedText(text, path);
-  } catch {
-    return "";
-  }
+  const text = unlessThrown(() => String(readRegularFile(path))) ?? "";
+  // The scripts of an earlier report are no part of the project.
+  return isReport(text) ? "" : searchedText(text, path);
 }

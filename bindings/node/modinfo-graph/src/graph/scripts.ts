@@ -33,6 +33,8 @@ const DECLARATION = /^(?:import|export)(?=[\s{*"'])/;
 /** Those of a page, and those of MDX. */
 const COMMENTS = [/<!--[^]*?(-->|$)/g, /\{\/\*[^]*?(\*\/\}|$)/g];
 
+const REPORT = /^<!DOCTYPE html>\n<html lang="en">\n[^]{0,1000}<title>Dependencies of /;
+
 /** The media types of the scripts that have no word for it. */
 const STANDARD = new Map<string, MediaType>([[".astro", "TypeScript"], [".mdx", "Jsx"]]);
 
@@ -128,4 +130,27 @@ function blocksOf(text: string): Range[] {
 /** The text with blanks in place of comments, as long as before; a comment without an end stays. */
 function withoutComments(text: string, comments: RegExp): string {
   return text.replace(comments, (comment, end) => (end === "" ? comment : comment.replace(/[^\n]/g, " ")));
+}
+
+/** Whether a text begins as the page of a report does. */
+export function isReport(text: string): boolean {
+  return REPORT.test(text);
+}
+
+/**
+ * Finds positions in a text, in a time that is in proportion to the text where they ascend.
+ * @returns line and character, from zero, of an offset in UTF-16 code units
+ */
+export function positionsIn(text: string): (offset: number) => [number, number] {
+  let [at, line, character] = [0, 0, 0];
+  return (offset) => {
+    if (offset < at) {
+      [at, line, character] = [0, 0, 0];
+    }
+    const lines = text.slice(at, offset).split("\n");
+    character = (lines.length > 1 ? 0 : character) + [...lines[lines.length - 1]].length;
+    line += lines.length - 1;
+    at = offset;
+    return [line, character];
+  };
 }

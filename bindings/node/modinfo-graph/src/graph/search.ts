@@ -173,7 +173,7 @@ export class Search {
     const { folder = path } = this.manifests.scopeOfFile(path) ?? {};
     const isBelow = path.startsWith(`${folder}/`);
     const [output, ...names] = isBelow ? withoutEnding(relative(folder, path)).split("/") : [""];
-    const isMeant = OUTPUTS.has(output) && !(isMissing && this.files.in(folder, output).kind !== "none");
+    const isMeant = OUTPUTS.has(output) && !(isMissing && this.files.at(join(folder, output)).kind !== "none");
     return isMeant
       ? names.flatMap((_, at) => folders.map((each) => absolute(folder, each, ...names.slice(at))))
       : [];

@@ -5,6 +5,7 @@ import { resolve as absolute } from "node:path";
 import { memoized } from "../files/by_folder.js";
 import { isTypeScript } from "../files/file_kinds.js";
 import { loadTypeScript } from "../files/own_files.js";
+import { unlessThrown } from "../runtime/faults.js";
 import { Notices } from "./members.js";
 import { fileAt } from "./node_rules.js";
 import type { RegularFiles } from "../files/regular_files.js";
@@ -157,12 +158,6 @@ function systemOf(files: RegularFiles) {
     getCurrentDirectory: () => "/",
     getDirectories: () => [],
     readDirectory: () => [],
-    readFile: (path: string) => {
-      try {
-        return files.read(absolute(path));
-      } catch {
-        return undefined;
-      }
-    },
+    readFile: (path: string) => unlessThrown(() => files.read(absolute(path))),
   };
 }

@@ -7,6 +7,7 @@ import { dirname, join, relative } from "node:path";
 
 import { nearest } from "../files/by_folder.js";
 import { matchesName, matchesPath } from "../files/wildcards.js";
+import { unlessThrown } from "../runtime/faults.js";
 import { isObject } from "./package_targets.js";
 import type { RegularFiles } from "../files/regular_files.js";
 import type { PackageManifests } from "./package_manifests.js";
@@ -42,15 +43,9 @@ export class Workspaces {
   }
 
   private pnpmPatterns(folder: string): string[] {
-    if (this.files.in(folder, PNPM).kind !== "file") {
-      return [];
-    }
-    try {
-      const [, list = ""] = PACKAGES.exec(`${this.files.read(join(folder, PNPM))}\n`) ?? [];
-      return [...list.matchAll(ITEM)].map(([, pattern]) => pattern.trim());
-    } catch {
-      return [];
-    }
+    const text = unlessThrown(() => this.files.read(join(folder, PNPM))) ?? "";
+    const [, list = ""] = PACKAGES.exec(`${text}\n`) ?? [];
+    return [...list.matchAll(ITEM)].map(([, pattern]) => pattern.trim());
   }
 
   /** The folders of patterns, without those of patterns that begin with `!`. */
@@ -85,7 +80,7 @@ export class Workspaces {
   }
 
   private namesIn(folder: string) {
-    return this.files.foldersIn(folder).filter((name) => name !== "node_modules" && !name.startsWith("."));
+    return this.files.namesIn(folder, "folder").filter((name) => name !== "node_modules" && !name.startsWith("."));
   }
 }
 

@@ -46,6 +46,15 @@ export function faultOf(error: unknown): Fault {
   throw error;
 }
 
+/** @returns what a call returns; nothing where it throws */
+export function unlessThrown<T>(call: () => T): T | undefined {
+  try {
+    return call();
+  } catch {
+    return undefined;
+  }
+}
+
 /** The message of a system call without the path, which the caller prints: `ENOENT: no such file or directory`. */
 export function systemMessage(error: unknown): string {
   return (error as Error).message.replace(/, [a-z]+(?: '.*')?$/s, "");
