@@ -134,7 +134,8 @@ function checkFile(path: string | undefined) {
 function why(context: Context) {
   const { graph, entries, values } = context;
   const key = canonicalUrl(String(values.why));
-  const steps = graph.chain(entries, key);
+  const chainTo = graph.chains(entries);
+  const steps = chainTo(key);
   if (steps.length > 0) {
     return { lines: steps.map(stepLine), data: { why: steps.map(stepData) } };
   }
@@ -145,7 +146,7 @@ function why(context: Context) {
   for (let at = reasons.get(key); at && !ways.includes(at); at = reasons.get(at.reason.module)) {
     ways.unshift(at);
   }
-  const before = ways.length > 0 ? graph.chain(entries, ways[0].reason.module) : [];
+  const before = ways.length > 0 ? chainTo(ways[0].reason.module) : [];
   const types = byTypes.filter(({ module }) => module === key);
   const isAnswered = ways.length + types.length > 0;
   return {

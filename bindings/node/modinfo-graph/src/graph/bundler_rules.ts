@@ -59,11 +59,6 @@ export class BundlerRules {
     return this.firstFile(names) ?? this.asFolder(wanted, source) ?? { kind: "none", wanted };
   }
 
-  /** The module of the first path that has one. */
-  atPaths(paths: string[], source: Source): Found | undefined {
-    return firstOf(paths, (path) => this.atPath(path, source));
-  }
-
   /** The first file of a path that has one for each platform, as React Native finds it. */
   ofPlatform(path: string, { isTypeScript }: Source): Found | undefined {
     return this.firstFile(namesOf(path, { isTypeScript, suffixes: PLATFORMS }));

@@ -49,6 +49,11 @@ export function packageName(specifier: string): PackageName | undefined {
   return name === "" || NO_PACKAGE.test(name) ? undefined : { name, rest };
 }
 
+/** The package that has the types of another one. */
+export function typesOf(name: string): string {
+  return `@types/${name.replace(/^@/, "").replace("/", "__")}`;
+}
+
 /** @returns like `packageName`; nothing for a path, a URL, and a name of `imports` */
 export function packageOf(specifier: string): PackageName | undefined {
   const isOther = schemeOf(specifier) || specifier.startsWith("#") || isPath(specifier);

@@ -50,7 +50,7 @@ const REQUIRED = /^((?:@[^/\\%]+\/)?[^./\\%][^/\\%]*)(\/.*)?$/s;
 
 const ENCODED_SEPARATOR = /%2f|%5c/i;
 
-const NONE: Missing = { kind: "none" };
+export const NONE: Missing = { kind: "none" };
 
 const TARGETS = { exports: exportsTarget, imports: importsTarget };
 

@@ -11,6 +11,7 @@ import { globalFolders } from "../files/file_kinds.js";
 import { readRegularFile } from "../files/regular_file.js";
 import { urlOfPath } from "../files/urls.js";
 import { unlessThrown } from "../runtime/faults.js";
+import { typesOf } from "./names.js";
 import { PackageFolders } from "./package_folders.js";
 import { isObject } from "./package_targets.js";
 import type { RegularFiles } from "../files/regular_files.js";
@@ -54,11 +55,6 @@ const OTHERS = new Set([
 
 /** A package that configurations name without its tool, as `eslint-plugin-react` and `@babel/preset-env`. */
 const OF_TOOL = /^(?:(@([^/]+))\/)?(?:([a-z]+)-)?(?:plugin|config|preset)(?:-(.+))?$/;
-
-/** The package that has the types of another one. */
-export function typesOf(name: string): string {
-  return `@types/${name.replace(/^@/, "").replace("/", "__")}`;
-}
 
 /** The packages in some lists of a package.json. */
 export function packagesIn({ members }: Manifest, lists: string[]): string[] {

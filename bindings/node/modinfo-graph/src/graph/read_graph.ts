@@ -15,6 +15,7 @@ import { type Counted, counts, referencesOf } from "./references.js";
 import { Resolver, type ResolverOptions } from "./resolver.js";
 import type { ModuleInfo } from "modinfo";
 import type { Texts } from "../files/texts.js";
+import type { GraphOptions } from "../options.cjs";
 import type { Ends, GraphModule, ResolveHook } from "./graph.cjs";
 import type { Project } from "./reasons.js";
 
@@ -27,25 +28,20 @@ export interface ReadFile extends Pick<FileResult, "path" | "isLeft" | "fault"> 
   notices?: string[];
 }
 
-interface ProjectTask extends ReadOptions, Counted {
+type OfOptions = Pick<GraphOptions, "exclude" | "ignore" | "gitignore" | "all" | "resolve">;
+
+/** Options of the package, and others */
+interface ProjectTask extends ReadOptions, Counted, OfOptions {
   paths: AsyncIterable<string> | Iterable<string>;
   /** Those of the paths that are known before, below which links may lead */
   roots: string[];
   /** paths */
   entries: string[];
-  /** Globs, as `exclusionsOf` takes them */
-  exclude?: string[];
-  ignore?: string[];
-  gitignore?: boolean;
   /** Whether links to files below no root are followed */
   links?: boolean;
   /** Whether excluded files are read too, for what they lead to */
   excluded?: boolean;
-  /** Whether what entries lead to in installed packages is read too */
-  all?: boolean;
   resolver: ResolverOptions;
-  /** Is asked first what a name leads to */
-  resolve?: ResolveHook;
   /** Hands the files on, and may look them up ahead */
   ahead?: (files: AsyncIterable<Found>) => AsyncIterable<Found>;
   /** Is called for each file in turn */

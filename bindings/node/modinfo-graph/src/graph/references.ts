@@ -1,23 +1,13 @@
 /** The ranges in a module that name other modules, by its `ModuleInfo`, and the edges that they make. */
 
-import type {
-  DependencyDescriptor, DynamicTemplatePart, ModuleInfo, PositionRange, ResolutionMode, SpecifierWithRange,
-} from "modinfo";
+import type { DependencyDescriptor, ModuleInfo, ResolutionMode, SpecifierWithRange } from "modinfo";
 import type { Edge, Ends, Reference, ReferenceKind, Resolution } from "./graph.cjs";
 
 /** An object of a `ModuleInfo` that names a module */
-export interface Named {
+export interface Named extends Omit<Reference, "resolved"> {
   /** The object itself, which gets the member `resolved` */
   node: (DependencyDescriptor | SpecifierWithRange) & { resolved?: Resolution };
-  kind: ReferenceKind;
-  /** Nothing where the text isn't known as a whole */
-  specifier: string | undefined;
-  /** Its parts, where only some are known */
-  argument?: DynamicTemplatePart[];
-  range: PositionRange;
   syntax: Syntax;
-  /** Whether it is an import without names */
-  sideEffect?: true;
   /** What an attribute or a comment asks for */
   mode?: ResolutionMode;
 }

@@ -21,6 +21,7 @@ import { type Named, type Syntax, namedBy } from "./references.js";
 import { type Importer, type Name, type Run, Search } from "./search.js";
 import { TypeScriptTypes } from "./typescript_types.js";
 import type { ModuleInfo, PositionRange } from "modinfo";
+import type { ResolveOptions } from "../options.cjs";
 import type { Resolution, Rules } from "./graph.cjs";
 
 /** The most characters of a name. */
@@ -36,21 +37,13 @@ const LISTS = ["dependencies", "devDependencies", "peerDependencies"];
 /** What a package that isn't installed may be called. */
 const PACKAGE_NAME = /^(?:@[^/!]+\/)?[^.@/!][^/!]*$/;
 
-export interface ResolverOptions {
-  /**
-   * The folders of the project, as paths. What is in none of them, in no `node_modules` above one and
-   * in no folder of `globalFolders` is `outside`. Without it, each module is in the project of its
-   * repository, else of the uppermost folder with a package.json or a configuration; without these,
-   * all that no link leads to is inside, and the nearest folder with a `node_modules`.
-   */
+/** Like those of the package, as paths */
+export interface ResolverOptions extends Pick<ResolveOptions, "conditions" | "types"> {
+  /** Without it and a project, all that no link leads to is inside, and the nearest folder with a `node_modules`. */
   root?: string | readonly string[];
-  /** Conditions of `exports` and `imports`, besides those that node sets. With `browser` that member counts. */
-  conditions?: readonly string[];
-  /** Whether TypeScript looks for `types`. It is loaded with the first name. */
-  types?: boolean;
   /** Whether `types` is the declaration file beside what runs, without TypeScript: true, where it is missing. */
   declarations?: boolean;
-  /** The absolute path of a configuration for all files, instead of the nearest one of each. */
+  /** absolute */
   tsconfig?: string;
   /** The folders in which a `require` looks last: those of NODE_PATH and node's own, where it is missing. */
   globalFolders?: readonly string[];

@@ -10,8 +10,8 @@ import { dirname, join, relative, resolve as absolute } from "node:path";
 import { isDeclaration, isTypeScript, withoutEnding } from "../files/file_kinds.js";
 import { pathOfUrl, urlOfFolder } from "../files/urls.js";
 import { BundlerRules, type Source, plainNames } from "./bundler_rules.js";
-import { isPath, isRelative, packageOf, pathOf, schemeOf } from "./names.js";
-import { type Found, type Missing, NodeRules } from "./node_rules.js";
+import { isPath, isRelative, packageOf, pathOf, schemeOf, typesOf } from "./names.js";
+import { type Found, type Missing, NONE, NodeRules, firstOf } from "./node_rules.js";
 import { PackageFolders } from "./package_folders.js";
 import { allExports, allImports } from "./package_targets.js";
 import { Workspaces } from "./workspaces.js";
@@ -54,8 +54,6 @@ const BUNDLER_CONDITIONS = [
 /** The names of folders with what is compiled or bundled. */
 const OUTPUTS = new Set(["dist", "build", "out", "output", "lib", "es", "esm", "cjs", "umd", "types", "typings"]);
 
-const NONE: Found = { kind: "none" };
-
 export class Search {
   private readonly packages;
   private readonly node;
@@ -66,10 +64,7 @@ export class Search {
   private readonly workspaces;
   private readonly isBrowser;
 
-  /**
-   * @param conditions those of `exports` and `imports` besides node's own
-   * @param globalFolders those in which a `require` looks last
-   */
+  /** @param conditions those of `exports` and `imports` besides node's own */
   constructor(
     private readonly files: RegularFiles, private readonly manifests: PackageManifests,
     private readonly names: ConfiguredNames, conditions: readonly string[], globalFolders: string[],
@@ -121,10 +116,8 @@ export class Search {
     const urls = specifier.startsWith("#") && scope
       ? allImports(scope.imports, specifier, urlOfFolder(scope.folder))
       : this.allExports(specifier, importer);
-    const replaced = this.bundler.replacements(scope, specifier);
-    if (path !== undefined) {
-      replaced.push(...this.bundler.replacements(this.manifests.scopeOfFile(path), path));
-    }
+    const ofFile = path === undefined ? [] : this.bundler.replacements(this.manifests.scopeOfFile(path), path);
+    const replaced = [...this.bundler.replacements(scope, specifier), ...ofFile];
     return [...urls.flatMap((url) => pathOfUrl(url) ?? []), ...this.filesAt(replaced, importer)];
   }
 
@@ -135,26 +128,25 @@ export class Search {
 
   /** The files of a package of the project that a name may lead to. */
   private allExports(specifier: string, { path }: Importer): URL[] {
-    const { name, rest } = packageOf(specifier) ?? {};
+    const { name = "", rest } = packageOf(specifier) ?? {};
     const scope = this.manifests.scopeOfFile(path);
-    const folder = name === undefined
-      ? undefined
-      : scope?.name === name ? scope.folder : this.workspaces.folderOf(name, path);
-    const exports = folder === undefined ? undefined : this.manifests.of(folder)?.exports;
-    return exports && folder !== undefined ? allExports(exports, `.${rest}`, urlOfFolder(folder)) : [];
+    const folder = scope?.name === name ? scope.folder : this.workspaces.folderOf(name, path);
+    const exports = folder && this.manifests.of(folder)?.exports;
+    return folder && exports ? allExports(exports, `.${rest}`, urlOfFolder(folder)) : [];
   }
 
   /** What the `src` of a page's script leads to: a path from the page, or from the root of a server. */
   private ofPage(specifier: string, importer: Importer): Run {
-    if (schemeOf(specifier) || specifier.startsWith("//")) {
-      return { found: atUrl(specifier.startsWith("//") ? `https:${specifier}` : specifier) };
+    const url = specifier.startsWith("//") ? `https:${specifier}` : specifier;
+    if (schemeOf(url)) {
+      return { found: atUrl(url) };
     }
     const folder = dirname(importer.path);
     const root = this.manifests.scopeOf(folder)?.folder ?? folder;
     const folders = specifier.startsWith("/") ? [folder, root, join(root, "public")] : [folder];
     const names = plainNames(specifier).map((name) => `./${name.replace(/^\/+/, "")}`);
     const paths = names.flatMap((name) => folders.map((each) => pathOf(name, each)));
-    const found = this.bundler.atPaths(paths, importer);
+    const found = firstOf(paths, (path) => this.bundler.atPath(path, importer));
     return found ? { found, by: "bundler" } : { found: NONE };
   }
 
@@ -198,11 +190,10 @@ export class Search {
 
   /** What is at the path or the name that `browser` has instead, in the package of a file. */
   private instead(other: string | false, from: string, importer: Importer): Run {
-    if (other === false) {
-      return { found: { kind: "disabled" } };
-    }
-    const found = other.startsWith("/") ? this.bundler.atPath(other, importer) : this.node.import(other, from);
-    return { found, by: "bundler" };
+    return other === false ? { found: { kind: "disabled" } } : {
+      found: other.startsWith("/") ? this.bundler.atPath(other, importer) : this.node.import(other, from),
+      by: "bundler",
+    };
   }
 
   private byRules(named: Name, importer: Importer): Run {
@@ -216,7 +207,7 @@ export class Search {
 
   private byConfiguration(configured: Configured | undefined, importer: Importer): Run | undefined {
     const { by, paths = [], name } = configured ?? {};
-    const found = this.bundler.atPaths(paths, importer);
+    const found = firstOf(paths, (path) => this.bundler.atPath(path, importer));
     if (found || name === undefined) {
       return found && { found, by };
     }
@@ -288,7 +279,7 @@ export class Search {
     if (name !== undefined) {
       yield this.inPackage(this.folderOf(name, path), rest, importer);
       // The types of a package that is compiled away, as one of types alone is.
-      const types = this.packages.required(`@types/${name.replace(/^@/, "").replace("/", "__")}`, dirname(path));
+      const types = this.packages.required(typesOf(name), dirname(path));
       yield types === undefined ? NONE : this.bundler.inPackage(types, rest, importer);
     }
   }
