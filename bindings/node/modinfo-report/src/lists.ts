@@ -32,32 +32,22 @@ export type ShownCycle = Cycle & { rows: Found[] };
 interface Unreached {
   unreached: number[];
   mayBeReached: MayBeReached[];
-  /** `by` is the module that has the name, else `file` the path of an excluded one */
-  byTypes: { module: number, by?: number, file?: string, line: number, text?: string }[];
+  byTypes: Omit<MayBeReached, "kind">[];
 }
 
+/** `by` is the module that has the reason, else `file` the path of another file, from the report's folder */
 export interface MayBeReached {
   module: number;
   kind: ReasonKind;
-  /** The module that has the reason */
   by?: number;
-  /** Else the path of another file, from the report's folder */
   file?: string;
   /** From zero */
   line?: number;
   text?: string;
 }
 
-/** Modules are indexes */
-export interface Lists {
-  missing: Found[];
-  /** arguments */
-  unknown: Found[];
-  /** Known arguments */
-  partly: Found[];
-  unreached: number[];
-  mayBeReached: MayBeReached[];
-  byTypes: Unreached["byTypes"];
+/** `unknown` and `partly` are arguments */
+export interface Lists extends Unreached, Record<"missing" | "unknown" | "partly", Found[]> {
   cycles: ShownCycle[];
   faults: number[];
 }

@@ -77,6 +77,4 @@ function commentRow(
   return { kind, word, name: text, range, mode: resolutionMode, resolved };
 }
 
-function compare(one: Position, other: Position) {
-  return one[0] - other[0] || one[1] - other[1];
-}
+const compare = (one: Position, other: Position) => one[0] - other[0] || one[1] - other[1];

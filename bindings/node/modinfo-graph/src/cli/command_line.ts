@@ -101,9 +101,7 @@ async function printHelp(name: string, help: string, { values }: Words) {
 }
 
 /** The first lines of a help, which are the usage. */
-export function usageOf(help: string): string {
-  return help.slice(0, help.indexOf("\n\n"));
-}
+export const usageOf = (help: string): string => help.slice(0, help.indexOf("\n\n"));
 
 /** How many processes parse at most: one for each processor; where the word is a smaller number, as many. */
 export function readJobs(word: string | undefined): number {

@@ -6,9 +6,10 @@ import { realPath } from "../files/urls.js";
 import { forbiddenEdges } from "../graph/forbidden.js";
 import { packageUse } from "../graph/package_use.js";
 import { unreachedOf } from "../graph/unreached.js";
+import { printable } from "../runtime/printable.js";
 import {
-  byTypesLine, cycleLine, forbiddenLine, gapsNote, mayBeReachedLine, mayBeUsedLine, mentionData, missingLine,
-  shownPath, shownTarget, unlistedLines, unusedLine,
+  byTypesData, byTypesLine, cycleLine, gapsNote, mayBeReachedLine, mentionData, placeOf, reasonText, shownPath,
+  shownTarget,
 } from "./graph_output.js";
 import type { Cycle } from "../graph/graph.cjs";
 import type { Values } from "./command_line.js";
@@ -21,13 +22,12 @@ export type FilesValues = Values
 
 export type Context = GraphRun & { values: FilesValues, paths: string[] };
 
+/** `key` is what it is known by, which doesn't change with the lines of a file; `value` is added to `member`. */
 interface Finding {
-  /** What it is known by: it doesn't change with the lines of a file */
+  member: string;
   key: string;
   /** As people read it */
   lines: string[];
-  /** Of the JSON, to which the value is added */
-  member: string;
   value: unknown;
 }
 
@@ -50,6 +50,10 @@ export const CHECKS: Record<string, (context: Context) => Answer> = {
   cycles, missing, unreached, packages, forbid,
 };
 
+const finding = (member: string, key: string, line: string, value: unknown): Finding => {
+  return { member, key, lines: [line], value };
+};
+
 /** The cycles. With `--cycles=runs` those aren't findings that types alone may close. */
 function cycles({ graph, values: { types, cycles: choice } }: Context) {
   const { cycles: run, typeCycles } = graph.cycles();
@@ -58,10 +62,9 @@ function cycles({ graph, values: { types, cycles: choice } }: Context) {
   const count = run.filter(({ perhapsOfTypes }) => perhapsOfTypes).length;
   const why = "a compiler removes imports of TypeScript whose names are types";
   return {
-    findings: run.filter(isFound).map((cycle) => ({
-      key: cycle.modules.map(shownPath).sort().join(" "),
-      lines: [cycleLine(cycle)], member: "cycles", value: cycle,
-    })),
+    findings: run.filter(isFound).map((cycle) => {
+      return finding("cycles", cycle.modules.map(shownPath).sort().join(" "), cycleLine(cycle), cycle);
+    }),
     lines: [
       ...others.map((cycle) => cycleLine(cycle, "perhaps by types alone: ")),
       ...typeCycles.map((cycle) => cycleLine(cycle, "by types alone: ")),
@@ -75,10 +78,12 @@ function missing({ graph }: Context) {
   const others = graph.foundByOthers();
   const note = `node itself finds ${others.length} of the names in JavaScript nowhere (--json has foundByOthers)`;
   return {
-    findings: graph.missing().map((mention) => ({
-      key: `${shownPath(mention.module)}: ${mention.reference.specifier}`,
-      lines: [missingLine(mention)], member: "missing", value: mentionData(mention),
-    })),
+    findings: graph.missing().map((mention) => {
+      const { module, reference: { specifier, resolved } } = mention;
+      const why = resolved.class === "package" ? `the package ${resolved.package} isn't installed` : "not found";
+      const line = printable(`${placeOf(mention)}: ${specifier}: ${why}`);
+      return finding("missing", `${shownPath(module)}: ${specifier}`, line, mentionData(mention));
+    }),
     notes: others.length > 0 ? [note] : [],
     data: { missing: [], foundByOthers: others.map(mentionData) },
   };
@@ -89,45 +94,47 @@ function unreached(context: Context) {
   const found = unreachedOf(graph, named, context);
   const notes = gapsNote(graph.gaps(graph.reached(entries)));
   return {
-    findings: found.unreached.map((key) => ({
-      key: shownPath(key), lines: [shownPath(key)], member: "unreached", value: key,
-    })),
+    findings: found.unreached.map((key) => finding("unreached", shownPath(key), shownPath(key), key)),
     lines: [...found.mayBeReached.map(mayBeReachedLine), ...found.byTypes.map(byTypesLine)],
     notes, isFinding: notes.length > 0,
-    data: {
-      entries, ...found, unreached: [],
-      byTypes: found.byTypes.map(({ module, by }) => ({ module, by: mentionData(by) })),
-    },
+    data: { entries, ...found, unreached: [], byTypes: byTypesData(found.byTypes) },
   };
 }
 
 function packages({ graph, pages, paths }: Context) {
   const folders = paths.flatMap((path) => realPath(absolute(path)) ?? []);
   const { unlisted, unused, mayBeUsed } = packageUse(graph, { pages, paths: folders });
-  const keyOf = ({ package: name, manifest }: { package: string, manifest?: string }) => {
-    return manifest === undefined ? name : `${shownPath(manifest)}: ${name}`;
-  };
   return {
     findings: [
-      ...unlisted.map((each) => ({
-        key: keyOf(each), lines: unlistedLines(each), member: "unlisted",
-        value: { ...each, by: each.by.map(mentionData) },
-      })),
-      ...unused.map((each) => ({ key: keyOf(each), lines: [unusedLine(each)], member: "unused", value: each })),
+      ...unlisted.map(({ package: name, manifest, by }) => {
+        const path = manifest && shownPath(manifest);
+        const where = path === undefined ? "no package.json found" : `not listed in ${path}`;
+        return {
+          member: "unlisted", key: path === undefined ? name : `${path}: ${name}`,
+          lines: by.map((mention) => printable(`${placeOf(mention)}: ${name}: ${where}`)),
+          value: { package: name, manifest, by: by.map(mentionData) },
+        };
+      }),
+      ...unused.map((each) => {
+        const key = `${shownPath(each.manifest)}: ${each.package}`;
+        return finding("unused", key, printable(`${key}: in ${each.list}, and no module imports it`), each);
+      }),
     ],
-    lines: mayBeUsed.map(mayBeUsedLine),
+    lines: mayBeUsed.map(({ package: name, manifest, reason }) => {
+      const why = `${reasonText(reason)} at ${shownPath(reason.file)}`;
+      return printable(`${shownPath(manifest)}: ${name}: may be used: ${why}`);
+    }),
     data: { unlisted: [], unused: [], mayBeUsed },
   };
 }
 
 function forbid({ graph, entries, values }: Context) {
   return {
-    findings: forbiddenEdges(graph, entries, values.forbid ?? []).map((found) => {
-      const { rule, way, mention } = found;
-      return {
-        key: way.slice(-2).map(shownTarget).join(" -> "), lines: [forbiddenLine(found)], member: "forbidden",
-        value: { rule, ...mentionData(mention), way },
-      };
+    findings: forbiddenEdges(graph, entries, values.forbid ?? []).map(({ rule, way, mention }) => {
+      const why = `${mention.reference.specifier}: forbidden by ${rule}: ${way.map(shownTarget).join(" -> ")}`;
+      const key = way.slice(-2).map(shownTarget).join(" -> ");
+      const line = printable(`${placeOf(mention)}: ${why}`);
+      return finding("forbidden", key, line, { rule, ...mentionData(mention), way });
     }),
     data: { forbidden: [] },
   };

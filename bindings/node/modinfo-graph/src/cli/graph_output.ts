@@ -5,9 +5,7 @@ import { relative } from "node:path";
 import { fileURLToPath } from "node:url";
 
 import { printable } from "../runtime/printable.js";
-import type { Forbidden } from "../graph/forbidden.js";
 import type { Cycle, Mention, Step, Unreached } from "../graph/graph.cjs";
-import type { MayBeUsed, Unlisted, Unused } from "../graph/package_use.js";
 
 const folder = realpathSync(process.cwd());
 
@@ -29,48 +27,22 @@ export function cycleLine({ modules, path }: Cycle, before = ""): string {
   return printable(`${before}${chain}${more}`);
 }
 
-export function missingLine(mention: Mention): string {
-  const { specifier = "", resolved } = mention.reference;
-  const why = resolved.class === "package" ? `the package ${resolved.package} isn't installed` : "not found";
-  return printable(`${placeOf(mention)}: ${specifier}: ${why}`);
-}
-
 export function stepLine({ module, by, builtAs }: Step): string {
   const place = by ? ` (${by.reference.specifier} at ${placeOf(by)})` : builtAs ? " (its source)" : "";
   return printable(shownPath(module) + place);
 }
 
-export function mayBeReachedLine(
-  { module, reason: { kind, module: from, position, text } }: Unreached["mayBeReached"][number],
-): string {
+export function mayBeReachedLine({ module, reason }: Unreached["mayBeReached"][number]): string {
+  const { module: from, position } = reason;
   const place = position ? positioned(from, position) : shownPath(from);
-  return printable(`${shownPath(module)}: may be reached: ${reasonText(kind, text)} at ${place}`);
+  return printable(`${shownPath(module)}: may be reached: ${reasonText(reason)} at ${place}`);
 }
 
 export function byTypesLine({ module, by }: Unreached["byTypes"][number]): string {
   return printable(`${shownPath(module)}: reached by types alone: ${by.reference.specifier} at ${placeOf(by)}`);
 }
 
-export function unlistedLines({ package: name, manifest, by }: Unlisted): string[] {
-  const where = manifest === undefined ? "no package.json found" : `not listed in ${shownPath(manifest)}`;
-  return by.map((mention) => printable(`${placeOf(mention)}: ${name}: ${where}`));
-}
-
-export function unusedLine({ package: name, manifest, list }: Unused): string {
-  return printable(`${shownPath(manifest)}: ${name}: in ${list}, and no module imports it`);
-}
-
-export function mayBeUsedLine({ package: name, manifest, reason: { kind, file, text } }: MayBeUsed): string {
-  const why = reasonText(kind, text);
-  return printable(`${shownPath(manifest)}: ${name}: may be used: ${why} at ${shownPath(file)}`);
-}
-
-export function forbiddenLine({ rule, mention, way }: Forbidden): string {
-  const chain = way.map(shownTarget).join(" -> ");
-  return printable(`${placeOf(mention)}: ${mention.reference.specifier}: forbidden by ${rule}: ${chain}`);
-}
-
-function reasonText(kind: string, text?: string) {
+export function reasonText({ kind, text }: { kind: string, text?: string }): string {
   return text === undefined ? kind : `${kind} of ${text}`;
 }
 
@@ -87,12 +59,15 @@ export function gapsNote(counts: { missing: number, aliases: number, faults: num
   return texts.length > 0 ? [`of what is reached ${texts.join(", and ")}: more may be reached than is known`] : [];
 }
 
-export function mentionData({ module, reference }: Mention) {
-  return { module, ...reference };
+export const mentionData = ({ module, reference }: Mention) => ({ module, ...reference });
+
+/** JSON of what types alone reach. */
+export function byTypesData(found: Unreached["byTypes"]) {
+  return found.map(({ module, by }) => ({ module, by: mentionData(by) }));
 }
 
 /** @returns as `FILE:LINE:COLUMN`, both counted from one */
-function placeOf({ module, reference: { range: [position] } }: Mention): string {
+export function placeOf({ module, reference: { range: [position] } }: Mention): string {
   return positioned(module, position);
 }
 

@@ -9,7 +9,7 @@ import { printable } from "../runtime/printable.js";
 import { UsageFault } from "./command_line.js";
 import { type Answer, CHECKS, type Context, type FilesValues } from "./graph_checks.js";
 import {
-  byTypesLine, gapsNote, mayBeReachedLine, mentionData, shownPath, stepLine,
+  byTypesData, byTypesLine, gapsNote, mayBeReachedLine, mentionData, shownPath, stepLine,
 } from "./graph_output.js";
 import { type Run, readRun } from "./run.js";
 import { writeOutput } from "./standard_output.js";
@@ -49,8 +49,7 @@ export async function answerQuestions(
   questions: string[], run: Run<FilesValues>, known: Record<string, string[]>,
 ): Promise<number> {
   const { values, name, paths } = run;
-  checkKnown(known);
-  checkFile(values.why ?? values.dependents);
+  checkWords(known, values.why ?? values.dependents);
   // What --why asks for is read too, so that what may reach it is found.
   const { why: target = "" } = values;
   const named = isModule(target) || isComponent(target) ? [target] : [];
@@ -71,11 +70,15 @@ export async function answerQuestions(
   return found.some(({ isFinding, keys }) => isFinding || keys.length > 0) ? 1 : status;
 }
 
-function checkKnown(known: Record<string, string[]>) {
+/** @throws {UsageFault} findings are known of another question, or no file is there that is asked for */
+function checkWords(known: Record<string, string[]>, path: string | undefined) {
   const other = Object.keys(known).find((each) => !Object.hasOwn(CHECKS, each));
   if (other !== undefined) {
     const all = Object.keys(CHECKS).join(", ");
     throw new UsageFault(`package.json: known of modinfo has ${other}: the questions are ${all}`);
+  }
+  if (path !== undefined && !isFile(path)) {
+    throw new UsageFault(`${printable(path)}: no such file`);
   }
 }
 
@@ -123,13 +126,6 @@ function reached({ graph, entries }: Context) {
   return { lines: files.map(shownPath), data: { entries, reached: files }, notes, isFinding: notes.length > 0 };
 }
 
-/** @throws {UsageFault} no file is there */
-function checkFile(path: string | undefined) {
-  if (path !== undefined && !isFile(path)) {
-    throw new UsageFault(`${printable(path)}: no such file`);
-  }
-}
-
 /** A chain to a file, or what may lead to it, with a chain to that. */
 function why(context: Context) {
   const { graph, entries, values } = context;
@@ -153,7 +149,7 @@ function why(context: Context) {
     lines: [...before.map(stepLine), ...ways.map(mayBeReachedLine), ...types.map(byTypesLine)],
     data: {
       why: before.map(stepData), ...(ways.length > 0 && { mayBeReached: ways }),
-      ...(types.length > 0 && { byTypes: types.map(({ module, by }) => ({ module, by: mentionData(by) })) }),
+      ...(types.length > 0 && { byTypes: byTypesData(types) }),
     },
     isFinding: !isAnswered, notes: isAnswered ? [] : [`no entry reaches ${values.why}`],
   };

@@ -127,9 +127,7 @@ function leadsOut(path: string, roots: string[]) {
 }
 
 /** @returns without those that lead to nothing */
-function realPaths(paths: string[]): string[] {
-  return paths.flatMap((path) => realPath(path) ?? []);
-}
+const realPaths = (paths: string[]): string[] => paths.flatMap((path) => realPath(path) ?? []);
 
 /** @returns true also where that can't be found out */
 function isThere(path: string): boolean {
@@ -144,14 +142,10 @@ function isThere(path: string): boolean {
 const statusOf = (path: string) => unlessThrown(() => statSync(path));
 
 /** @returns false also where nothing is there */
-export function isFolder(path: string): boolean {
-  return statusOf(path)?.isDirectory() ?? false;
-}
+export const isFolder = (path: string): boolean => statusOf(path)?.isDirectory() ?? false;
 
 /** @returns false also where nothing is there, or no regular file */
-export function isFile(path: string): boolean {
-  return statusOf(path)?.isFile() ?? false;
-}
+export const isFile = (path: string): boolean => statusOf(path)?.isFile() ?? false;
 
 /** The folders of some paths, each once: a folder itself, and the folder of a file. */
 export function foldersOf(paths: string[]): string[] {

@@ -43,9 +43,7 @@ export function programName(): string {
 }
 
 /** Whether a path is that of a WebAssembly module, or of the file of `modinfo` that has the module as text. */
-export function isWasm(program: string): boolean {
-  return /\.wasm$|[\\/]module\.js$/.test(program);
-}
+export const isWasm = (program: string): boolean => /\.wasm$|[\\/]module\.js$/.test(program);
 
 const installedPath = () => unlessThrown(() => ownRequire.resolve(`${PACKAGE}/modinfo`));
 

@@ -33,16 +33,10 @@ export function urlFrom(text: string, base?: URL): URL | undefined {
 }
 
 /** @returns with a slash at the end */
-export function urlOfFolder(folder: string): URL {
-  return pathToFileURL(`${folder}/`);
-}
+export const urlOfFolder = (folder: string): URL => pathToFileURL(`${folder}/`);
 
 /** @returns nothing where the URL can't have a path */
-export function pathOfUrl(url: URL): string | undefined {
-  return unlessThrown(() => fileURLToPath(url));
-}
+export const pathOfUrl = (url: URL): string | undefined => unlessThrown(() => fileURLToPath(url));
 
 /** @returns the path without links in it; nothing where it leads to nothing */
-export function realPath(path: string): string | undefined {
-  return unlessThrown(() => realpathSync.native(path));
-}
+export const realPath = (path: string): string | undefined => unlessThrown(() => realpathSync.native(path));

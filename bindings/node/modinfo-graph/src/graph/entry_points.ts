@@ -153,9 +153,7 @@ function wordsOf(line: unknown): string[] {
   return words.filter((word) => isModule(word) || /^[\w.-]+\/[\w./-]*\w$/.test(word)).map(asPath);
 }
 
-function asPath(name: string) {
-  return isPath(name) ? name : `./${name}`;
-}
+const asPath = (name: string) => (isPath(name) ? name : `./${name}`);
 
 /** The relative names that a script imports, as far as they are known as a whole. */
 function importedBy(path: string): string[] {

@@ -50,9 +50,7 @@ export function packageName(specifier: string): PackageName | undefined {
 }
 
 /** The package that has the types of another one. */
-export function typesOf(name: string): string {
-  return `@types/${name.replace(/^@/, "").replace("/", "__")}`;
-}
+export const typesOf = (name: string): string => `@types/${name.replace(/^@/, "").replace("/", "__")}`;
 
 /** @returns like `packageName`; nothing for a path, a URL, and a name of `imports` */
 export function packageOf(specifier: string): PackageName | undefined {

@@ -160,6 +160,4 @@ function wordsPattern(words: string[], before: string = ""): RegExp {
 }
 
 /** @returns a pattern of the text */
-function escaped(text: string): string {
-  return text.replace(/[\\^$.*+?()[\]{}|/-]/g, "\\$&");
-}
+const escaped = (text: string): string => text.replace(/[\\^$.*+?()[\]{}|/-]/g, "\\$&");

@@ -33,9 +33,7 @@ export function dotText<Key>(keys: Key[], edges: Edge<Key>[], label: (key: Key) 
 }
 
 /** Whether a text begins as those of `dotText` do. */
-export function isDot(text: string): boolean {
-  return text.startsWith(DOT_HEAD.slice(0, DOT_HEAD.indexOf("\n")));
-}
+export const isDot = (text: string): boolean => text.startsWith(DOT_HEAD.slice(0, DOT_HEAD.indexOf("\n")));
 
 /** @returns in the language of Mermaid */
 export function mermaidText<Key>(keys: Key[], edges: Edge<Key>[], label: (key: Key) => string): string {

@@ -179,9 +179,7 @@ function otherLiterals(text: string, references: Reference[]) {
   return (offset: number, position: number[]) => !known.has(position.join(":")) && !isInComment(offset);
 }
 
-function shown(parts: Parts) {
-  return parts.map((each) => each ?? "${..}").join("");
-}
+const shown = (parts: Parts) => parts.map((each) => each ?? "${..}").join("");
 
 /** The text of a file, empty where it can't be read. */
 function textOf(path: string): string {

@@ -38,9 +38,7 @@ const PRAGMAS = [
 ] as const;
 
 /** Whether a reference of a kind runs the module that it names. */
-export function isRunKind(kind: string): boolean {
-  return RUN_KINDS.has(kind);
-}
+export const isRunKind = (kind: string): boolean => RUN_KINDS.has(kind);
 
 /** Which references and edges count. */
 export interface Counted {
@@ -143,6 +141,4 @@ function ofComment(
   return { node, kind, syntax, specifier, range, mode: modeOf(resolutionMode) };
 }
 
-function modeOf(word: unknown) {
-  return word === "import" || word === "require" ? word : undefined;
-}
+const modeOf = (word: unknown) => (word === "import" || word === "require" ? word : undefined);

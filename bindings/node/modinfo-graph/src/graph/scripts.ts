@@ -133,9 +133,7 @@ function withoutComments(text: string, comments: RegExp): string {
 }
 
 /** Whether a text begins as the page of a report does. */
-export function isReport(text: string): boolean {
-  return REPORT.test(text);
-}
+export const isReport = (text: string): boolean => REPORT.test(text);
 
 /**
  * Finds positions in a text, in a time that is in proportion to the text where they ascend.

@@ -106,9 +106,7 @@ export class TypeScriptTypes {
 }
 
 /** Whether a diagnostic of a configuration is of its options, and not of its syntax or of files that it names. */
-function isOfOptions({ code }: { code: number }) {
-  return code >= 5000 && code < 18000 && !OF_FILES.has(code);
-}
+const isOfOptions = ({ code }: { code: number }) => code >= 5000 && code < 18000 && !OF_FILES.has(code);
 
 /** What TypeScript looks at files by. No folder is walked: it is known without which files are included. */
 function systemOf(files: RegularFiles) {

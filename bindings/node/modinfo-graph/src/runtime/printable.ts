@@ -13,9 +13,7 @@ export function printable(text: string): string {
 }
 
 /** Like `printable`, but leaves line feeds and tabs as they are. */
-export function printableLines(text: string): string {
-  return text.replace(/[^\n\t]+/g, printable);
-}
+export const printableLines = (text: string): string => text.replace(/[^\n\t]+/g, printable);
 
 function escaped(character: string) {
   const code = character.codePointAt(0) ?? 0;

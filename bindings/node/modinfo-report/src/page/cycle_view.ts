@@ -1,11 +1,10 @@
 /** A cycle in the graph, with the lines that make it. */
 
 import { element } from "./elements.js";
-import { moduleLook } from "./graph_nodes.js";
+import { labelsOf, moduleLook } from "./graph_nodes.js";
 import { sceneWith } from "./graph_scene.js";
 import { type Frame, graphFrame, planOfScene, roomIn, showFault, showPlan } from "./graph_view.js";
-import { labelsOf } from "./labels.js";
-import { counted, kindLabel, moduleLink, nameLabel } from "./pieces.js";
+import { counted, kindLabel, nameLabel, rowLink } from "./pieces.js";
 import { report } from "./report.js";
 import type { Found } from "../lists.js";
 
@@ -33,11 +32,8 @@ export function cycleView(number: number): HTMLElement {
 }
 
 function rowStep({ module, row, line, kind, name }: Found) {
-  return element(
-    "li", {},
-    moduleLink(module, row), element("span", { class: "place" }, `:${line + 1}`), " ",
-    kindLabel({ kind, word: kind }), " ", nameLabel(name),
-  );
+  const label = kindLabel({ kind, word: kind });
+  return element("li", {}, ...rowLink(module, row, line), " ", label, " ", nameLabel(name));
 }
 
 async function drawCycle(frame: Frame, modules: number[], path: number[]) {

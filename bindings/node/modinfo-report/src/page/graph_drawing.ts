@@ -1,9 +1,8 @@
 /** A drawing as SVG. */
 
 import { drawn } from "./elements.js";
-import { type KindCounts, kindsText, strongestKind } from "./graph_kinds.js";
+import { type CycleKind, type KindCounts, kindsText, strongestKind } from "./graph_kinds.js";
 import { kindNamed, report } from "./report.js";
-import type { CycleKind } from "./cycles.js";
 import type { Look } from "./graph_tree.js";
 
 export interface Plan {

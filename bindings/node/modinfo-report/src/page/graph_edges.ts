@@ -3,8 +3,7 @@
  * all edges between their modules.
  */
 
-import { type CycleKind, cycleOfEdge, strongerCycle } from "./cycles.js";
-import { type KindCounts, countKind } from "./graph_kinds.js";
+import { type CycleKind, type KindCounts, countKind, cycleOfEdge, strongerCycle } from "./graph_kinds.js";
 import { type Item, eachModuleOf } from "./graph_tree.js";
 import { eachEdge, report } from "./report.js";
 

@@ -78,9 +78,7 @@ export function widthOf(label: string, weight: number = 400): number {
 }
 
 /** @returns the width and the height of its node */
-export function sizeOfLabel(label: string): [number, number] {
-  return [widthOf(label) + MARGIN, NODE_HEIGHT];
-}
+export const sizeOfLabel = (label: string): [number, number] => [widthOf(label) + MARGIN, NODE_HEIGHT];
 
 /** Shortens a label of more characters than `most` to its start and its end. */
 export function shortLabel(label: string, most: number = LONGEST): string {

@@ -11,7 +11,7 @@ import { hideEdges, legend, partsOfPlan } from "./graph_legend.js";
 import { Mover, type Size, fitScale, heightFor } from "./graph_move.js";
 import { lookOf } from "./graph_nodes.js";
 import { type Scene, boxesOf, sceneOf } from "./graph_scene.js";
-import { type Item, type Look, folderIn, itemsIn } from "./graph_tree.js";
+import { type Item, type Look, folderIn } from "./graph_tree.js";
 import { counted, nameText } from "./pieces.js";
 import { report } from "./report.js";
 import type { Given, Layout } from "./layout_boxes.js";
@@ -150,7 +150,7 @@ async function bestLayout(folder: Folder, room: Size) {
 
 /** Whether the modules of the folder itself, as one item, are most of what is drawn. */
 function isPoor({ top }: Scene, folder: Folder) {
-  const items = itemsIn(folder === root ? top : itemsIn(top)[0]);
+  const { items = [] } = folder === root ? top : top.items?.[0] ?? top;
   const flat = items.find(({ type }) => type === "flat");
   const all = items.reduce((sum, { count }) => sum + count, 0);
   return flat !== undefined && items.length <= 3 && 2 * flat.count >= all;
@@ -172,7 +172,7 @@ function givenOf(item: Item, edges: Scene["edges"]): Given {
   return {
     id: item.id,
     title: widthOf(text, TITLE_WEIGHT),
-    items: itemsIn(item).map((each) => givenOf(each, edges)),
+    items: (item.items ?? []).map((each) => givenOf(each, edges)),
     edges: (edges.get(item) ?? []).map((edge) => ({ from: edge.from, to: edge.to, count: edge.count })),
   };
 }

@@ -75,13 +75,9 @@ const FIGURES: Record<string, (words: Word[]) => HTMLElement> = {
 };
 
 /** Returns the folder of a number in an address, else the root. */
-function folderAtWord(word: Word): Folder {
-  return folders[Number(word)] ?? root;
-}
+const folderAtWord = (word: Word): Folder => folders[Number(word)] ?? root;
 
-function wholeGraph(): HTMLElement {
-  return FIGURES.folder([root.index]);
-}
+const wholeGraph = (): HTMLElement => FIGURES.folder([root.index]);
 
 /** The list of a folder's folders, for a graph that doesn't draw each. */
 function moreView(folder: Folder) {
@@ -206,9 +202,7 @@ function titleOf(module: number | undefined) {
 }
 
 /** Counts the rows of the open module; its table is there when the view is complete. */
-function countRows() {
-  return main.querySelectorAll("table.rows tbody tr").length;
-}
+const countRows = () => main.querySelectorAll("table.rows tbody tr").length;
 
 /** The next row of the open module, or the one before. */
 function step(by: number) {

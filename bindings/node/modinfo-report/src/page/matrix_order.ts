@@ -3,9 +3,8 @@
  * so that marks on the other side of the diagonal are edges between folders or of cycles.
  */
 
-import { type CycleKind, cycleOfEdge, strongerCycle } from "./cycles.js";
 import { eachPair } from "./graph_edges.js";
-import { type KindCounts, countKind } from "./graph_kinds.js";
+import { type CycleKind, type KindCounts, countKind, cycleOfEdge, strongerCycle } from "./graph_kinds.js";
 import { report } from "./report.js";
 import type { Folder } from "./folders.js";
 

@@ -1,8 +1,7 @@
 /** All edges of a folder of any size, as a matrix: a mark is an edge from its row's module to its column's. */
 
-import { CYCLES } from "./cycles.js";
 import { element } from "./elements.js";
-import { type KindCounts, hiddenKinds, kindsText, strongestKind } from "./graph_kinds.js";
+import { CYCLES, type KindCounts, hiddenKinds, kindsText, strongestKind } from "./graph_kinds.js";
 import { shortLabel } from "./graph_layout.js";
 import { legend } from "./graph_legend.js";
 import { Mover, type Placing } from "./graph_move.js";
@@ -67,7 +66,8 @@ export function matrixView(folder: Folder, isOwn: boolean = false): HTMLElement 
 function showMatrix(frame: Frame, matrix: Matrix, hint: HTMLElement) {
   const { modules, marks } = matrix;
   const all = marks.flat();
-  const label = `matrix of ${counted(modules.length, "module")} and ${counted(all.length, "edge")}`;
+  const [size, edges] = [counted(modules.length, "module"), counted(all.length, "edge")];
+  const label = `matrix of ${size} and ${edges}`;
   const canvas = element("canvas", { role: "img", "aria-label": label });
   frame.box.style.height = `${roomIn(frame.box).height}px`;
   frame.box.replaceChildren(canvas);
@@ -75,8 +75,7 @@ function showMatrix(frame: Frame, matrix: Matrix, hint: HTMLElement) {
   const paint = painter(canvas, matrix, state);
   const side = NAME_ROOM + CELL * modules.length;
   const mover = new Mover(frame.box, { width: side, height: side }, (at) => paint({ at }));
-  const size = `${counted(modules.length, "module")}, ${counted(all.length, "edge")}`;
-  frame.bar.append(element("span", { class: "count" }, size));
+  frame.bar.append(element("span", { class: "count" }, `${size}, ${edges}`));
   frame.box.before(legend({
     kinds: new Set(all.flatMap(({ kinds }) => [...kinds.keys()])), states: new Set(),
     cycles: CYCLES.filter((cycle) => all.some((mark) => mark.cycle === cycle)),
@@ -173,9 +172,7 @@ function paintMarks(pen: Pen, { modules, marks }: Matrix, place: Place, matches:
   pen.globalAlpha = 1;
 }
 
-function isHidden(kinds: KindCounts) {
-  return [...kinds.keys()].every((kind) => hiddenKinds.has(kind));
-}
+const isHidden = (kinds: KindCounts) => [...kinds.keys()].every((kind) => hiddenKinds.has(kind));
 
 /** Paints lines through the row and the column of a mark. */
 function paintCross(pen: Pen, { row, column }: Mark, { cell, left, top, width, height, colour }: Place) {

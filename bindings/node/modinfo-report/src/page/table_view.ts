@@ -1,7 +1,7 @@
 /** The table of a module's dependencies, and the list of its users. */
 
 import { element } from "./elements.js";
-import { hashOf, kindLabel, moduleLink, nameLabel, targetLabel } from "./pieces.js";
+import { hashOf, kindLabel, nameLabel, rowLink, targetLabel } from "./pieces.js";
 import { type Importer, importers, report } from "./report.js";
 import { longList } from "./reveal.js";
 import type { ImportAttributes } from "modinfo";
@@ -79,9 +79,8 @@ function detail(name: string, ...content: (Node | string | undefined)[]) {
 /** @param index of the module */
 export function importersView(index: number): HTMLElement {
   const item = ({ module, kind, row, line }: Importer) => {
-    const place = element("span", { class: "place" }, `:${line + 1}`);
     const { kind: word } = report.kinds[kind];
-    return element("li", {}, moduleLink(module, row), place, " ", kindLabel({ kind: word, word }));
+    return element("li", {}, ...rowLink(module, row, line), " ", kindLabel({ kind: word, word }));
   };
   const found = importers(index);
   return element(
