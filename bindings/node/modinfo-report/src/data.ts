@@ -13,7 +13,7 @@ import type { Module } from "./project.js";
 import type { Row } from "./rows.js";
 
 /** What a report has, without the texts of its modules. */
-type Report = Pick<Index, "title" | "entries" | "lists" | "outside"> & { modules: Module[], edges: Edge[] };
+export type Report = Pick<Index, "title" | "entries" | "lists" | "outside"> & { modules: Module[], edges: Edge[] };
 
 /** `start` is its first module */
 type Part = { start: number, modules: Details[] };

@@ -8,8 +8,8 @@ import { canonicalUrl } from "modinfo-graph/internal/graph/reach.js";
 import { type Fault, faultOf } from "modinfo-graph/internal/runtime/faults.js";
 import { type Mark, faultMarks, marksOf } from "./marks.js";
 import { type Row, rowsOf } from "./rows.js";
-import type { ModuleInfo } from "modinfo";
 import type { ResolvedModuleInfo } from "modinfo-graph";
+import type { ReadFile } from "modinfo-graph/internal/graph/read_graph.js";
 
 export interface Module {
   /** The path of its file, absolute */
@@ -26,22 +26,17 @@ export interface Module {
   fault?: Fault;
 }
 
-interface FileResult {
-  path: string;
-  info?: ModuleInfo;
-  fault?: Fault;
-}
-
 /** Collects modules in the order in which they are read, each file once. */
 export class Project {
   #modules: Module[] = [];
 
-  /** @param result `info` with its resolutions */
-  add({ path, info, fault }: FileResult) {
+  add({ path, info, fault, isLeft }: ReadFile) {
     const file = absolute(path);
     const module = { file, path: "", key: canonicalUrl(file), rows: [], marks: [] };
-    this.#modules.push(module);
-    this.#read(module, info, fault);
+    if (!isLeft) {
+      this.#modules.push(module);
+      this.#read(module, info, fault);
+    }
   }
 
   /** The modules that are listed, and the deepest folder around these and the paths of the words. */
@@ -55,7 +50,7 @@ export class Project {
     return { folder, modules };
   }
 
-  #read(module: Module, info: ModuleInfo | undefined, fault: Fault | undefined) {
+  #read(module: Module, info: ReadFile["info"], fault: Fault | undefined) {
     try {
       module.source = readRegularText(module.file);
       if (fault) {

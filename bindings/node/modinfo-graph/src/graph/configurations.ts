@@ -103,14 +103,12 @@ export class Configurations {
 
   private readonly read = memoized((path: string): Configuration => {
     const { options: all, members } = this.extended(path, [], { known: new Map(), count: 0 });
-    const { files, references } = members;
     const folder = dirname(path);
     const options: Options = Object.fromEntries(Object.entries(all).filter(([, value]) => value !== null));
-    const include = files ? [] : ALL.map((each) => join(folder, each));
+    const include = members.files ? [] : ALL.map((each) => join(folder, each));
     const exclude = [...NEVER.map((each) => join(folder, each)), ...outDirsOf(options)];
-    return {
-      path, folder, options, files: [], include, exclude, ...members, references: this.referencesOf(path, references),
-    };
+    const references = this.referencesOf(path, members.references);
+    return { path, folder, options, files: [], include, exclude, ...members, references };
   });
 
   /**

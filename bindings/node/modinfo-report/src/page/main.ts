@@ -1,16 +1,14 @@
 /** The page: shows what its address names. */
 
-import { cycleView } from "./cycle_view.js";
 import { element, nextTask } from "./elements.js";
 import { type Folder, folders, root } from "./folders.js";
 import { showHidden } from "./graph_legend.js";
 import { type Figure, graphView } from "./graph_view.js";
-import { largeFolderView } from "./large_view.js";
 import { listsView, summaryView } from "./lists_view.js";
-import { matrixView } from "./matrix_view.js";
+import { largeFolderView, matrixView } from "./matrix_view.js";
 import { ModuleList } from "./module_list.js";
 import { choose, moduleView } from "./module_view.js";
-import { STEPS, nearView } from "./near_view.js";
+import { STEPS, cycleView, nearView } from "./near_view.js";
 import { counted, hashOf } from "./pieces.js";
 import { paths, report, visible } from "./report.js";
 import { longList } from "./reveal.js";

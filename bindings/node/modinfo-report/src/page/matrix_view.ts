@@ -7,8 +7,9 @@ import { legend } from "./graph_legend.js";
 import { Mover, type Placing } from "./graph_move.js";
 import { type Frame, crumbs, graphFrame, roomIn, showMoved } from "./graph_view.js";
 import { type Band, type Mark, type Matrix, matrixOf } from "./matrix_order.js";
-import { counted, hashOf } from "./pieces.js";
+import { counted, hashOf, nameText } from "./pieces.js";
 import { eachEdge, paths, report, visible } from "./report.js";
+import { longList } from "./reveal.js";
 import type { Matches } from "./filter.js";
 import type { Folder } from "./folders.js";
 
@@ -33,11 +34,7 @@ const MATRIX_HINT = "A mark is an edge from the module of its row to the module 
 type Pen = CanvasRenderingContext2D;
 
 /** Where the matrix is in its box, and what is shown. */
-interface State {
-  at: Placing;
-  matches?: Matches;
-  pointed?: Mark;
-}
+type State = { at: Placing, matches?: Matches, pointed?: Mark };
 
 /** Where and how the matrix is painted on its canvas, in pixels. */
 interface Place {
@@ -281,4 +278,33 @@ function rowOfEdge(from: number, to: number) {
     found ??= each === to ? row : undefined;
   });
   return found;
+}
+
+/**
+ * A folder whose modules are too many for one drawing.
+ * @param isOwn whether its folders are left out
+ * @returns the matrix of all, and links to the graph of each module, those with most edges first
+ */
+export function largeFolderView(folder: Folder, isOwn: boolean = false): HTMLElement {
+  const view = matrixView(folder, isOwn);
+  const weight = (module: number) => report.edges[module].length + (report.entries.includes(module) ? 1e9 : 0);
+  const byEdges = [...folder.modules].sort((one, other) => weight(other) - weight(one));
+  const note = `The ${counted(folder.modules.length, "module")} of this folder are too many for one drawing. ` +
+    "Each name below opens the graph of its neighbours.";
+  const inside = (isOwn ? [] : folder.folders).map((each) => {
+    const text = `${visible(each.name)}/ (${each.count.toLocaleString("en")})`;
+    return element("a", { href: `#folder-${each.index}` }, text);
+  });
+  const choices = longList(byEdges, (module) => element("li", {}, nearLink(module)));
+  choices.classList.add("choices");
+  view.append(
+    element("p", { class: "hint inside" }, note),
+    element("p", { class: "hint inside" }, ...inside.flatMap((link) => [link, " "])), choices,
+  );
+  return view;
+}
+
+function nearLink(module: number) {
+  const attributes = { href: `#near-${module}`, title: visible(paths[module]) };
+  return element("a", attributes, ...nameText(shortLabel(report.modules[module])));
 }

@@ -53,17 +53,12 @@ function turnedEdges() {
 }
 
 /** The row of a module that leads to another one. */
-export interface Importer {
-  module: number;
-  kind: number;
-  row: number;
-  line: number;
-}
+export type Step = Record<"from" | "kind" | "row" | "line", number>;
 
 /** @returns the rows that lead to it */
-export function importers(module: number): Importer[] {
-  const found: Importer[] = [];
-  eachImporter(module, (from, kind, row, line) => found.push({ module: from, kind, row, line }));
+export function importers(module: number): Step[] {
+  const found: Step[] = [];
+  eachImporter(module, (from, kind, row, line) => found.push({ from, kind, row, line }));
   return found;
 }
 

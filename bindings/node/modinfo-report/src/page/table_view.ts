@@ -2,7 +2,7 @@
 
 import { element } from "./elements.js";
 import { hashOf, kindLabel, nameLabel, rowLink, targetLabel } from "./pieces.js";
-import { type Importer, importers, report } from "./report.js";
+import { type Step, importers, report } from "./report.js";
 import { longList } from "./reveal.js";
 import type { ImportAttributes } from "modinfo";
 import type { Target } from "../links.js";
@@ -78,9 +78,9 @@ function detail(name: string, ...content: (Node | string | undefined)[]) {
 
 /** @param index of the module */
 export function importersView(index: number): HTMLElement {
-  const item = ({ module, kind, row, line }: Importer) => {
+  const item = ({ from, kind, row, line }: Step) => {
     const { kind: word } = report.kinds[kind];
-    return element("li", {}, ...rowLink(module, row, line), " ", kindLabel({ kind: word, word }));
+    return element("li", {}, ...rowLink(from, row, line), " ", kindLabel({ kind: word, word }));
   };
   const found = importers(index);
   return element(

@@ -3,8 +3,8 @@
 import { detailsOf } from "./details.js";
 import { element } from "./elements.js";
 import { kindLabel, nameLabel, rowLink } from "./pieces.js";
-import { kindRuns, report } from "./report.js";
-import { type Step, wayTo } from "./ways.js";
+import { type Step, kindRuns, report } from "./report.js";
+import { wayTo } from "./ways.js";
 
 export function wayView(module: number): HTMLElement {
   const way = wayTo(module);

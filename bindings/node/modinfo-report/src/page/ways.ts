@@ -1,14 +1,6 @@
 /** The shortest paths to modules from the entries, or without entries from the modules that none leads to. */
 
-import { eachEdge, kindRuns, report } from "./report.js";
-
-/** An edge of a path. */
-export interface Step {
-  from: number;
-  kind: number;
-  row: number;
-  line: number;
-}
+import { type Step, eachEdge, kindRuns, report } from "./report.js";
 
 /** By modules the last edge of a shortest path to each; undefined where a path begins, and where none ends. */
 let steps: Step[] | undefined;
