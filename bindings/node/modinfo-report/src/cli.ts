@@ -7,17 +7,20 @@
 
 import { basename } from "node:path";
 
-import { UsageFault, readJobs, runProgram, usageOf } from "modinfo-graph/internal/cli/command_line.js";
-import { gapsNote } from "modinfo-graph/internal/cli/graph_output.js";
+import {
+  UsageFault, type Values, type Words, readJobs, runProgram, usageOf,
+} from "modinfo-graph/internal/cli/command_line.js";
+import { gapsNote } from "modinfo-graph/internal/cli/graph_checks.js";
 import { withProjectOptions } from "modinfo-graph/internal/cli/project_options.js";
-import { ENTRY_HELP, type GraphRun, RESOLUTION_HELP, RUN_OPTIONS, type Run, readRun } from "modinfo-graph/internal/cli/run.js";
+import {
+  ENTRY_HELP, type GraphRun, RESOLUTION_HELP, RUN_OPTIONS, type Run, readRun,
+} from "modinfo-graph/internal/cli/run.js";
 import { PROGRAM_HELP, checkProgram, modinfoPath } from "modinfo-graph/internal/files/program.js";
 import { isReplaceable, placeOf, replaceFile } from "modinfo-graph/internal/files/replace_file.js";
 import { dotText, isDot } from "modinfo-graph/internal/graph/pictures.js";
 import { isReport } from "modinfo-graph/internal/graph/scripts.js";
 import { unledOf, unreachedOf } from "modinfo-graph/internal/graph/unreached.js";
-import { systemMessage } from "modinfo-graph/internal/runtime/faults.js";
-import { printable, printableLines } from "modinfo-graph/internal/runtime/printable.js";
+import { printable, printableLines, systemMessage } from "modinfo-graph/internal/runtime/faults.js";
 import { type Report, indexOf, partsOf } from "./data.js";
 import { type Library, readLibraries } from "./libraries.js";
 import { type Edge, Links, edgesOf } from "./links.js";
@@ -25,7 +28,6 @@ import { listsOf, shownCycles, shownUnreached } from "./lists.js";
 import { outsideOf } from "./outside.js";
 import { pageOf } from "./page.js";
 import { type Module, Project } from "./project.js";
-import type { Values, Words } from "modinfo-graph/internal/cli/command_line.js";
 import type { ReadFile } from "modinfo-graph/internal/graph/read_graph.js";
 
 /** The modules of a report, and the folder around them */

@@ -5,7 +5,7 @@
 
 import { posix } from "node:path";
 
-import { KINDS } from "modinfo-graph/internal/graph/kinds.js";
+import { KINDS } from "modinfo-graph/internal/graph/pictures.js";
 import { withinBounds } from "./excerpts.js";
 import { type Edge, type Links, countEdges } from "./links.js";
 import type { Details, Index, RowDetails } from "./page_data.js";

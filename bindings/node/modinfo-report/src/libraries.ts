@@ -3,7 +3,7 @@
 import { readFileSync } from "node:fs";
 import { fileURLToPath } from "node:url";
 
-import { DEBIAN_MODULES } from "modinfo-graph/internal/files/own_files.js";
+import { DEBIAN_MODULES } from "modinfo-graph/internal/files/program.js";
 import { unlessThrown } from "modinfo-graph/internal/runtime/faults.js";
 
 /** The libraries: of each what it draws. */

@@ -7,7 +7,7 @@ import { isDeclaration } from "modinfo-graph/internal/files/file_kinds.js";
 import { isRunKind, textOfArgument } from "modinfo-graph/internal/graph/references.js";
 import { versions } from "./manifests.js";
 import type { Ends, Resolution } from "modinfo-graph";
-import type { Kind } from "modinfo-graph/internal/graph/kinds.js";
+import type { Kind } from "modinfo-graph/internal/graph/pictures.js";
 import type { Module } from "./project.js";
 import type { Row } from "./rows.js";
 

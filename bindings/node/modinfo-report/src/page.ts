@@ -4,7 +4,7 @@ import { createHash } from "node:crypto";
 import { readFileSync } from "node:fs";
 import { deflateSync } from "node:zlib";
 
-import { KINDS } from "modinfo-graph/internal/graph/kinds.js";
+import { KINDS } from "modinfo-graph/internal/graph/pictures.js";
 import type { Library } from "./libraries.js";
 import type { Details, Index } from "./page_data.js";
 

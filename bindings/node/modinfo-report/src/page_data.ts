@@ -1,6 +1,6 @@
 /** What the page's script reads: the data that are written into the page, as JSON. */
 
-import type { Kind } from "modinfo-graph/internal/graph/kinds.js";
+import type { Kind } from "modinfo-graph/internal/graph/pictures.js";
 import type { Fault } from "modinfo-graph/internal/runtime/faults.js";
 import type { Target } from "./links.js";
 import type { Lists } from "./lists.js";

@@ -5,7 +5,7 @@ import type {
   DynamicArgument, ImportAttributes, JsDocImportInfo, Position, PositionRange, ResolutionMode,
 } from "modinfo";
 import type { Ends, Resolution, ResolvedDependency, ResolvedModuleInfo } from "modinfo-graph";
-import type { Kind } from "modinfo-graph/internal/graph/kinds.js";
+import type { Kind } from "modinfo-graph/internal/graph/pictures.js";
 
 export interface Row {
   kind: Kind;

@@ -1,4 +1,4 @@
-/** What the commands share: their words, and how they end. */
+/** What the commands share: their words, their output, and how they end. */
 
 import { readFileSync } from "node:fs";
 import { type ParseArgsConfig, parseArgs } from "node:util";
@@ -7,8 +7,7 @@ import { GlobFault } from "../files/globs.js";
 import { programName } from "../files/program.js";
 import { EntryFault } from "../graph/entry_points.js";
 import { readJobs as processors } from "../runtime/call_options.js";
-import { printable, printableLines } from "../runtime/printable.js";
-import { OutputFault, writeOutput } from "./standard_output.js";
+import { printable, printableLines, systemMessage } from "../runtime/faults.js";
 
 const MOST_JOBS = 9999;
 
@@ -110,4 +109,61 @@ export function readJobs(word: string | undefined): number {
     throw new UsageFault(`--jobs must be a number from 1 to ${MOST_JOBS}`);
   }
   return Math.min(most, processors());
+}
+
+export class OutputFault extends Error {
+  /** Whether its reader has ended, as `head` does. */
+  readonly isClosed;
+
+  constructor(error: NodeJS.ErrnoException) {
+    super(`the standard output: ${systemMessage(error)}`);
+    this.name = "OutputFault";
+    this.isClosed = error.code === "EPIPE";
+  }
+}
+
+/** How many characters wait for others at most. */
+const PIECE = 1 << 16;
+
+/** Lines, of which those that come in one turn are written at once. */
+export class OutputLines {
+  #waiting = "";
+  #written: Promise<void> = Promise.resolve();
+  #hasFailed = false;
+
+  /**
+   * @param line with its end
+   * @returns where it has to be waited for, or an earlier line wasn't written: rejected with an `OutputFault`
+   */
+  write(line: string): Promise<void> | undefined {
+    if (this.#waiting === "") {
+      setImmediate(() => this.#flush());
+    }
+    this.#waiting += line;
+    return this.#waiting.length < PIECE && !this.#hasFailed ? undefined : this.end();
+  }
+
+  /** @returns once all lines are written; rejected with an `OutputFault` */
+  end(): Promise<void> {
+    this.#flush();
+    return this.#written;
+  }
+
+  #flush() {
+    const text = this.#waiting;
+    this.#waiting = "";
+    if (text !== "" && !this.#hasFailed) {
+      this.#written = Promise.all([this.#written, writeOutput(text)]).then(() => {});
+      this.#written.catch(() => {
+        this.#hasFailed = true;
+      });
+    }
+  }
+}
+
+/** @returns once it is written; rejected with an `OutputFault` */
+export function writeOutput(text: string): Promise<void> {
+  return new Promise((resolve, reject) => {
+    process.stdout.write(text, (error) => (error ? reject(new OutputFault(error)) : resolve()));
+  });
 }

@@ -5,14 +5,13 @@ import { isFile } from "../files/find_files.js";
 import { dotText, mermaidText } from "../graph/pictures.js";
 import { canonicalUrl } from "../graph/reach.js";
 import { unreachedOf } from "../graph/unreached.js";
-import { printable } from "../runtime/printable.js";
-import { UsageFault } from "./command_line.js";
-import { type Answer, CHECKS, type Context, type FilesValues } from "./graph_checks.js";
+import { printable } from "../runtime/faults.js";
+import { UsageFault, writeOutput } from "./command_line.js";
 import {
-  byTypesData, byTypesLine, gapsNote, mayBeReachedLine, mentionData, shownPath, stepLine,
-} from "./graph_output.js";
+  type Answer, CHECKS, type Context, type FilesValues, byTypesData, byTypesLine, gapsNote, mayBeReachedLine,
+  mentionData, shownPath, stepLine,
+} from "./graph_checks.js";
 import { type Run, readRun } from "./run.js";
-import { writeOutput } from "./standard_output.js";
 import type { Step } from "../graph/graph.cjs";
 
 /** Without the findings that are known; `keys` are those of the others */

@@ -26,9 +26,7 @@ export function foldersFrom(folder: string): string[] {
  * What the nearest folder has for which there is something: a folder itself, or one above it.
  * @param find is called once for each folder; null where the folders above don't count
  */
-export function nearest<Value>(
-  find: (folder: string) => Value | null | undefined,
-): (folder: string) => Value | undefined {
+export function nearest<Value>(find: (folder: string) => Value | null | undefined) {
   const of: (folder: string) => Value | undefined = memoized((folder) => {
     const found = find(folder);
     const above = dirname(folder);
@@ -41,9 +39,7 @@ export function nearest<Value>(
  * What folders have that depends on those above them.
  * @param make is called once for each folder, after that above it
  */
-export function inherited<Value>(
-  make: (folder: string, above: Value | undefined) => Value,
-): (folder: string) => Value {
+export function inherited<Value>(make: (folder: string, above: Value | undefined) => Value) {
   const of: (folder: string) => Value = memoized((folder) => {
     const above = dirname(folder);
     return make(folder, above === folder ? undefined : of(above));

@@ -54,9 +54,7 @@ export async function* findFiles(
 }
 
 /** Yields the paths of a list: one per line, or each ended by a zero byte. */
-export async function* readPaths(
-  input: AsyncIterable<Uint8Array>, separator: "\n" | "\0",
-): AsyncGenerator<string, void, undefined> {
+export async function* readPaths(input: AsyncIterable<Uint8Array>, separator: "\n" | "\0") {
   const decoder = new TextDecoder();
   let begun = "";
   for await (const bytes of input) {

@@ -1,14 +1,14 @@
-/** Finds the program `modinfo`, and tries whether it runs. */
+/** Finds the program `modinfo`, tries whether it runs, and loads what is installed for this package. */
 
 import { spawn } from "node:child_process";
 import { once } from "node:events";
 import { existsSync } from "node:fs";
+import { createRequire } from "node:module";
 import { resolve as absolute } from "node:path";
 import { fileURLToPath } from "node:url";
 
 import { compiledModule, modulePath } from "modinfo/internal/wasm_module.js";
 import { unlessThrown } from "../runtime/faults.js";
-import { ownRequire } from "./own_files.js";
 
 /** The package that has the program for this system, where there is one. */
 const PACKAGE = `modinfo-${process.platform}-${process.arch}`;
@@ -75,4 +75,24 @@ async function endOf(program: string): Promise<string> {
   const child = spawn(program, ["files", "--null"], { stdio: ["ignore", "ignore", "inherit"] });
   const [status, signal] = await once(child, "close");
   return signal ?? `status ${status}`;
+}
+
+/** The folder of Debian's packages. Debian's node looks for modules there, others don't. */
+export const DEBIAN_MODULES = "/usr/share/nodejs";
+
+/** What node loads from this package, or from the bundle with it: never a module of a project that is read. */
+export const ownRequire = createRequire(import.meta.url ?? __filename);
+
+/** @throws {Error} it isn't installed */
+export function loadTypeScript(): unknown {
+  for (const path of ["typescript", `${DEBIAN_MODULES}/typescript`]) {
+    try {
+      return ownRequire(path);
+    } catch (error) {
+      if ((error as NodeJS.ErrnoException).code !== "MODULE_NOT_FOUND") {
+        throw error;
+      }
+    }
+  }
+  throw new Error("types need TypeScript: npm install typescript, or Debian's node-typescript");
 }

@@ -1,14 +1,16 @@
-/** Reads many files at once, by `modinfo files` or by the WebAssembly module. */
+/** Reads many files at once, by `modinfo files` or, in threads, by the WebAssembly module. */
 
-import { onAbort } from "../runtime/abort_signals.js";
+import { Worker } from "node:worker_threads";
+
+import { compiledModule } from "modinfo/internal/wasm_module.js";
+import { onAbort } from "../runtime/call_options.js";
 import { type Fault, FileFault, faultOf, unlessThrown } from "../runtime/faults.js";
 import { inOrder } from "../runtime/in_order.js";
-import { type Answer, Pool } from "../runtime/pool.js";
+import { type Answer, type Kind, Pool } from "../runtime/pool.js";
 import { processesOf } from "../runtime/processes.js";
 import { isModule } from "./file_kinds.js";
 import { isWasm } from "./program.js";
 import { Texts } from "./texts.js";
-import { threadsOf } from "./threads.js";
 import { realPath } from "./urls.js";
 import type { ModuleInfo, Signal } from "modinfo";
 import type { Found } from "./find_files.js";
@@ -97,4 +99,29 @@ function readAnswer(line: Buffer): Answer | undefined {
   }
   const { name, message, position } = unlessThrown(() => JSON.parse(String(line)).fault) ?? {};
   return typeof name === "string" ? { error: new FileFault(name, message, position) } : undefined;
+}
+
+/** For some dozen paths. */
+const ROOM = 1 << 10;
+
+/** @param path of the module */
+export function threadsOf(path: string): Kind {
+  const workerData = compiledModule(path);
+  return {
+    name: "a thread",
+    room: ROOM,
+    start: ({ onAnswer, onEnd }) => {
+      const worker = new Worker(new URL("./file_worker.js", import.meta.url), { workerData });
+      worker.on("message", ({ info, fault, message, position }) => {
+        onAnswer(info === undefined ? { error: new FileFault(fault, message, position) } : { value: info });
+      });
+      worker.on("error", ({ message }) => onEnd(`ended: ${message}`));
+      worker.on("exit", () => onEnd("ended: it ended"));
+      return {
+        send: (path) => worker.postMessage(path.slice(0, -1)),
+        hold: (isHeld) => (isHeld ? worker.ref() : worker.unref()),
+        kill: () => worker.terminate(),
+      };
+    },
+  };
 }

@@ -3,7 +3,7 @@
 import { dirname, join, resolve as absolute } from "node:path";
 
 import { foldersFrom, memoized, nearest } from "../files/by_folder.js";
-import { matchesPath } from "../files/wildcards.js";
+import { matchesPath } from "../files/globs.js";
 import { Notices, firstIn, isThere, membersAt, parseWithComments } from "./members.js";
 import { isPath } from "./names.js";
 import { isObject } from "./package_targets.js";

@@ -66,9 +66,7 @@ export function looseImports(text: string, kind: ReasonKind): LooseReference[] {
   return [...searched.flatMap((each) => referencesAfter(text, each, { kind })), ...looseCalls(text)];
 }
 
-function referencesAfter(
-  text: string, call: RegExp, { kind, form = "name", isFile, isEnded }: What,
-): LooseReference[] {
+function referencesAfter(text: string, call: RegExp, { kind, form = "name", isFile, isEnded }: What) {
   const hasList = ["glob", "amd", "list"].includes(form);
   const isKnown = (parts: Parts) => {
     return parts.some((each) => each !== undefined) && (!isEnded || isModule(parts.at(-1) ?? ""));

@@ -79,9 +79,7 @@ export class ModuleGraph {
   }
 
   /** The references that count, of some modules: of those that are listed, where none are given. */
-  mentions(
-    isMeant: (reference: Reference, module: string) => boolean, modules: GraphModule[] = this.listed,
-  ): Mention[] {
+  mentions(isMeant: (reference: Reference, module: string) => boolean, modules: GraphModule[] = this.listed) {
     return modules.flatMap(({ specifier: module, references }) => {
       return references.filter((each) => counts(each, this.counted) && isMeant(each, module))
         .map((reference) => ({ module, reference }));

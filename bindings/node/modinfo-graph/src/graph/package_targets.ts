@@ -103,9 +103,7 @@ export function textsIn(value: unknown): string[] {
 }
 
 /** The target of a key: of one that is the name itself, else of the longest pattern for it; null for none. */
-function chosen(
-  targets: Record<string, unknown>, name: string, isExact: boolean,
-): { target: unknown, match?: string } {
+function chosen(targets: Record<string, unknown>, name: string, isExact: boolean) {
   const isKey = isExact && Object.hasOwn(targets, name);
   const best = isKey ? { key: name, match: undefined } : longestPattern(Object.keys(targets), name);
   return { target: best ? targets[best.key] : null, match: best?.match };

@@ -7,9 +7,8 @@ import { memoized } from "../files/by_folder.js";
 import { RegularFiles } from "../files/regular_files.js";
 import { urlOfPath } from "../files/urls.js";
 import { packageOf, typesOf } from "./names.js";
-import { type Manifest, PackageManifests } from "./package_manifests.js";
+import { type Manifest, PackageManifests, projectsOf } from "./package_manifests.js";
 import { type PackageReason, packageReasons, packagesIn } from "./package_reasons.js";
-import { projectsOf } from "./projects.js";
 import type { Ends, Mention, Reference } from "./graph.cjs";
 import type { ModuleGraph } from "./module_graph.js";
 

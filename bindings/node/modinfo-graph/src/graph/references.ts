@@ -53,16 +53,12 @@ export function counts({ kind }: { kind: string }, { types = false, dynamic = tr
 }
 
 /** The kind of a dependency of a `ModuleInfo`: its type, or that it is for types alone, or a `require`. */
-export function kindOf(
-  { type, kind = "import" }: { type: "static" | "dynamic", kind?: string },
-): "static" | "dynamic" | "type" | "require" {
+export function kindOf({ type, kind = "import" }: { type: "static" | "dynamic", kind?: string }) {
   return BY_WORD.get(kind)?.[0] ?? type;
 }
 
 /** The text of an argument: its parts together; nothing where one of them isn't known. */
-export function textOfArgument(
-  argument: string | { type: string, value?: string }[] | undefined,
-): string | undefined {
+export function textOfArgument(argument: string | { type: string, value?: string }[] | undefined) {
   if (!Array.isArray(argument)) {
     return argument;
   }

@@ -4,7 +4,7 @@ import { resolve as absolute } from "node:path";
 
 import { memoized } from "../files/by_folder.js";
 import { isTypeScript } from "../files/file_kinds.js";
-import { loadTypeScript } from "../files/own_files.js";
+import { loadTypeScript } from "../files/program.js";
 import { unlessThrown } from "../runtime/faults.js";
 import { Notices } from "./members.js";
 import { fileAt } from "./node_rules.js";

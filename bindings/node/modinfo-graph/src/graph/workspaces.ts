@@ -6,7 +6,7 @@
 import { dirname, join, relative } from "node:path";
 
 import { nearest } from "../files/by_folder.js";
-import { matchesName, matchesPath } from "../files/wildcards.js";
+import { matchesName, matchesPath } from "../files/globs.js";
 import { unlessThrown } from "../runtime/faults.js";
 import { isObject } from "./package_targets.js";
 import type { RegularFiles } from "../files/regular_files.js";

@@ -1,8 +1,7 @@
-/** What the options of the calls have in common. */
+/** What the options of the calls have in common, and what happens once a signal is aborted. */
 
 import os from "node:os";
 
-import { onAbort } from "./abort_signals.js";
 import type { Signal } from "modinfo/internal/types/calls.cjs";
 
 export { checkKnown, readSignal } from "modinfo/internal/core/input.cjs";
@@ -38,4 +37,29 @@ export async function unlessAborted<T>(signal: Signal | undefined, call: () => P
   } finally {
     takeBack();
   }
+}
+
+/** By each signal what is called. It has one listener: node warns of many. */
+const calls: WeakMap<Signal, Set<() => void>> = new WeakMap();
+
+/** Calls a function once a signal is aborted. Returns what takes the call back. */
+export function onAbort(signal: Signal | undefined, call: () => void): () => void {
+  if (!signal) {
+    return () => {};
+  }
+  const all = calls.get(signal) ?? new Set();
+  if (all.size === 0) {
+    calls.set(signal, all);
+    signal.addEventListener("abort", listener);
+  }
+  all.add(call);
+  return () => {
+    if (all.delete(call) && all.size === 0) {
+      signal.removeEventListener("abort", listener);
+    }
+  };
+}
+
+function listener(event?: { target: unknown }) {
+  [...calls.get(event?.target as Signal) ?? []].forEach((call) => call());
 }

@@ -1,7 +1,10 @@
-/** Why nothing is known of a file. */
+/**
+ * Why nothing is known of a file, and texts as messages show them. The name of a file may have any character but two,
+ * among them those that move a terminal's cursor, begin a line that looks like another message, or turn the direction
+ * of a text.
+ */
 
 import { ModinfoFault, ProgramEnd } from "modinfo/internal/core/errors.cjs";
-import { printable } from "./printable.js";
 
 /** As it is printed */
 export interface Fault {
@@ -63,4 +66,21 @@ export function systemMessage(error: unknown): string {
 /** A fault or a warning, as `FILE:LINE:COLUMN: MESSAGE`, without characters that a terminal obeys. */
 export function describeFault(file: string, { message, line, column }: Omit<Fault, "fault">): string {
   return `${printable(file)}${line ? `:${line}:${column}` : ""}: ${printable(message)}`;
+}
+
+const UNPRINTABLE = /[\p{Cc}\p{Zl}\p{Zp}\p{Bidi_Control}\p{Surrogate}]/gu;
+const SHORT = new Map([["\n", "\\n"], ["\r", "\\r"], ["\t", "\\t"]]);
+
+/** A text with its control characters escaped, as `\n`, `\x1b` and `\u{202e}`. */
+export function printable(text: string): string {
+  return text.replace(UNPRINTABLE, (character) => SHORT.get(character) ?? escaped(character));
+}
+
+/** Like `printable`, but leaves line feeds and tabs as they are. */
+export const printableLines = (text: string): string => text.replace(/[^\n\t]+/g, printable);
+
+function escaped(character: string) {
+  const code = character.codePointAt(0) ?? 0;
+  const digits = code.toString(16);
+  return code < 0x100 ? `\\x${digits.padStart(2, "0")}` : `\\u{${digits}}`;
 }

@@ -73,9 +73,7 @@ export function targetLabel(target: Target | undefined): HTMLElement | string {
   return element("span", { class: "outside", title: "not a module of this report" }, ...outsideLabel(target));
 }
 
-function outsideLabel(
-  { class: name, file, package: packageName, version = "" }: Target,
-): (HTMLElement | string)[] {
+function outsideLabel({ class: name, file, package: packageName, version = "" }: Target) {
   switch (name) {
     case "builtin": return ["a module of Node.js"];
     case "url": return ["a URL"];
