@@ -22,8 +22,6 @@ export class FileReporter {
   status = 0;
   /** Whether there is a line of progress. */
   readonly isShown;
-  #name;
-  #stream;
   #drawn = -Infinity;
   #found = 0;
   #done = 0;
@@ -32,10 +30,9 @@ export class FileReporter {
 
   /** @param isShown whether the stream, where it is a terminal, gets a line of progress */
   constructor(
-    name: string, isShown: boolean, stream: { write(text: string): unknown, isTTY?: boolean } = process.stderr,
+    private readonly name: string, isShown: boolean,
+    private readonly stream: { write(text: string): unknown, isTTY?: boolean } = process.stderr,
   ) {
-    this.#name = name;
-    this.#stream = stream;
     this.isShown = Boolean(isShown && stream.isTTY);
   }
 
@@ -77,21 +74,21 @@ export class FileReporter {
     this.#done++;
     if (this.isShown && performance.now() - this.#drawn >= STEP) {
       const faults = `${this.#faults} ${this.#faults === 1 ? "fault" : "faults"}`;
-      this.#stream.write(`${CLEAR}${this.#done} of ${this.#found} files, ${faults}`);
+      this.stream.write(`${CLEAR}${this.#done} of ${this.#found} files, ${faults}`);
       this.#drawn = performance.now();
     }
   }
 
   #clear() {
     if (this.#drawn > 0) {
-      this.#stream.write(CLEAR);
+      this.stream.write(CLEAR);
       this.#drawn = -Infinity;
     }
   }
 
   #print(text: string) {
     this.#clear();
-    this.#stream.write(`${this.#name}: ${text}\n`);
+    this.stream.write(`${this.name}: ${text}\n`);
   }
 }
 

@@ -39,15 +39,8 @@ export const RESOLUTION_HELP = `\
 /** How many paths are looked up ahead of the files that are read. */
 const AHEAD = 1_000_000;
 
-export interface Run<V extends Values = Values> {
-  /** The program's */
-  name: string;
-  /** Those of its options */
-  values: V;
-  paths: string[];
-  /** The path of `modinfo` */
-  program: string;
-}
+/** The name of a command, the values of its options, and the path of `modinfo` */
+export type Run<V extends Values = Values> = { name: string, values: V, paths: string[], program: string };
 
 /**
  * Reads the files of some paths, and prints what is wrong with them.
@@ -77,13 +70,8 @@ export async function runLines(
 /** `status` is 1 if a file can't be read, or an entry isn't there */
 export type GraphRun = ProjectGraph & { status: number };
 
-interface Reading {
-  /** Whether excluded files are read too, for what they lead to. */
-  excluded: boolean;
-  /** Whether declaration files are looked for; true where it is missing. */
-  declarations?: boolean;
-  onRead?: (result: ReadFile) => void;
-}
+/** Whether excluded files are read too, for what they lead to, and whether declaration files are looked for */
+type Reading = { excluded: boolean, declarations?: boolean, onRead?: (result: ReadFile) => void };
 
 export async function readRun(run: Run, { excluded, declarations, onRead }: Reading): Promise<GraphRun> {
   const { name, program, paths, values } = run;

@@ -14,16 +14,8 @@ export class GitFault extends Error {}
 /** Whether a path, or a folder around it, is left out */
 type IsOut = (path: string) => boolean;
 
-interface Exclusions {
-  /** Whether a file isn't listed */
-  isExcluded: IsOut;
-  /** Whether it isn't read either */
-  isIgnored: IsOut;
-  /** Whether it isn't listed by `exclude` alone */
-  isKept: IsOut;
-  /** Whether it is excluded or ignored */
-  isLeftOut: IsOut;
-}
+/** Whether a file isn't listed, isn't read either, isn't listed by `exclude` alone, and either of the first two. */
+type Exclusions = Record<"isExcluded" | "isIgnored" | "isKept" | "isLeftOut", IsOut>;
 
 /** Globs as `globMatcher` takes them, and whether git decides what isn't listed. */
 type Words = { exclude?: string[], ignore?: string[], gitignore?: boolean };
@@ -69,7 +61,7 @@ async function ignoredBelow(folder: string): Promise<string[]> {
   return paths.map((path) => join(root, path.replace(/\/$/, "")));
 }
 
-async function git(folder: string, words: string[]): Promise<string> {
+async function git(folder: string, words: string[]) {
   try {
     return (await promisify(execFile)("git", words, { cwd: folder, maxBuffer: 1 << 30 })).stdout;
   } catch (error) {

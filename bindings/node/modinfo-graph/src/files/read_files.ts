@@ -10,20 +10,17 @@ import { type Answer, type Kind, Pool } from "../runtime/pool.js";
 import { processesOf } from "../runtime/processes.js";
 import { isModule } from "./file_kinds.js";
 import { isWasm } from "./program.js";
-import { Texts } from "./texts.js";
 import { realPath } from "./urls.js";
 import type { ModuleInfo, Signal } from "modinfo";
 import type { Found } from "./find_files.js";
 
+/** `program` is the path of `modinfo` or of the WebAssembly module; `jobs` the most processes or threads at once. */
 export interface ReadOptions {
-  /** The path of `modinfo`, or of the WebAssembly module */
   program: string;
-  /** The most processes or threads at once */
   jobs: number;
-  /** Ends the processes */
   signal?: Signal;
   /** Reads a file that isn't a module as a whole; nothing for other files */
-  readOther?: (path: string, texts: Texts) => Promise<Read> | undefined;
+  readOther?: (path: string) => Promise<Read> | undefined;
 }
 
 type Read = Pick<FileResult, "value" | "fault">;
@@ -57,11 +54,10 @@ export function readFiles(
     ? threadsOf(program)
     : processesOf({ program, words: ["files", "--null"], read: readAnswer });
   const pool = new Pool(kind, jobs);
-  const texts = new Texts(program);
   const takeBack = onAbort(signal, () => pool.kill());
   const read = (file: Found): Promise<FileResult> | FileResult => {
     const { path, real, error, isLeft } = file;
-    const other = error || isLeft ? undefined : readOther(path, texts);
+    const other = error || isLeft ? undefined : readOther(path);
     return other ? other.then((result) => ({ path, real, ...result })) : readFile(file, pool);
   };
   return inOrder(files, jobs * UNDER_WAY, read, () => {

@@ -2,14 +2,18 @@
 
 import { resolve as absolute } from "node:path";
 
+import { ModinfoFault } from "modinfo/internal/core/errors.cjs";
+import { Core } from "modinfo/internal/core/instance.cjs";
+import { plans } from "modinfo/internal/core/plans.cjs";
+import { compiledModule, modulePath } from "modinfo/internal/wasm_module.js";
 import { isPage } from "../files/file_kinds.js";
+import { isWasm } from "../files/program.js";
 import { readRegularText } from "../files/regular_file.js";
 import { urlOfPath } from "../files/urls.js";
 import { FileFault, faultOf } from "../runtime/faults.js";
 import { type Source, isReport, positionsIn, scriptsOf } from "./scripts.js";
-import type { DependencyDescriptor, ModuleInfo } from "modinfo";
+import type { DependencyDescriptor, MediaType, ModuleInfo } from "modinfo";
 import type { FileResult } from "../files/read_files.js";
-import type { Texts } from "../files/texts.js";
 
 /** The most bytes of a component or a page. */
 const MOST_BYTES = 2 ** 24;
@@ -23,7 +27,7 @@ const SINGLE = ["selfTypesSpecifier", "jsxImportSource", "jsxImportSourceTypes"]
  * `src` of a page's script names; `fault` is that of the first script that can't be read. A page without scripts,
  * and a report that was made before, has neither.
  */
-export async function readComponent(path: string, texts: Texts): Promise<Pick<FileResult, "value" | "fault">> {
+export async function readComponent(path: string, infoOf: ReturnType<typeof textReader>): Promise<Pick<FileResult, "value" | "fault">> {
   try {
     const text = readRegularText(path, MOST_BYTES);
     const { scripts, sources } = isReport(text) ? { scripts: [], sources: [] } : scriptsOf(text, path);
@@ -31,7 +35,7 @@ export async function readComponent(path: string, texts: Texts): Promise<Pick<Fi
       return {};
     }
     const url = urlOfPath(absolute(path));
-    const read = await Promise.allSettled(scripts.map((each) => texts.info(each.text, url, each.mediaType)));
+    const read = await Promise.allSettled(scripts.map((each) => infoOf(each.text, url, each.mediaType)));
     const infos = read.flatMap((each) => (each.status === "fulfilled" ? [each.value] : []));
     const [fault] = read.flatMap((each) => (each.status === "rejected" ? [faultOf(each.reason)] : []));
     const named = dependenciesOf(text, sources, isPage(path));
@@ -56,4 +60,23 @@ function dependenciesOf(text: string, sources: Source[], isUrl: boolean): Depend
     type: "static", kind: "import", sideEffect: true, specifier: name,
     specifierRange: [positionOf(start), positionOf(end)], ...(isUrl && { isUrl }),
   }));
+}
+
+/**
+ * Returns what analyzes texts by the WebAssembly module, which is loaded with the first text; rejected with a
+ * `FileFault` that has the position of a syntax error.
+ * @param program the path of `modinfo`, or of the module
+ */
+export function textReader(program: string) {
+  let core: Core | undefined;
+  return async (text: string, specifier: string, mediaType: MediaType): Promise<ModuleInfo> => {
+    try {
+      core ??= new Core(compiledModule(isWasm(program) ? program : modulePath()));
+      return plans.moduleInfo(text, specifier, mediaType)(core);
+    } catch (error) {
+      const { fault, message, line, column = 1 } = error as Partial<ModinfoFault>;
+      const isPlaced = error instanceof ModinfoFault && fault !== undefined && line !== undefined;
+      throw isPlaced ? new FileFault(fault, String(message), [line - 1, column - 1]) : error;
+    }
+  };
 }

@@ -16,25 +16,11 @@ import type { Resolver } from "./resolver.js";
 /** A path that names no entry. The message is for people. */
 export class EntryFault extends Error {}
 
-interface EntryPoints {
-  /** paths */
-  files: string[];
-  /** What a package.json names that isn't there */
-  absent: string[];
-  /** The paths of scripts without an ending, which aren't parsed */
-  texts: string[];
-  perhaps: Perhaps[];
-}
+/** Paths: of modules, what a package.json names that isn't there, and scripts without an ending, which aren't parsed */
+type EntryPoints = Record<"files" | "absent" | "texts", string[]> & { perhaps: Perhaps[] };
 
-/** What a package.json names that may be reached */
-export interface Perhaps {
-  kind: "condition" | "text";
-  /** Of the file; without it the text may lead to some */
-  path?: string;
-  /** The path of the package.json, absolute */
-  from: string;
-  text: string;
-}
+/** What the package.json at `from` names that may be reached: the file at a path; without a path, what the text names */
+export type Perhaps = { kind: "condition" | "text", path?: string, from: string, text: string };
 
 /** The members of a package.json that name modules, and of tools, whose files may be missing. */
 const MEMBERS = ["main", "module", "bin", "browser"];
@@ -92,14 +78,12 @@ async function ofPackage(folder: string, conditions: readonly string[], resolver
     const what = found.absent.length > 0 ? `files not found: ${found.absent.join(", ")}` : "it names no module";
     throw new EntryFault(`${manifest}: ${what}`);
   }
-  exported.perhaps.forEach(({ path, text }) => {
-    found.perhaps.push({ kind: "condition", path: absolute(path), from, text });
-  });
   const forTools = Object.fromEntries(Object.entries(values).filter(([member]) => !NO_TEXTS.has(member)));
-  for (const text of textsIn(forTools).filter((each) => /[/*]/.test(each))) {
-    found.perhaps.push({ kind: "text", from, text });
-  }
-  return { ...found, absent: found.absent.map((name) => `${manifest}: ${name}`) };
+  const perhaps: Perhaps[] = [
+    ...exported.perhaps.map(({ path, text }) => ({ kind: "condition" as const, path: absolute(path), from, text })),
+    ...textsIn(forTools).filter((each) => /[/*]/.test(each)).map((text) => ({ kind: "text" as const, from, text })),
+  ];
+  return { ...found, absent: found.absent.map((name) => `${manifest}: ${name}`), perhaps };
 }
 
 /**
@@ -174,12 +158,10 @@ type Exported = { files: string[], absent: string[], perhaps: { path: string, te
 export async function exportedFiles(exports: unknown, folder: string, conditions: readonly string[]) {
   const all: Exported = { files: [], absent: [], perhaps: [] };
   for (const [subpath, target] of Object.entries(exports ? bySubpath(exports) : {})) {
-    if (subpath.includes("*")) {
-      for (const match of await matchesOf(target, folder)) {
-        add(all, exports, { subpath: subpath.replace("*", () => match), folder, conditions, isThere: true });
-      }
-    } else {
-      add(all, { [subpath]: target }, { subpath, folder, conditions, isThere: false });
+    const isThere = subpath.includes("*");
+    for (const match of isThere ? await matchesOf(target, folder) : [""]) {
+      const from = { subpath: subpath.replace("*", () => match), folder, conditions, isThere };
+      add(all, isThere ? exports : { [subpath]: target }, from);
     }
   }
   if (all.files.length + all.absent.length === 0) {
@@ -229,7 +211,6 @@ async function matchesOf(target: unknown, folder: string): Promise<Set<string>> 
   return matches;
 }
 
-/** @returns what each `*` of a target stands for; nothing where the name isn't one of the target */
 function matchOf(pattern: string, name: string): string | undefined {
   const texts = pattern.split("*");
   const length = (name.length - texts.join("").length) / (texts.length - 1);

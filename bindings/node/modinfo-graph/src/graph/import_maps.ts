@@ -16,24 +16,14 @@ import { isObject } from "./package_targets.js";
 import { scriptsOf } from "./scripts.js";
 import type { RegularFiles } from "../files/regular_files.js";
 
-/** Where a name leads by a configuration. */
-export interface Configured {
-  by: "tsconfig" | "importmap";
-  /** At which the module may be, without what is added to names */
-  paths: string[];
-  /** Another name for it, which no path is */
-  name?: string;
-}
+/** Where a name leads by a configuration: paths without what is added to names, or another name, which no path is. */
+export type Configured = { by: "tsconfig" | "importmap", paths: string[], name?: string };
 
 /** By keys, each a URL, or a name where it is none */
 type Targets = Map<string, string>;
 
-interface ImportMap {
-  isDeno: boolean;
-  imports: Targets;
-  /** The longest first */
-  scopes: [scope: string, imports: Targets][];
-}
+/** The longest scopes are the first. */
+type ImportMap = { isDeno: boolean, imports: Targets, scopes: [scope: string, imports: Targets][] };
 
 const NAMES = ["deno.json", "deno.jsonc"];
 const REGISTRY = /^(?:jsr|npm):/;

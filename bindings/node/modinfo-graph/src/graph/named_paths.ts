@@ -14,10 +14,7 @@ import { isPath, isRelative, tailOf } from "./names.js";
 import type { Resolver } from "./resolver.js";
 
 /** The files that are looked for, and what finds them by the rules of node. */
-interface Among {
-  candidates: Candidates;
-  resolver: Resolver;
-}
+export type Among = { candidates: Candidates, resolver: Resolver };
 
 /** What jest writes for the folder of its configuration. */
 const ROOT_DIR = /^<rootDir>\//;

@@ -73,12 +73,8 @@ const MARKS = ["package.json", "deno.json", "deno.jsonc", "tsconfig.json", "jsco
 const REPOSITORY = [".git", ".hg"];
 const PACKAGES = ["node_modules"];
 
-export interface Project {
-  /** Its folder */
-  project?: string;
-  /** Whether no more of it may be above that folder */
-  isWhole: boolean;
-}
+/** The folder of a project, and whether no more of it may be above that folder */
+export type Project = { project?: string, isWhole: boolean };
 
 /**
  * The folder of the repository that a folder is in; else the uppermost one with a package.json or a

@@ -26,12 +26,8 @@ export interface PackageReason {
   text?: string;
 }
 
-/** A file that is searched. */
-interface Text {
-  /** Its path */
-  file: string;
-  text: string;
-}
+/** A file that is searched, by its path. */
+type Text = { file: string, text: string };
 
 /** The members of a package.json that list what its project itself needs. */
 const LISTS = ["dependencies", "devDependencies"];

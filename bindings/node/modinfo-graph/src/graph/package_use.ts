@@ -13,17 +13,11 @@ import type { Ends, Mention, Reference } from "./graph.cjs";
 import type { ModuleGraph } from "./module_graph.js";
 
 /** `manifest` is the URL of the nearest package.json, `by` has a reference of each file */
-export type Unlisted = { package: string, manifest?: string, by: Mention[] };
+type Unlisted = { package: string, manifest?: string, by: Mention[] };
 
-export type Unused = { package: string, manifest: string, list: string };
+type Unused = { package: string, manifest: string, list: string };
 
-export type MayBeUsed = Unused & { reason: PackageReason };
-
-interface PackageUse {
-  unlisted: Unlisted[];
-  unused: Unused[];
-  mayBeUsed: MayBeUsed[];
-}
+type PackageUse = { unlisted: Unlisted[], unused: Unused[], mayBeUsed: (Unused & { reason: PackageReason })[] };
 
 /** The members of a package.json that list packages which its modules may import; the last are never unused. */
 const LISTS = ["dependencies", "devDependencies", "peerDependencies", "optionalDependencies"];

@@ -7,26 +7,20 @@ import { exclusionsOf } from "../files/exclusions.js";
 import { isComponent, isDeclaration, isModule, isPage } from "../files/file_kinds.js";
 import { type Found, findFiles } from "../files/find_files.js";
 import { type FileResult, type ReadOptions, readFiles } from "../files/read_files.js";
-import { readComponent } from "./components.js";
+import { readComponent, textReader } from "./components.js";
 import { entryPoints } from "./entry_points.js";
 import { ModuleGraph } from "./module_graph.js";
 import { type KeyOf, canonicalUrls } from "./reach.js";
 import { type Counted, counts, referencesOf } from "./references.js";
 import { Resolver, type ResolverOptions } from "./resolver.js";
 import type { ModuleInfo } from "modinfo";
-import type { Texts } from "../files/texts.js";
 import type { GraphOptions } from "../options.cjs";
 import type { Ends, GraphModule, ResolveHook } from "./graph.cjs";
 import type { Project } from "./reasons.js";
 
-export interface ReadFile extends Pick<FileResult, "path" | "isLeft" | "fault"> {
-  /** The file's `ModuleInfo`, in which each object that names a module has `resolved`; none with a fault */
-  info?: ModuleInfo;
-  /** None with a fault */
-  module?: GraphModule;
-  /** What is wrong with a configuration */
-  notices?: string[];
-}
+/** `info` has `resolved` in each object that names a module; a file with a fault may have neither it nor `module`. */
+export type ReadFile = Pick<FileResult, "path" | "isLeft" | "fault">
+  & { info?: ModuleInfo, module?: GraphModule, notices?: string[] };
 
 type OfOptions = Pick<GraphOptions, "exclude" | "ignore" | "gitignore" | "all" | "resolve">;
 
@@ -93,8 +87,9 @@ async function readGraph(named: AsyncIterable<Found>, reading: Reading, follow: 
   const modules = new Map<string, GraphModule>();
   const { files, pass } = walk(named, keyOf);
   const seen = new Set<string>();
-  const readOther = (path: string, texts: Texts) => {
-    return isComponent(path) || isPage(path) ? readComponent(path, texts) : undefined;
+  const infoOf = textReader(reading.program);
+  const readOther = (path: string) => {
+    return isComponent(path) || isPage(path) ? readComponent(path, infoOf) : undefined;
   };
   for await (const file of readFiles(ahead(files), { ...reading, readOther })) {
     const module = moduleOf(file, reading);

@@ -13,7 +13,7 @@ import { unlessThrown } from "../runtime/faults.js";
 import { loaderOf } from "./conventions.js";
 import { type Parts, commentsOf, literalOf, literalsOf } from "./literals.js";
 import { looseCalls, looseImports } from "./loose_references.js";
-import { Candidates, filesNamed } from "./named_paths.js";
+import { type Among, Candidates, filesNamed } from "./named_paths.js";
 import { isAlias, isRelative, tailOf } from "./names.js";
 import { isRunKind } from "./references.js";
 import { isReport, positionsIn, searchedText } from "./scripts.js";
@@ -35,12 +35,7 @@ export interface Project {
 }
 
 /** Where and for what is searched; `isOpen` returns whether a module is neither reached nor found */
-interface Search {
-  graph: ModuleGraph;
-  resolver: Resolver;
-  candidates: Candidates;
-  isOpen: (key: string) => boolean;
-}
+type Search = Among & { graph: ModuleGraph, isOpen: (key: string) => boolean };
 
 /** The keys of what something may lead to. */
 type Hint = Reason & { keys: string[] };

@@ -11,13 +11,8 @@ import type { MediaType } from "modinfo";
 /** The `src` of a script, with the range of its quotes. */
 export type Source = Range & { name: string };
 
-export interface Scripts {
-  /** Each text is up to the script's end. */
-  scripts: { text: string, mediaType: MediaType }[];
-  sources: Source[];
-  /** The JSON of each */
-  importMaps: string[];
-}
+/** The text of each script up to its end, and the JSON of each import map. */
+type Scripts = { scripts: { text: string, mediaType: MediaType }[], sources: Source[], importMaps: string[] };
 
 /** The most characters of all texts of a file. */
 const MOST_CHARACTERS = 2 ** 26;
@@ -153,10 +148,7 @@ export function positionsIn(text: string): (offset: number) => [number, number] 
 }
 
 /** Offsets in a text. */
-export interface Range {
-  start: number;
-  end: number;
-}
+type Range = { start: number, end: number };
 
 /** Attributes by their names in lower case, whose ranges have the quotes, and the range of what is in the tag. */
 type ScriptTag = Range & { attributes: Map<string, Range & { value: string }> };

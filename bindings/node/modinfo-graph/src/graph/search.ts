@@ -30,13 +30,13 @@ export type Run = { found: Target, by?: Rules };
 /** `mode` is what an attribute or a comment asks for */
 export type Name = { specifier: string, syntax: Syntax, mode?: Mode };
 
-/** `isTypeScript` is false for a declaration file, and for an installed one. */
+/**
+ * The file that has a name, by its path without links. `isTypeScript` is false for a declaration file, and for an
+ * installed one; `isScript` is whether it has no syntax of ES modules, `format` what an `import` in it becomes.
+ */
 export interface Importer extends Source {
-  /** Absolute, without links */
   path: string;
-  /** Whether it has no syntax of ES modules */
   isScript: boolean;
-  /** What an `import` in it becomes */
   format: Mode | undefined;
   /** What names lead to, in all files of the folder that have the same rules */
   known: Map<string, Resolution>;

@@ -35,7 +35,6 @@ export function unledOf(graph: ModuleGraph, listed: string[], project: Project):
   return classed(listed.filter((key) => !led.has(key)), reasons, new Map());
 }
 
-/** @param asked keys */
 function classed(asked: string[], reasons: Map<string, Reason>, byTypes: Map<string, Mention>): Unreached {
   const found: Unreached = { unreached: [], mayBeReached: [], byTypes: [] };
   for (const module of asked) {

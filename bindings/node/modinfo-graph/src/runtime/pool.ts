@@ -21,8 +21,8 @@ export interface Events {
   onEnd(why: string, isUnstarted?: boolean): void;
 }
 
+/** `name` is how messages begin. */
 export interface Kind {
-  /** As messages begin */
   name: string;
   /** How many characters a lane is handed ahead: a request that waits for more waits in the pool */
   room: number;
@@ -47,8 +47,6 @@ const HINT = "the option program or the environment variable MODINFO names anoth
  * a lane. While nothing is waited for, no lane keeps node from ending.
  */
 export class Pool {
-  #kind;
-  #most;
   #waiting: Request[] = [];
   /** Requests whose lane ended, which are the next. */
   #again: Request[] = [];
@@ -56,10 +54,7 @@ export class Pool {
   #isKilled = false;
 
   /** @param most the most lanes at once */
-  constructor(kind: Kind, most: number) {
-    this.#kind = kind;
-    this.#most = most;
-  }
+  constructor(private readonly kind: Kind, private most: number) {}
 
   /**
    * @returns the value of the answer; rejected with its error, or with a `ProgramEnd` where a lane ends twice over
@@ -106,15 +101,15 @@ export class Pool {
   /** @returns nothing where the request has to wait, or is rejected */
   #placeFor({ text, isSuspect }: Request): Place | undefined {
     const [freest] = this.#places.filter(({ held: [first], length }) => {
-      return !first || (!isSuspect && !first.isSuspect && length + text.length <= this.#kind.room);
+      return !first || (!isSuspect && !first.isSuspect && length + text.length <= this.kind.room);
     }).sort((one, other) => one.length - other.length);
-    return freest?.length !== 0 && this.#places.length < this.#most ? this.#start() ?? freest : freest;
+    return freest?.length !== 0 && this.#places.length < this.most ? this.#start() ?? freest : freest;
   }
 
   #start(): Place | undefined {
     const place: Place = { held: [], length: 0 };
     try {
-      place.lane = this.#kind.start({
+      place.lane = this.kind.start({
         onAnswer: (answer) => this.#onAnswer(place, answer),
         onEnd: (why, isUnstarted) => this.#onEnd(place, why, isUnstarted),
       });
@@ -166,18 +161,17 @@ export class Pool {
   /** Where a lane can't be started, those that there are have to do; without any, nothing can be done. */
   #onUnstarted(why: string) {
     if (this.#places.length > 0) {
-      this.#most = this.#places.length;
+      this.most = this.#places.length;
     } else {
       this.#refuse(`can't be started: ${why} (${HINT})`);
     }
   }
 
-  /** Rejects all that waits. */
   #refuse(why: string) {
     [...this.#again.splice(0), ...this.#waiting.splice(0)].forEach(({ reject }) => reject(this.#endOf(why)));
   }
 
   #endOf(why: string) {
-    return new ProgramEnd(`${this.#kind.name} ${why}`);
+    return new ProgramEnd(`${this.kind.name} ${why}`);
   }
 }

@@ -10,13 +10,8 @@ const ROOM = 1 << 16;
 const KEPT_ERRORS = 2000;
 const LINE_FEED = 0x0a;
 
-export interface Command {
-  /** The path of `modinfo` */
-  program: string;
-  words: string[];
-  /** Returns the answer on a line of the output; nothing where it is none */
-  read: (line: Buffer) => Answer | undefined;
-}
+/** `read` returns the answer on a line of the output; nothing where it is none. */
+type Command = { program: string, words: string[], read: (line: Buffer) => Answer | undefined };
 
 export function processesOf(command: Command): Kind {
   return { name: command.program, room: ROOM, start: (events) => startProcess(command, events) };
