@@ -3,8 +3,8 @@
 import { dirname, relative, resolve as absolute } from "node:path";
 
 import { isFolder } from "modinfo-graph/internal/files/find_files.js";
-import { readRegularText } from "modinfo-graph/internal/files/regular_file.js";
-import { canonicalUrl } from "modinfo-graph/internal/graph/reach.js";
+import { readRegularText } from "modinfo-graph/internal/files/regular_files.js";
+import { canonicalUrl } from "modinfo-graph/internal/files/urls.js";
 import { type Fault, faultOf } from "modinfo-graph/internal/runtime/faults.js";
 import { type Mark, faultMarks, marksOf } from "./marks.js";
 import { type Row, rowsOf } from "./rows.js";

@@ -2,8 +2,8 @@
 
 import { isComponent, isModule } from "../files/file_kinds.js";
 import { isFile } from "../files/find_files.js";
+import { canonicalUrl } from "../files/urls.js";
 import { dotText, mermaidText } from "../graph/pictures.js";
-import { canonicalUrl } from "../graph/reach.js";
 import { unreachedOf } from "../graph/unreached.js";
 import { printable } from "../runtime/faults.js";
 import { UsageFault, writeOutput } from "./command_line.js";

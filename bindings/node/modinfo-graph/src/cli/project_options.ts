@@ -5,13 +5,10 @@
 
 import { resolve as absolute, sep } from "node:path";
 
-import { readRegularFile } from "../files/regular_file.js";
+import { MAX_CONFIGURATION, readRegularFile } from "../files/regular_files.js";
 import { realPath } from "../files/urls.js";
 import { unlessThrown } from "../runtime/faults.js";
 import { UsageFault, type Values, type Words } from "./command_line.js";
-
-/** The most bytes of a package.json: 4 MiB. */
-const MAX_BYTES = 4 * 2 ** 20;
 
 type Test = (value: unknown) => boolean;
 
@@ -59,7 +56,7 @@ export function withProjectOptions<V extends Values>(
 
 function readMember(): object {
   // Where there is no package.json, or it is no JSON, the resolution of names warns of that.
-  const modinfo = unlessThrown(() => JSON.parse(String(readRegularFile("package.json", MAX_BYTES))).modinfo);
+  const modinfo = unlessThrown(() => JSON.parse(String(readRegularFile("package.json", MAX_CONFIGURATION))).modinfo);
   return typeof modinfo === "object" ? modinfo ?? {} : {};
 }
 

@@ -1,6 +1,6 @@
 /** What is printed on the error output while files are read. */
 
-import { readRegularFile } from "../files/regular_file.js";
+import { readRegularFile } from "../files/regular_files.js";
 import { type Fault, describeFault, printable, unlessThrown } from "../runtime/faults.js";
 import { UsageFault } from "./command_line.js";
 import type { FileResult } from "../files/read_files.js";

@@ -5,7 +5,7 @@ import { constants, statSync } from "node:fs";
 import { open, rename, rm, writeFile } from "node:fs/promises";
 import { basename, dirname, join, resolve as absolute } from "node:path";
 
-import { readBeginning } from "./regular_file.js";
+import { readBeginning } from "./regular_files.js";
 import { realPath } from "./urls.js";
 
 /** The bytes by which a file is known for an earlier output. */

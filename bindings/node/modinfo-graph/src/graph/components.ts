@@ -8,7 +8,7 @@ import { plans } from "modinfo/internal/core/plans.cjs";
 import { compiledModule, modulePath } from "modinfo/internal/wasm_module.js";
 import { isPage } from "../files/file_kinds.js";
 import { isWasm } from "../files/program.js";
-import { readRegularText } from "../files/regular_file.js";
+import { readRegularText } from "../files/regular_files.js";
 import { urlOfPath } from "../files/urls.js";
 import { FileFault, faultOf } from "../runtime/faults.js";
 import { type Source, isReport, positionsIn, scriptsOf } from "./scripts.js";

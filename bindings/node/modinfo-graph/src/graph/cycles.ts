@@ -1,6 +1,5 @@
-/** The cycles of a graph: sets of modules of which each leads to each other one. */
+/** What is reached from some keys, and the cycles of a graph: sets of modules of which each leads to each other one. */
 
-import { wayTo, ways } from "./reach.js";
 import { isRunKind } from "./references.js";
 
 export interface Cycle {
@@ -103,4 +102,29 @@ function leavingOrder(next: number[][]): number[] {
     }
   }
   return order;
+}
+
+/**
+ * All that some starts reach, the nearest first.
+ * @returns by each key the one that leads to it first; none for a start
+ */
+export function ways<Key>(starts: Iterable<Key>, next: (key: Key) => Key[]): Map<Key, Key | undefined> {
+  const before = new Map<Key, Key | undefined>();
+  for (const start of starts) {
+    before.set(start, undefined);
+  }
+  // What is added meanwhile follows.
+  for (const [key] of before) {
+    next(key).filter((to) => !before.has(to)).forEach((to) => before.set(to, key));
+  }
+  return before;
+}
+
+/** The keys from a start to a key that is reached. */
+export function wayTo<Key>(end: Key, before: Map<Key, Key | undefined>): Key[] {
+  const way = [];
+  for (let key: Key | undefined = end; key !== undefined; key = before.get(key)) {
+    way.push(key);
+  }
+  return way.reverse();
 }

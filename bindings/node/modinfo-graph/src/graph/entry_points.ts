@@ -4,7 +4,7 @@ import { dirname, extname, join, relative, resolve as absolute } from "node:path
 
 import { MODULE_ENDINGS, isComponent, isDeclaration, isModule } from "../files/file_kinds.js";
 import { findFiles, isFile, isFolder } from "../files/find_files.js";
-import { readRegularFile } from "../files/regular_file.js";
+import { readRegularFile } from "../files/regular_files.js";
 import { pathOfUrl, urlOfFolder } from "../files/urls.js";
 import { unlessThrown } from "../runtime/faults.js";
 import { looseImports } from "./loose_references.js";

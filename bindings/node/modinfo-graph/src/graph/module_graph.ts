@@ -2,9 +2,8 @@
 
 import { memoized } from "../files/by_folder.js";
 import { isDeclaration, isPage, isTypeScript } from "../files/file_kinds.js";
-import { cyclesOf } from "./cycles.js";
+import { cyclesOf, wayTo, ways } from "./cycles.js";
 import { isAlias, isPath } from "./names.js";
-import { wayTo, ways } from "./reach.js";
 import { type Counted, counts, edgesOf } from "./references.js";
 import type { Cycle, Edge, Ends, GraphModule, Mention, Reference, Step } from "./graph.cjs";
 

@@ -9,7 +9,7 @@ import { compiledPath, isModule, isPage, withoutEnding } from "../files/file_kin
 import { globMatcher } from "../files/globs.js";
 import { unlessThrown } from "../runtime/faults.js";
 import { PLATFORMS } from "./bundler_rules.js";
-import { type LooseReference, type Parts, plainGlob } from "./literals.js";
+import { type LooseReference, type Parts, plainGlob } from "./loose_references.js";
 import { isPath, isRelative, tailOf } from "./names.js";
 import type { Resolver } from "./resolver.js";
 

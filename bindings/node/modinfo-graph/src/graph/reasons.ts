@@ -7,12 +7,11 @@ import { fileURLToPath, pathToFileURL } from "node:url";
 
 import { memoized } from "../files/by_folder.js";
 import { isComponent, isPage } from "../files/file_kinds.js";
-import { readRegularFile } from "../files/regular_file.js";
+import { globMatcher } from "../files/globs.js";
+import { readRegularFile } from "../files/regular_files.js";
 import { urlOfPath } from "../files/urls.js";
 import { unlessThrown } from "../runtime/faults.js";
-import { loaderOf } from "./conventions.js";
-import { type Parts, commentsOf, literalOf, literalsOf } from "./literals.js";
-import { looseCalls, looseImports } from "./loose_references.js";
+import { type Parts, commentsOf, literalOf, literalsOf, looseCalls, looseImports } from "./loose_references.js";
 import { type Among, Candidates, filesNamed } from "./named_paths.js";
 import { isAlias, isRelative, tailOf } from "./names.js";
 import { isRunKind } from "./references.js";
@@ -180,4 +179,31 @@ function textOf(path: string): string {
   const text = unlessThrown(() => String(readRegularFile(path))) ?? "";
   // The scripts of an earlier report are no part of the project.
   return isReport(text) ? "" : searchedText(text, path);
+}
+
+/** Globs of paths from the folder of the package.json, by the names of packages. */
+const LOADED = new Map([
+  ["next", [
+    "{,src/}pages/**", "{,src/}{middleware,instrumentation,proxy}.*", "next.config.*",
+    "{,src/}app/**/{page,layout,template,loading,error,global-error,not-found,default}.*",
+    "{,src/}app/**/{route,sitemap,robots,icon}.*",
+  ]],
+  ["nuxt", [
+    "{,app/}{pages,layouts,middleware,plugins,components,composables,utils}/**", "server/**",
+    "{,app/}{app,error}.vue", "nuxt.config.*",
+  ]],
+  ["@sveltejs/kit", [
+    "src/routes/**/+*", "src/{hooks,hooks.server,hooks.client,service-worker}.*", "src/params/**",
+  ]],
+  ["astro", ["src/pages/**", "src/{middleware,content.config}.*", "src/content/**", "astro.config.*"]],
+  ["@remix-run/dev", ["app/{root,entry.client,entry.server}.*", "app/routes/**"]],
+  ["gatsby", ["src/pages/**", "gatsby-*"]],
+]);
+
+/** Returns which of the packages that a package.json lists loads the file at a path from its folder. */
+export function loaderOf(packages: string[]): (path: string) => string | undefined {
+  const loaders = packages.flatMap((name) => (LOADED.get(name) ?? []).map((glob) => {
+    return { name, matches: globMatcher(glob) };
+  }));
+  return (path) => loaders.find(({ matches }) => matches(path))?.name;
 }
