@@ -75,11 +75,9 @@ async function readFile({ path, real, error, isLeft }: Found, pool: Pool): Promi
       throw error ?? new FileFault("MediaType", "files with this ending are not read");
     }
     const own = real ?? realPath(path) ?? path;
-    if (own.includes("\0")) {
-      throw new FileFault("Input", "no such file: the path has a zero byte");
-    }
-    if (ENDLESS.test(own)) {
-      throw new FileFault("Input", "a file of the system");
+    if (own.includes("\0") || ENDLESS.test(own)) {
+      const why = own.includes("\0") ? "no such file: the path has a zero byte" : "a file of the system";
+      throw new FileFault("Input", why);
     }
     return { path, real, info: await pool.run(`${own}\0`) };
   } catch (fault) {

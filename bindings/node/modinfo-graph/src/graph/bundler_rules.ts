@@ -76,17 +76,16 @@ export class BundlerRules {
    * @returns an absolute path without what is added to names, or another package's name; false for nothing
    */
   replacement(manifest: Manifest | undefined, key: string): string | false | undefined {
-    return manifest && this.replaced(manifest)[0].get(key);
+    return this.replaced(manifest)[0].get(key);
   }
 
   /** Like `replacement`, by all members like `browser`; absolute paths alone. */
   replacements(manifest: Manifest | undefined, key: string): string[] {
-    const all = manifest ? this.replaced(manifest) : [];
-    return all.flatMap((each) => each.get(key) || []).filter((target) => target.startsWith("/"));
+    return this.replaced(manifest).flatMap((each) => each.get(key) || []).filter((target) => target.startsWith("/"));
   }
 
-  private readonly replaced = memoized((manifest: Manifest) => {
-    return REPLACING.map((member) => replacementsOf(manifest, member));
+  private readonly replaced = memoized((manifest: Manifest | undefined) => {
+    return REPLACING.map((member) => (manifest ? replacementsOf(manifest, member) : new Map<string, string>()));
   });
 
   private firstFile(paths: string[]): Found | undefined {

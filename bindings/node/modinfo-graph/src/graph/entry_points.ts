@@ -9,7 +9,7 @@ import { pathOfUrl, urlOfFolder } from "../files/urls.js";
 import { unlessThrown } from "../runtime/faults.js";
 import { looseImports } from "./loose_references.js";
 import { isPath, isRelative } from "./names.js";
-import { allExports, bySubpath, exportsTarget, isObject, textsIn } from "./package_targets.js";
+import { allTargets, bySubpath, exportsTarget, isObject, textsIn } from "./package_targets.js";
 import { NODE_CONDITIONS } from "./search.js";
 import type { Resolver } from "./resolver.js";
 
@@ -183,7 +183,7 @@ function add(
     const target = exportsTarget(exports, subpath, { folder: url, conditions });
     return target.kind === "file" ? target.url.href : [];
   });
-  for (const target of allExports(exports, subpath, url)) {
+  for (const target of allTargets(exports, subpath, url)) {
     const own = pathOfUrl(target);
     const text = `./${relative(absolute(folder), own ?? "")}`;
     const path = join(folder, text);

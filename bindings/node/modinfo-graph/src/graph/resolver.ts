@@ -184,11 +184,8 @@ export class Resolver {
 
   private resolution(named: Pick<Named, "specifier" | "syntax" | "mode">, importer: Importer): Resolution {
     const { specifier, syntax, mode } = named;
-    if (specifier === undefined) {
-      return { class: "unknown" };
-    }
-    if (specifier === "" || specifier.length > MAX_LENGTH || specifier.includes("\0")) {
-      return { class: "missing" };
+    if (specifier === undefined || specifier === "" || specifier.length > MAX_LENGTH || specifier.includes("\0")) {
+      return { class: specifier === undefined ? "unknown" : "missing" };
     }
     const key = `${syntax} ${mode} ${specifier}`;
     const known = importer.known.get(key);
@@ -224,10 +221,8 @@ export class Resolver {
   /** What `/// <reference path="..." />` names. */
   private referenced(specifier: string, { path }: Importer): Resolution {
     const found = fileAt(absolute(dirname(path), specifier), this.files);
-    if (found.kind === "outside") {
-      return { class: "outside", target: urlOfPath(found.path) };
-    }
-    return found.kind === "file" ? { class: "file", file: urlOfPath(found.path) } : { class: "missing" };
+    return found.kind === "outside" ? { class: "outside", target: urlOfPath(found.path) }
+      : found.kind === "file" ? { class: "file", file: urlOfPath(found.path) } : { class: "missing" };
   }
 
   /** @param types the path of what has the types */

@@ -13,7 +13,7 @@ import { BundlerRules, type Source, plainNames } from "./bundler_rules.js";
 import { isPath, isRelative, packageOf, pathOf, schemeOf, typesOf } from "./names.js";
 import { type Found, type Missing, NONE, NodeRules, firstOf } from "./node_rules.js";
 import { PackageFolders } from "./package_folders.js";
-import { allExports, allImports } from "./package_targets.js";
+import { allTargets } from "./package_targets.js";
 import { Workspaces } from "./workspaces.js";
 import type { RegularFiles } from "../files/regular_files.js";
 import type { ConfiguredNames } from "./configured_names.js";
@@ -114,7 +114,7 @@ export class Search {
   others(specifier: string, importer: Importer, path?: string): string[] {
     const scope = this.manifests.scopeOfFile(importer.path);
     const urls = specifier.startsWith("#") && scope
-      ? allImports(scope.imports, specifier, urlOfFolder(scope.folder))
+      ? allTargets(scope.imports, specifier, urlOfFolder(scope.folder), true)
       : this.allExports(specifier, importer);
     const ofFile = path === undefined ? [] : this.bundler.replacements(this.manifests.scopeOfFile(path), path);
     const replaced = [...this.bundler.replacements(scope, specifier), ...ofFile];
@@ -132,7 +132,7 @@ export class Search {
     const scope = this.manifests.scopeOfFile(path);
     const folder = scope?.name === name ? scope.folder : this.workspaces.folderOf(name, path);
     const exports = folder && this.manifests.of(folder)?.exports;
-    return folder && exports ? allExports(exports, `.${rest}`, urlOfFolder(folder)) : [];
+    return folder && exports ? allTargets(exports, `.${rest}`, urlOfFolder(folder)) : [];
   }
 
   /** What the `src` of a page's script leads to: a path from the page, or from the root of a server. */
@@ -216,16 +216,11 @@ export class Search {
 
   /** The TypeScript file of a relative name in one. */
   private bySource(specifier: string, importer: Importer): Run | undefined {
-    if (!importer.isTypeScript || !isRelative(specifier)) {
-      return undefined;
-    }
+    const isMeant = importer.isTypeScript && isRelative(specifier);
     const wanted = pathOf(specifier, dirname(importer.path));
-    const [path] = this.filesAt([wanted], importer);
-    if (path === undefined || isDeclaration(path) || !isTypeScript(path)) {
-      return undefined;
-    }
-    const isNode = path === wanted && importer.format === "import";
-    return { found: { kind: "file", path }, by: isNode ? "node" : "bundler" };
+    const [path = ""] = isMeant ? this.filesAt([wanted], importer) : [];
+    const by = path === wanted && importer.format === "import" ? "node" : "bundler";
+    return isTypeScript(path) && !isDeclaration(path) ? { found: { kind: "file", path }, by } : undefined;
   }
 
   private byNodeAndBundlers(named: Name, importer: Importer): Run {

@@ -39,13 +39,9 @@ export class Workspaces {
     const workspaces = this.manifests.of(folder)?.members.workspaces;
     const patterns = isObject(workspaces) ? workspaces.packages : workspaces;
     const own = Array.isArray(patterns) ? patterns.filter((each) => typeof each === "string") : [];
-    return own.length > 0 ? own : this.pnpmPatterns(folder);
-  }
-
-  private pnpmPatterns(folder: string): string[] {
     const text = unlessThrown(() => this.files.read(join(folder, PNPM))) ?? "";
     const [, list = ""] = PACKAGES.exec(`${text}\n`) ?? [];
-    return [...list.matchAll(ITEM)].map(([, pattern]) => pattern.trim());
+    return own.length > 0 ? own : [...list.matchAll(ITEM)].map(([, pattern]) => pattern.trim());
   }
 
   /** The folders of patterns, without those of patterns that begin with `!`. */
