@@ -131,10 +131,7 @@ export class OutputLines {
   #written: Promise<void> = Promise.resolve();
   #hasFailed = false;
 
-  /**
-   * @param line with its end
-   * @returns where it has to be waited for, or an earlier line wasn't written: rejected with an `OutputFault`
-   */
+  /** Takes a line with its end. What it returns has to be waited for; rejected with an `OutputFault`. */
   write(line: string): Promise<void> | undefined {
     if (this.#waiting === "") {
       setImmediate(() => this.#flush());

@@ -39,11 +39,7 @@ export function questionsOf(values: FilesValues): string[] {
   return asked;
 }
 
-/**
- * Reads the files of a run into a graph, and prints the answers to questions.
- * @param known findings that aren't reported, by their questions
- * @returns the status
- */
+/** Prints the answers to questions without the findings that are known, by their questions. Returns the status. */
 export async function answerQuestions(
   questions: string[], run: Run<FilesValues>, known: Record<string, string[]>,
 ): Promise<number> {

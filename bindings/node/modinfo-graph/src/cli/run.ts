@@ -42,11 +42,7 @@ const AHEAD = 1_000_000;
 /** The name of a command, the values of its options, and the path of `modinfo` */
 export type Run<V extends Values = Values> = { name: string, values: V, paths: string[], program: string };
 
-/**
- * Reads the files of some paths, and prints what is wrong with them.
- * @param write is called for each file in turn
- * @returns the status
- */
+/** Reads the files of some paths, prints what is wrong with them, and writes each. Returns the status. */
 export async function runLines(
   run: Run, write: (result: FileResult, reporter: FileReporter) => Promise<void> | undefined,
 ): Promise<number> {

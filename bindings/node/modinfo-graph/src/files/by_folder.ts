@@ -22,10 +22,7 @@ export function foldersFrom(folder: string): string[] {
   return all;
 }
 
-/**
- * What the nearest folder has for which there is something: a folder itself, or one above it.
- * @param find is called once for each folder; null where the folders above don't count
- */
+/** What the nearest folder up from one has; `find` is called once for each, null is for none, also above. */
 export function nearest<Value>(find: (folder: string) => Value | null | undefined) {
   const of: (folder: string) => Value | undefined = memoized((folder) => {
     const found = find(folder);
@@ -35,10 +32,7 @@ export function nearest<Value>(find: (folder: string) => Value | null | undefine
   return of;
 }
 
-/**
- * What folders have that depends on those above them.
- * @param make is called once for each folder, after that above it
- */
+/** What folders have that depends on those above; `make` is called once for each folder, after that above it. */
 export function inherited<Value>(make: (folder: string, above: Value | undefined) => Value) {
   const of: (folder: string) => Value = memoized((folder) => {
     const above = dirname(folder);

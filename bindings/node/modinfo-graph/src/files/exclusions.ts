@@ -20,10 +20,7 @@ type Exclusions = Record<"isExcluded" | "isIgnored" | "isKept" | "isLeftOut", Is
 /** Globs as `globMatcher` takes them, and whether git decides what isn't listed. */
 type Words = { exclude?: string[], ignore?: string[], gitignore?: boolean };
 
-/**
- * @param paths in whose repositories git decides
- * @returns rejected with a `GlobFault` or a `GitFault`
- */
+/** Git decides in the repositories of the paths. @returns rejected with a `GlobFault` or a `GitFault` */
 export async function exclusionsOf(
   { exclude = [], ignore = [], gitignore = false }: Words, paths: string[],
 ): Promise<Exclusions> {

@@ -13,11 +13,7 @@ export class GlobFault extends Error {
   }
 }
 
-/**
- * @param glob without a slash it matches a name in any folder, with one a path from the current folder
- * @returns for a path with slashes, from the current folder
- * @throws {GlobFault} the glob begins with `!`, or its braces can't be read
- */
+/** A glob without a slash is of a name in any folder, else of a path from the current one. @throws {GlobFault} */
 export function globMatcher(glob: string): (path: string) => boolean {
   if (glob.startsWith("!")) {
     const why = `a glob that begins with "!" isn't supported; for a name that begins with it, write ./${glob}`;
@@ -50,10 +46,7 @@ export function matchesName(pattern: string, text: string): boolean {
   return matches([...pattern], [...text], "*", (one, other) => one === "?" || one === other);
 }
 
-/**
- * Whether a path is what a pattern has: `**` as a part is any folders, and at the end all in a
- * folder; `*` and `?` are characters of a part.
- */
+/** Like `matchesName` in each part of a path; `**` as a part is any folders, and at the end all in a folder. */
 export function matchesPath(pattern: string, path: string): boolean {
   const whole = pattern.replace(/(^|\/)\*\*$/, "$1**/*");
   return matches(whole.split("/"), path.split("/"), "**", matchesName);

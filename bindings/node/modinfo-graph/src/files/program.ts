@@ -52,10 +52,7 @@ function builtPath() {
   return path && existsSync(path) ? path : undefined;
 }
 
-/**
- * Runs the program without a document, or compiles the module.
- * @returns rejected where it can't be started, or ends otherwise than with status 0
- */
+/** Runs the program without a document, or compiles the module; rejected where that fails. */
 export async function checkProgram(program: string): Promise<void> {
   if (isWasm(program)) {
     compiledModule(program);

@@ -21,22 +21,13 @@ const decoder = new TextDecoder("utf-8", { fatal: true, ignoreBOM: true });
 /** Throws a `FileFault` for a file that isn't regular. */
 type Check = (status: Stats) => void;
 
-/**
- * The content of a regular file.
- * @param check is called before the file is opened and after that
- * @throws {FileFault} the file is not regular, or has more bytes
- * @throws {Error} the system's, where it can't be read
- */
+/** The content of a regular file, which `check` looks at before and after it is opened. @throws {FileFault | Error} */
 export function readRegularFile(path: string, maxBytes = MAX_BYTES, check: Check = requireRegular): Buffer {
   check(statSync(path));
   return readOpened(path, maxBytes, 0, fs, check);
 }
 
-/**
- * The text of a regular file. A byte order mark stays in it.
- * @throws {FileFault} the file is not regular, has more bytes, or isn't UTF-8
- * @throws {Error} the system's, where it can't be read
- */
+/** The text of a regular file, with its byte order mark. @throws {FileFault | Error} also where it isn't UTF-8 */
 export function readRegularText(path: string, maxBytes = MAX_BYTES): string {
   const bytes = readRegularFile(path, maxBytes);
   const text = unlessThrown(() => decoder.decode(bytes));
@@ -46,11 +37,7 @@ export function readRegularText(path: string, maxBytes = MAX_BYTES): string {
   return text;
 }
 
-/**
- * The content of a file.
- * @param flags for opening it, besides those for reading
- * @throws {FileFault} the file is not regular, or has more bytes
- */
+/** The content of a file; `flags` are those besides the ones for reading. @throws {FileFault | Error} */
 export function readOpened(
   path: string, maxBytes: number, flags = 0,
   system: Pick<typeof fs, "openSync" | "fstatSync" | "readSync" | "closeSync"> = fs, check: Check = requireRegular,
@@ -210,12 +197,7 @@ export class RegularFiles {
     return !((this.#hasAll && !isLinked) || this.#roots.has(path) || this.#isInside(dirname(path)));
   }
 
-  /**
-   * The text of a package.json or a configuration, without a byte order mark.
-   * @throws {FileFault} nothing is there, or no regular file; the file is in no folder that was
-   *   added, or has more than 4 MiB
-   * @throws {Error} the system's, where it can't be read
-   */
+  /** The text of a package.json or a configuration, in a folder that was added. @throws {FileFault | Error} */
   read(path: string): string {
     const entry = this.at(path);
     const { kind, path: real } = entry;

@@ -71,10 +71,7 @@ export class BundlerRules {
       : this.atPath(pathOf(`.${rest}`, folder), source);
   }
 
-  /**
-   * What the `browser` of a manifest puts in the place of an absolute path or of a package's name.
-   * @returns an absolute path without what is added to names, or another package's name; false for nothing
-   */
+  /** What `browser` of a manifest has for an absolute path or a package's name: one of these; false for nothing. */
   replacement(manifest: Manifest | undefined, key: string): string | false | undefined {
     return this.replaced(manifest)[0].get(key);
   }

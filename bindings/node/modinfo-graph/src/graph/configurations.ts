@@ -111,10 +111,7 @@ export class Configurations {
     return { path, folder, options, files: [], include, exclude, ...members, references };
   });
 
-  /**
-   * The options and other members of a configuration, together with those that it extends.
-   * @param extending the paths of those that lead to it
-   */
+  /** A configuration together with those that it extends; `extending` has the paths of those that lead to it. */
   private extended(path: string, extending: string[], merged: Merged): Extended {
     const known = merged.known.get(path);
     if (known) {

@@ -104,10 +104,7 @@ function leavingOrder(next: number[][]): number[] {
   return order;
 }
 
-/**
- * All that some starts reach, the nearest first.
- * @returns by each key the one that leads to it first; none for a start
- */
+/** All that some starts reach, the nearest first, each with the one that leads to it first; none for a start. */
 export function ways<Key>(starts: Iterable<Key>, next: (key: Key) => Key[]): Map<Key, Key | undefined> {
   const before = new Map<Key, Key | undefined>();
   for (const start of starts) {

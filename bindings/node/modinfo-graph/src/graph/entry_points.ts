@@ -44,11 +44,7 @@ const READERS = new Set([
   "stylelint", "rimraf", "rm", "cp", "mv", "git",
 ]);
 
-/**
- * The entries of modules, pages, and folders with a package.json, each file once.
- * @param conditions of `exports` besides node's
- * @throws {EntryFault} a folder names no entry that is there
- */
+/** The entries of modules, pages, and folders with a package.json, each once. @throws {EntryFault} there is none */
 export async function entryPoints(paths: string[], conditions: readonly string[], resolver: Resolver) {
   const all: EntryPoints[] = [];
   for (const path of paths) {
@@ -86,10 +82,7 @@ async function ofPackage(folder: string, conditions: readonly string[], resolver
   return { ...found, absent: found.absent.map((name) => `${manifest}: ${name}`), perhaps };
 }
 
-/**
- * Adds the files that names lead to, and those that scripts without an ending among them import.
- * @param isOptional whether they may be missing
- */
+/** Adds the files that names lead to, and those that scripts without an ending among them import. */
 function follow(
   start: { from: string, names: string[] }, found: EntryPoints, resolver: Resolver, isOptional: boolean,
 ) {

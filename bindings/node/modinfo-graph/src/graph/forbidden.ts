@@ -15,10 +15,7 @@ export interface Forbidden {
   way: string[];
 }
 
-/**
- * @param rules as "FROM:TO", of which both are globs, and the second one may be that of packages' names
- * @throws {GlobFault}
- */
+/** Rules are "FROM:TO", of which both are globs, the second one perhaps of packages' names. @throws {GlobFault} */
 export function forbiddenEdges(graph: ModuleGraph, entries: string[], rules: string[]): Forbidden[] {
   const chainTo = graph.chains(entries);
   return rules.flatMap((rule) => {

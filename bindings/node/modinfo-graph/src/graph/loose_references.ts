@@ -199,10 +199,7 @@ function listAt(text: string, start: number): string[][] {
 /** A comment or blanks, a string, a template, or an operand that isn't known and then its `+` or `,`. */
 const PART = /\s+|\/\*[^]*?\*\/|"((?:[^"\\\n]|\\.)*)"|'((?:[^'\\\n]|\\.)*)'|`((?:[^`\\]|\\.)*)`|[+,]|[\w$.]+/y;
 
-/**
- * The parts of the first argument of a call; strings that follow `__dirname` by commas are its parts too.
- * @param start after the parenthesis
- */
+/** The parts of the argument after a parenthesis; strings that follow `__dirname` by commas are parts too. */
 function partsAt(text: string, start: number): Parts {
   const near = text.slice(start, start + NEAR);
   const isPath = [",", "+"].includes(text[start - 1]);

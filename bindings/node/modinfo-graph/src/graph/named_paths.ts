@@ -22,10 +22,7 @@ const ROOT_DIR = /^<rootDir>\//;
 /** The folders that a server may have for its root, in the folder of a package. */
 const SERVED = ["", "public", "static"];
 
-/**
- * The files that a string literal, a call or a tag names.
- * @param from the path of the file that has it
- */
+/** The files that a string literal, a call or a tag in the file at a path names. */
 export function filesNamed(from: string, { kind, parts, form, isFile }: LooseReference, among: Among): string[] {
   const { candidates, resolver } = among;
   const [name = "", ...others] = parts;
@@ -82,10 +79,7 @@ function fileOf(name: string, folders: string[], { candidates, resolver }: Among
   return files.find((each) => each.length > 0) ?? [];
 }
 
-/**
- * What a name of AMD leads to: from a folder, or from one above up to the root.
- * @param written perhaps with the name of a plugin before
- */
+/** What a name of AMD, perhaps after that of a plugin, leads to from a folder, or one above up to the root. */
 function ofAmd(written: string, folder: string, among: Among, root: string): string[] {
   const name = written.slice(written.lastIndexOf("!") + 1);
   const found = among.candidates.named(name, folder);

@@ -40,10 +40,7 @@ export function pathOf(name: string, folder: string): string {
 /** `rest` is nothing, or a path that begins with a slash */
 export type PackageName = { name: string, rest: string };
 
-/**
- * The package in which a name is looked for that is no path, no URL, and none of `imports`.
- * @returns nothing where no package can have the name
- */
+/** The package of a name that is no path, no URL, and none of `imports`; nothing where none can have the name. */
 export function packageName(specifier: string): PackageName | undefined {
   const [, name = "", rest = ""] = PACKAGE.exec(specifier) ?? [];
   return name === "" || NO_PACKAGE.test(name) ? undefined : { name, rest };

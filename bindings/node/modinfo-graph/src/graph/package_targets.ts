@@ -68,10 +68,7 @@ export function bySubpath(exports: unknown): Record<string, unknown> {
   return isMap ? exports : { ".": exports };
 }
 
-/**
- * The files that a key of `exports`, or of `imports`, leads to, whatever conditions hold, but for types.
- * @param folder of the package, with a slash at the end
- */
+/** The files that a key of `exports` or `imports` leads to, whatever conditions hold, but for types. */
 export function allTargets(member: unknown, name: string, folder: URL, isImport: boolean = false): URL[] {
   const targets = isImport ? (isObject(member) ? member : {}) : bySubpath(member);
   const { target, match } = chosen(targets, name, true);

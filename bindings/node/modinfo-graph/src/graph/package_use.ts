@@ -32,10 +32,7 @@ const MAY_BE_UNUSED = LISTS.slice(0, 3);
 
 const INSTALLED = /^.*\/node_modules\/((?:@[^/]+\/)?[^/]+)\//s;
 
-/**
- * @param project the paths of files that aren't parsed, and those that were
- *   named: a package.json counts that is in one of them, or is the nearest of a module
- */
+/** A package.json counts that is in one of the named paths, or is the nearest of a module. */
 export function packageUse(graph: ModuleGraph, project: { pages: string[], paths: string[] }): PackageUse {
   const lists = listings();
   const found: PackageUse = { unlisted: unlistedIn(graph, lists), unused: [], mayBeUsed: [] };
@@ -110,10 +107,7 @@ function unlistedIn(graph: ModuleGraph, lists: Listings): Unlisted[] {
   return [...found.values()];
 }
 
-/**
- * The package that a module needs, or the built-in module whose name a package may have.
- * @param path of the module
- */
+/** The package that the module at a path needs, or the built-in module whose name a package may have. */
 function packageNamed({ specifier = "", resolved }: Reference, path: string, lists: Listings): string | undefined {
   const { class: kind, package: installed, file, by } = resolved as Ends;
   const { name: own } = packageOf(specifier) ?? {};
@@ -178,10 +172,7 @@ export function packageReasons(
   };
   const configurationsOf = memoized((manifest: Manifest) => configurations(manifest, files));
   let texts: Text[] | undefined;
-  /**
-   * @param manifest that lists the package
-   * @param used the packages and built-in modules that are imported
-   */
+  /** Takes the package.json that lists a package, and all packages and built-in modules that are imported. */
   return (name: string, manifest: Manifest, used: Set<string>): PackageReason | undefined => {
     const ofText = (kind: PackageReason["kind"], text: string | undefined) => {
       return text === undefined ? undefined : { kind, file: urlOfPath(manifest.path), text };

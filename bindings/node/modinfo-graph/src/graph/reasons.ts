@@ -39,10 +39,7 @@ type Search = Among & { graph: ModuleGraph, isOpen: (key: string) => boolean };
 /** The keys of what something may lead to. */
 type Hint = Reason & { keys: string[] };
 
-/**
- * Why each module may be reached, by their keys.
- * @param starts keys of modules that are taken for reached
- */
+/** Why each module may be reached, by their keys; `starts` are keys of modules that are taken for reached. */
 export function reasonsOf(
   graph: ModuleGraph, reached: Set<string>, { pages, perhaps, isIgnored, resolver }: Project, starts: string[],
 ): Map<string, Reason> {

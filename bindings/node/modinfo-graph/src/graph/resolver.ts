@@ -88,11 +88,7 @@ export class Resolver {
     return this.resolution({ specifier, syntax: kind, mode }, this.importer(from, isScript));
   }
 
-  /**
-   * Sets the member `resolved` of each object of the `ModuleInfo` of the module at an absolute path.
-   * @param real the path without links, where a file is known to be there
-   * @returns these objects, and what else is known of each
-   */
+  /** Sets `resolved` in all that names a module, and returns these objects; `real` is the path without links. */
   resolveInfo(info: ModuleInfo, path: string, real?: string): Named[] {
     const importer = this.importer(path, info.script === true, real);
     const all = [...namedBy(info), ...this.jsxOf(info, importer)];
@@ -108,10 +104,7 @@ export class Resolver {
     return file && fileURLToPath(file);
   }
 
-  /**
-   * The absolute paths of files that a name leads to where other conditions hold, in the module at `from`.
-   * @param path of the file that the name leads to
-   */
+  /** The files that a name leads to where other conditions hold; `path` is the file that it leads to else. */
   others(specifier: string, from: string, path?: string): string[] {
     return this.search.others(specifier, this.importer(from, false), path);
   }

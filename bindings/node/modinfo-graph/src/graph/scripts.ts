@@ -32,10 +32,7 @@ const REPORT = /^<!DOCTYPE html>\n<html lang="en">\n[^]{0,1000}<title>Dependenci
 /** The media types of the scripts that have no word for it. */
 const STANDARD = new Map<string, MediaType>([[".astro", "TypeScript"], [".mdx", "Jsx"]]);
 
-/**
- * @param path of a component or a page
- * @throws {RangeError} the texts would take too much memory
- */
+/** Those of a component or a page. @throws {RangeError} the texts would take too much memory */
 export function scriptsOf(text: string, path: string): Scripts {
   const ending = extname(path).toLowerCase();
   const standard = STANDARD.get(ending) ?? "JavaScript";
@@ -129,10 +126,7 @@ function withoutComments(text: string, comments: RegExp): string {
 /** Whether a text begins as the page of a report does. */
 export const isReport = (text: string): boolean => REPORT.test(text);
 
-/**
- * Finds positions in a text, in a time that is in proportion to the text where they ascend.
- * @returns line and character, from zero, of an offset in UTF-16 code units
- */
+/** Returns what finds the line and character, from zero, of an offset in UTF-16 units, ascending ones quickest. */
 export function positionsIn(text: string): (offset: number) => [number, number] {
   let [at, line, character] = [0, 0, 0];
   return (offset) => {

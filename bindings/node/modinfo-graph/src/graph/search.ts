@@ -156,11 +156,7 @@ export class Search {
       .find((each) => each !== path && !isDeclaration(each));
   }
 
-  /**
-   * Where the source of a file in a folder of outputs may be: at the same path below `src`, without an ending.
-   * @param folders in place of `src`
-   * @param isMissing whether the folder of outputs may not be there
-   */
+  /** The paths below `src` at which the source of an output may be; `isMissing` where the outputs mustn't be there. */
   likelySources(path: string, folders: string[] = ["src"], isMissing: boolean = false): string[] {
     const { folder = path } = this.manifests.scopeOfFile(path) ?? {};
     const isBelow = path.startsWith(`${folder}/`);

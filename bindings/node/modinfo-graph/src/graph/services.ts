@@ -56,10 +56,7 @@ function readResolverOptions({ tsconfig, conditions = [], root = [] }: Options):
   };
 }
 
-/**
- * The absolute path of an option, which is a path or the URL of a file.
- * @throws {TypeError} it is neither
- */
+/** The absolute path of an option, which is a path or the URL of a file. @throws {TypeError} it is neither */
 function pathOf(value: unknown, name: string): string {
   const text = textOf(value);
   if (text === undefined || text === "") {

@@ -6,10 +6,7 @@ import type { Signal } from "modinfo/internal/types/calls.cjs";
 
 export { checkKnown, readSignal } from "modinfo/internal/core/input.cjs";
 
-/**
- * How many processes run at once: one for each processor, where the number is missing.
- * @throws {TypeError} it is no whole number from 1 on
- */
+/** How many processes run at once: one for each processor, where the number is missing. @throws {TypeError} */
 export function readJobs(jobs: unknown = os.availableParallelism?.() ?? os.cpus().length): number {
   if (!Number.isInteger(jobs) || Number(jobs) < 1) {
     throw new TypeError(`jobs must be a whole number from 1 on, not ${String(jobs)}`);
@@ -17,11 +14,7 @@ export function readJobs(jobs: unknown = os.availableParallelism?.() ?? os.cpus(
   return Number(jobs);
 }
 
-/**
- * The result of a call, unless a signal is aborted before it is there.
- * @param call isn't made where the signal is aborted already
- * @returns rejected with the reason of the signal once that is aborted
- */
+/** The result of a call, which isn't made once a signal is aborted; rejected with the reason when it is aborted. */
 export async function unlessAborted<T>(signal: Signal | undefined, call: () => Promise<T>): Promise<T> {
   if (!signal) {
     return call();
