@@ -27,7 +27,8 @@ export function versions(): (name: string, file: string | undefined, user: strin
   return (name, file, user) => {
     const installed = file && textIn(membersOf(dirname(file)), "version");
     const listing = installed ? undefined : membersOf(dirname(realPath(user) ?? user));
-    return installed || MEMBERS.map((member) => textIn(listing?.[member], name)).find((each) => each !== undefined);
+    const listed = MEMBERS.map((member) => textIn(listing?.[member], name));
+    return installed || listed.find((each) => each !== undefined);
   };
 }
 

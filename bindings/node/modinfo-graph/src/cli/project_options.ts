@@ -56,7 +56,8 @@ export function withProjectOptions<V extends Values>(
 
 function readMember(): object {
   // Where there is no package.json, or it is no JSON, the resolution of names warns of that.
-  const modinfo = unlessThrown(() => JSON.parse(String(readRegularFile("package.json", MAX_CONFIGURATION))).modinfo);
+  const text = unlessThrown(() => String(readRegularFile("package.json", MAX_CONFIGURATION))) ?? "";
+  const modinfo = unlessThrown(() => JSON.parse(text).modinfo);
   return typeof modinfo === "object" ? modinfo ?? {} : {};
 }
 

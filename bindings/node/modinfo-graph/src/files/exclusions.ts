@@ -14,7 +14,7 @@ export class GitFault extends Error {}
 /** Whether a path, or a folder around it, is left out */
 type IsOut = (path: string) => boolean;
 
-/** Whether a file isn't listed, isn't read either, isn't listed by `exclude` alone, and either of the first two. */
+/** Whether a file isn't listed, isn't read either, isn't listed by `exclude` alone, and one of the first two. */
 type Exclusions = Record<"isExcluded" | "isIgnored" | "isKept" | "isLeftOut", IsOut>;
 
 /** Globs as `globMatcher` takes them, and whether git decides what isn't listed. */

@@ -14,7 +14,7 @@ import { realPath } from "./urls.js";
 import type { ModuleInfo, Signal } from "modinfo";
 import type { Found } from "./find_files.js";
 
-/** `program` is the path of `modinfo` or of the WebAssembly module; `jobs` the most processes or threads at once. */
+/** `program` is the path of `modinfo` or of the WebAssembly module, `jobs` the most processes at once. */
 export interface ReadOptions {
   program: string;
   jobs: number;
@@ -23,7 +23,7 @@ export interface ReadOptions {
   readOther?: (path: string) => Promise<Read> | undefined;
 }
 
-type Read = Pick<FileResult, "value" | "fault">;
+export type Read = Pick<FileResult, "value" | "fault">;
 
 export interface FileResult {
   path: string;

@@ -1,7 +1,7 @@
 /**
- * Reads regular files alone: a FIFO or a device may never end, and opening one may have effects. Resolution looks at
- * what paths lead to, and opens package.json and configurations. Where each path leads is known before anything is
- * opened. What is found is kept: a path is looked at once.
+ * Reads regular files alone: a FIFO or a device may never end, and opening one may have effects. Resolution
+ * looks at what paths lead to, and opens package.json and configurations. Where each path leads is known
+ * before anything is opened. What is found is kept: a path is looked at once.
  */
 
 import fs, { type Dirent, type Stats, constants, statSync } from "node:fs";
@@ -21,7 +21,7 @@ const decoder = new TextDecoder("utf-8", { fatal: true, ignoreBOM: true });
 /** Throws a `FileFault` for a file that isn't regular. */
 type Check = (status: Stats) => void;
 
-/** The content of a regular file, which `check` looks at before and after it is opened. @throws {FileFault | Error} */
+/** The content of a regular file, checked before and after it is opened. @throws {FileFault | Error} */
 export function readRegularFile(path: string, maxBytes = MAX_BYTES, check: Check = requireRegular): Buffer {
   check(statSync(path));
   return readOpened(path, maxBytes, 0, fs, check);

@@ -71,14 +71,15 @@ export class BundlerRules {
       : this.atPath(pathOf(`.${rest}`, folder), source);
   }
 
-  /** What `browser` of a manifest has for an absolute path or a package's name: one of these; false for nothing. */
+  /** What `browser` of a manifest has for an absolute path or a package's name; false for nothing. */
   replacement(manifest: Manifest | undefined, key: string): string | false | undefined {
     return this.replaced(manifest)[0].get(key);
   }
 
   /** Like `replacement`, by all members like `browser`; absolute paths alone. */
   replacements(manifest: Manifest | undefined, key: string): string[] {
-    return this.replaced(manifest).flatMap((each) => each.get(key) || []).filter((target) => target.startsWith("/"));
+    const found = this.replaced(manifest).flatMap((each) => each.get(key) || []);
+    return found.filter((target) => target.startsWith("/"));
   }
 
   private readonly replaced = memoized((manifest: Manifest | undefined) => {

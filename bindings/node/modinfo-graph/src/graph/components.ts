@@ -13,7 +13,7 @@ import { urlOfPath } from "../files/urls.js";
 import { FileFault, faultOf } from "../runtime/faults.js";
 import { type Source, isReport, positionsIn, scriptsOf } from "./scripts.js";
 import type { DependencyDescriptor, MediaType, ModuleInfo } from "modinfo";
-import type { FileResult } from "../files/read_files.js";
+import type { Read } from "../files/read_files.js";
 
 /** The most bytes of a component or a page. */
 const MOST_BYTES = 2 ** 24;
@@ -27,7 +27,7 @@ const SINGLE = ["selfTypesSpecifier", "jsxImportSource", "jsxImportSourceTypes"]
  * `src` of a page's script names; `fault` is that of the first script that can't be read. A page without scripts,
  * and a report that was made before, has neither.
  */
-export async function readComponent(path: string, infoOf: ReturnType<typeof textReader>): Promise<Pick<FileResult, "value" | "fault">> {
+export async function readComponent(path: string, infoOf: ReturnType<typeof textReader>): Promise<Read> {
   try {
     const text = readRegularText(path, MOST_BYTES);
     const { scripts, sources } = isReport(text) ? { scripts: [], sources: [] } : scriptsOf(text, path);

@@ -1,4 +1,4 @@
-/** What is reached from some keys, and the cycles of a graph: sets of modules of which each leads to each other one. */
+/** What is reached, and the cycles of a graph: sets of modules of which each leads to each other one. */
 
 import { isRunKind } from "./references.js";
 

@@ -16,10 +16,10 @@ import type { Resolver } from "./resolver.js";
 /** A path that names no entry. The message is for people. */
 export class EntryFault extends Error {}
 
-/** Paths: of modules, what a package.json names that isn't there, and scripts without an ending, which aren't parsed */
+/** Paths of modules, what isn't there, and scripts without an ending, which aren't parsed. */
 type EntryPoints = Record<"files" | "absent" | "texts", string[]> & { perhaps: Perhaps[] };
 
-/** What the package.json at `from` names that may be reached: the file at a path; without a path, what the text names */
+/** What the package.json at `from` may lead to: the file at a path; without a path, what the text names. */
 export type Perhaps = { kind: "condition" | "text", path?: string, from: string, text: string };
 
 /** The members of a package.json that name modules, and of tools, whose files may be missing. */
@@ -44,7 +44,7 @@ const READERS = new Set([
   "stylelint", "rimraf", "rm", "cp", "mv", "git",
 ]);
 
-/** The entries of modules, pages, and folders with a package.json, each once. @throws {EntryFault} there is none */
+/** The entries of modules, pages, and folders with a package.json, each once. @throws {EntryFault} */
 export async function entryPoints(paths: string[], conditions: readonly string[], resolver: Resolver) {
   const all: EntryPoints[] = [];
   for (const path of paths) {
@@ -75,9 +75,10 @@ async function ofPackage(folder: string, conditions: readonly string[], resolver
     throw new EntryFault(`${manifest}: ${what}`);
   }
   const forTools = Object.fromEntries(Object.entries(values).filter(([member]) => !NO_TEXTS.has(member)));
+  const texts = textsIn(forTools).filter((text) => /[/*]/.test(text));
   const perhaps: Perhaps[] = [
-    ...exported.perhaps.map(({ path, text }) => ({ kind: "condition" as const, path: absolute(path), from, text })),
-    ...textsIn(forTools).filter((each) => /[/*]/.test(each)).map((text) => ({ kind: "text" as const, from, text })),
+    ...exported.perhaps.map((each) => ({ ...each, kind: "condition" as const, path: absolute(each.path), from })),
+    ...texts.map((text) => ({ kind: "text" as const, from, text })),
   ];
   return { ...found, absent: found.absent.map((name) => `${manifest}: ${name}`), perhaps };
 }

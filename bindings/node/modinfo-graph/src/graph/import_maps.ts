@@ -16,7 +16,7 @@ import { isObject } from "./package_targets.js";
 import { scriptsOf } from "./scripts.js";
 import type { RegularFiles } from "../files/regular_files.js";
 
-/** Where a name leads by a configuration: paths without what is added to names, or another name, which no path is. */
+/** Where a name leads by a configuration: paths without what is added to names, or another name. */
 export type Configured = { by: "tsconfig" | "importmap", paths: string[], name?: string };
 
 /** By keys, each a URL, or a name where it is none */

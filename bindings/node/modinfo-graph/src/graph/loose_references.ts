@@ -1,7 +1,8 @@
 /**
- * What may name modules at run time, found in a text by a search: what `ModuleInfo` doesn't have, and what is in files
- * that aren't parsed. Calls and tags, of which a comment or a string that looks like one counts too; and string
- * literals that look like the name of a file or like a glob: what stands between two quotes of a line.
+ * What may name modules at run time, found in a text by a search: what `ModuleInfo` doesn't have, and what is
+ * in files that aren't parsed. Calls and tags, of which a comment or a string that looks like one counts too;
+ * and string literals that look like the name of a file or like a glob: what stands between two quotes of a
+ * line.
  */
 
 import { isModule, withoutEnding } from "../files/file_kinds.js";

@@ -50,7 +50,7 @@ export class ModuleGraph {
     return new Set(ways(entries.filter(isModule), (key) => this.leadsFrom(key).filter(isModule)).keys());
   }
 
-  /** Returns what finds a shortest chain of imports from one of the entries to a file; none where there is none. */
+  /** Returns what finds a shortest chain of imports from one of the entries to a file, which may be empty. */
   chains(entries: string[]): (target: string) => Step[] {
     const before = ways(entries, (key) => this.leadsFrom(key));
     return (target) => (before.has(target) ? wayTo(target, before) : []).map((module, at, way) => {

@@ -1,6 +1,7 @@
 /**
- * Which files the names in a text lead to, among those that are looked for. Of a name only some parts may be known.
- * More files than those that a bundler would take are no error: a match is a reason to look, and no proof.
+ * Which files the names in a text lead to, among those that are looked for. Of a name only some parts may be
+ * known. More files than those that a bundler would take are no error: a match is a reason to look, and no
+ * proof.
  */
 
 import { basename, dirname, join, relative, resolve as absolute } from "node:path";

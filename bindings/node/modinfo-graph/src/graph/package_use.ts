@@ -1,7 +1,7 @@
 /**
- * Packages that modules import and no package.json lists, and packages that one lists and nothing imports. Something
- * else than an import may name these: a search in texts is not exact, and a wrong reason costs a look, a missing one a
- * package.
+ * Packages that modules import and no package.json lists, and packages that one lists and nothing imports.
+ * Something else than an import may name these: a search in texts is not exact, and a wrong reason costs a
+ * look, a missing one a package.
  */
 
 import { basename, dirname, join, resolve as absolute } from "node:path";

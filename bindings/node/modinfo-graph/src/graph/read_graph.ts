@@ -18,7 +18,7 @@ import type { GraphOptions } from "../options.cjs";
 import type { Ends, GraphModule, ResolveHook } from "./graph.cjs";
 import type { Project } from "./reasons.js";
 
-/** `info` has `resolved` in each object that names a module; a file with a fault may have neither it nor `module`. */
+/** `info` has `resolved` in all that names a module; a file with a fault may have neither it nor `module`. */
 export type ReadFile = Pick<FileResult, "path" | "isLeft" | "fault">
   & { info?: ModuleInfo, module?: GraphModule, notices?: string[] };
 

@@ -38,7 +38,7 @@ const PACKAGE_NAME = /^(?:@[^/!]+\/)?[^.@/!][^/!]*$/;
 
 /** Like those of the package, as paths */
 export interface ResolverOptions extends Pick<ResolveOptions, "conditions" | "types"> {
-  /** Without it and a project, all that no link leads to is inside, and the nearest folder with a `node_modules`. */
+  /** Without it and a project, all that no link leads to is inside, and the nearest folder with packages. */
   root?: string | readonly string[];
   /** Whether `types` is the declaration file beside what runs, without TypeScript: true, where it is missing. */
   declarations?: boolean;

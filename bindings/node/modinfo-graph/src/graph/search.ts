@@ -156,7 +156,7 @@ export class Search {
       .find((each) => each !== path && !isDeclaration(each));
   }
 
-  /** The paths below `src` at which the source of an output may be; `isMissing` where the outputs mustn't be there. */
+  /** The paths below `src` at which the source of an output may be, which with `isMissing` isn't made yet. */
   likelySources(path: string, folders: string[] = ["src"], isMissing: boolean = false): string[] {
     const { folder = path } = this.manifests.scopeOfFile(path) ?? {};
     const isBelow = path.startsWith(`${folder}/`);

@@ -14,7 +14,7 @@ export function readJobs(jobs: unknown = os.availableParallelism?.() ?? os.cpus(
   return Number(jobs);
 }
 
-/** The result of a call, which isn't made once a signal is aborted; rejected with the reason when it is aborted. */
+/** The result of a call, which isn't made once a signal is aborted; then rejected with the reason. */
 export async function unlessAborted<T>(signal: Signal | undefined, call: () => Promise<T>): Promise<T> {
   if (!signal) {
     return call();

@@ -1,7 +1,7 @@
 /**
- * Why nothing is known of a file, and texts as messages show them. The name of a file may have any character but two,
- * among them those that move a terminal's cursor, begin a line that looks like another message, or turn the direction
- * of a text.
+ * Why nothing is known of a file, and texts as messages show them. The name of a file may have any character
+ * but two, among them those that move a terminal's cursor, begin a line that looks like another message, or
+ * turn the direction of a text.
  */
 
 import { ModinfoFault, ProgramEnd } from "modinfo/internal/core/errors.cjs";

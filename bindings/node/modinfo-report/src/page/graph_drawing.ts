@@ -82,10 +82,11 @@ function edgeView(edge: PlannedEdge, names: Map<string, string>) {
   const { from, to, path, kinds, isMarked } = edge;
   const kind = strongestKind(kinds);
   const attributes = {
-    d: path, class: `edge ${kind}${isMarked ? " marked" : ""}`, "stroke-dasharray": kindNamed(kind).dash || undefined,
-    "marker-end": `url(#arrow-${kind})`, ...dataOf(edge),
+    d: path, class: `edge ${kind}${isMarked ? " marked" : ""}`, "marker-end": `url(#arrow-${kind})`,
+    "stroke-dasharray": kindNamed(kind).dash || undefined, ...dataOf(edge),
   };
-  return drawn("path", attributes, drawn("title", {}, `${names.get(from)} → ${names.get(to)}: ${kindsText(kinds)}`));
+  const title = `${names.get(from)} → ${names.get(to)}: ${kindsText(kinds)}`;
+  return drawn("path", attributes, drawn("title", {}, title));
 }
 
 function countView(edge: PlannedEdge) {

@@ -1,4 +1,4 @@
-/** The graphs of some modules: of a neighbourhood, of which no edge is left out, and of a cycle, with its lines. */
+/** The graphs of a neighbourhood, of which no edge is left out, and of a cycle, with its lines. */
 
 import { element } from "./elements.js";
 import { folderOf } from "./folders.js";
@@ -40,7 +40,8 @@ export function nearView(module: number, steps: Steps): HTMLElement {
 async function drawNear(frame: Frame, module: number, steps: Steps) {
   let found: Awaited<ReturnType<typeof planOfScene>> | undefined;
   for (const most of MOST_OF_STEP) {
-    found = found?.isReadable ? found : await planOfScene(nearScene(module, { ...steps, most }), roomIn(frame.box));
+    const scene = nearScene(module, { ...steps, most });
+    found = found?.isReadable ? found : await planOfScene(scene, roomIn(frame.box));
   }
   if (found && frame.view.isConnected) {
     showPlan(frame, found.plan, found.scene);

@@ -86,7 +86,7 @@ export const plans = {
 };
 
 /** @throws {TypeError} the media type is no string */
-function sourceOf(text: string, specifier: unknown, mediaType: unknown): Record<"analyze" | "check", Plan<Result>> {
+function sourceOf(text: string, specifier: unknown, mediaType: unknown): Record<string, Plan<Result>> {
   const url = urlText(text, specifier);
   if (mediaType !== undefined && typeof mediaType !== "string") {
     throw new TypeError(`mediaType must be a string, not ${String(mediaType)}: options follow it`);
