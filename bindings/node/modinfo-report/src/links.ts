@@ -125,10 +125,7 @@ const runs = ({ kind, word }: Row): boolean => isRunKind(kind) || word === "jsxI
 
 /** @returns the kind of its edge: a compiler imports what JSX is made by */
 function kindOfRow(row: Row): Kind {
-  if (row.kind !== "pragma") {
-    return row.kind;
-  }
-  return runs(row) ? "static" : "type";
+  return row.kind !== "pragma" ? row.kind : runs(row) ? "static" : "type";
 }
 
 /** Counts the edges; those of one kind between two modules count once. */

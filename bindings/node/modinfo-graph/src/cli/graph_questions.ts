@@ -160,10 +160,9 @@ function dependents({ graph, values }: Context) {
 }
 
 function drawn(draw: typeof dotText, context: Context) {
-  const keys = context.graph.listed.map(({ specifier }) => specifier);
-  const listed = new Set(keys);
-  const edges = context.graph.edges().filter(({ from, to }) => listed.has(from) && listed.has(to));
-  return { text: draw(keys, edges, shownPath), ...whole(context) };
+  const keys = new Set(context.graph.listed.map(({ specifier }) => specifier));
+  const edges = context.graph.edges().filter(({ from, to }) => keys.has(from) && keys.has(to));
+  return { text: draw([...keys], edges, shownPath), ...whole(context) };
 }
 
 function whole({ graph, entries }: Context) {

@@ -124,7 +124,6 @@ function leadsOut(path: string, roots: string[]) {
   return real !== undefined && !roots.some(isIn);
 }
 
-/** @returns without those that lead to nothing */
 const realPaths = (paths: string[]): string[] => paths.flatMap((path) => realPath(path) ?? []);
 
 /** @returns true also where that can't be found out */

@@ -15,11 +15,7 @@ export interface Cycle {
 }
 
 /** Between the indexes of two modules. */
-interface Edge {
-  from: number;
-  to: number;
-  kind: string;
-}
+type Edge = { from: number, to: number, kind: string };
 
 /**
  * The cycles of the edges that run; and with them those that need other edges, of which each has
@@ -32,9 +28,7 @@ export function cyclesOf(count: number, edges: Edge[]): Cycle[] {
   const run = components(runs);
   const groups = new Map(run.flatMap((modules, at) => modules.map((each) => [each, at] as const)));
   /** Whether a cycle of what runs has both. */
-  const isTogether = (one: number, other: number) => {
-    return groups.has(one) && groups.get(one) === groups.get(other);
-  };
+  const isTogether = (one: number, other: number) => groups.has(one) && groups.get(one) === groups.get(other);
   const others = next === runs ? [] : components(next).filter((modules) => {
     return modules.some((each) => !isTogether(modules[0], each));
   });

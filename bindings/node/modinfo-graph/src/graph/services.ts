@@ -19,7 +19,6 @@ const GRAPH_OPTIONS = [
   ...RESOLVER_OPTIONS, "signal",
 ];
 
-/** The path is the module's, absolute. */
 type Task = { info: ModuleInfo, path: string, options: ResolverOptions };
 
 /** @returns a copy of a `ModuleInfo` with `resolved` in all that names a module, by the files as they are now */

@@ -48,8 +48,6 @@ const HINT = "the option program or the environment variable MODINFO names anoth
  */
 export class Pool {
   #waiting: Request[] = [];
-  /** Requests whose lane ended, which are the next. */
-  #again: Request[] = [];
   #places: Place[] = [];
   #isKilled = false;
 
@@ -82,13 +80,12 @@ export class Pool {
 
   #deal() {
     for (;;) {
-      const queue = this.#again.length > 0 ? this.#again : this.#waiting;
-      const [request] = queue;
+      const [request] = this.#waiting;
       const place = request && this.#placeFor(request);
       if (!place) {
         return;
       }
-      queue.shift();
+      this.#waiting.shift();
       place.held.push(request);
       place.length += request.text.length;
       if (place.held.length === 1) {
@@ -144,14 +141,11 @@ export class Pool {
       return;
     }
     this.#places = this.#places.filter((each) => each !== place);
-    for (const request of place.held) {
-      if (request.isSuspect || this.#isKilled) {
-        request.reject(this.#endOf(why));
-      } else {
-        request.isSuspect = !isUnstarted;
-        this.#again.push(request);
-      }
-    }
+    const isLost = (request: Request) => request.isSuspect || this.#isKilled;
+    place.held.filter(isLost).forEach(({ reject }) => reject(this.#endOf(why)));
+    const again = place.held.filter((request) => !isLost(request));
+    // They are the next.
+    this.#waiting.unshift(...again.map((request) => Object.assign(request, { isSuspect: !isUnstarted })));
     if (isUnstarted) {
       this.#onUnstarted(why);
     }
@@ -168,7 +162,7 @@ export class Pool {
   }
 
   #refuse(why: string) {
-    [...this.#again.splice(0), ...this.#waiting.splice(0)].forEach(({ reject }) => reject(this.#endOf(why)));
+    this.#waiting.splice(0).forEach(({ reject }) => reject(this.#endOf(why)));
   }
 
   #endOf(why: string) {
