@@ -14,7 +14,7 @@ const IMPORT = /^import [^;]* from "\.\/(\w+\.js)";\n/gm;
 export function pageOf(index: Omit<Index, "absent">, parts: Iterable<Details[]>, libraries: Library[]): string {
   const [layout, sizes] = libraries;
   const script = `${sizes.text ? `${sizes.text}\n` : ""}${scriptOf("main.js")}`;
-  const style = `${colours()}${read("../style.css")}`;
+  const style = `${colours()}${readFileSync(new URL("../style.css", import.meta.url), "utf8")}`;
   const policy = [
     "default-src 'none'", `script-src '${hash(script)}'`, `style-src '${hash(style)}'`,
     "worker-src blob:", "require-trusted-types-for 'script'", "trusted-types layout",
@@ -44,7 +44,7 @@ ${[...parts].map((part, at) => partElement(part, at)).join("\n")}
 /** Joins a module of the page, after those that it imports, to one script. */
 function scriptOf(name: string, known = new Set<string>()): string {
   known.add(name);
-  const text = read(`./page/${name}`);
+  const text = readFileSync(new URL(`./page/${name}`, import.meta.url), "utf8");
   const before = [...text.matchAll(IMPORT)].map(([, each]) => (known.has(each) ? "" : scriptOf(each, known)));
   return `${before.join("")}\n${text.replace(IMPORT, "").replace(/^export /gm, "")}`;
 }
@@ -75,9 +75,6 @@ function colours() {
 ${classes}
 `;
 }
-
-/** @param path from here */
-const read = (path: string) => readFileSync(new URL(path, import.meta.url), "utf8");
 
 const hash = (text: string) => `sha256-${createHash("sha256").update(text).digest("base64")}`;
 
