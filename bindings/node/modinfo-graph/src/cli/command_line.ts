@@ -19,15 +19,11 @@ export function flags<Name extends string>(...names: Name[]) {
   return Object.fromEntries(names.map((name) => [name, { type: "boolean" }])) as Record<Name, { type: "boolean" }>;
 }
 
-interface Program<V extends Values> {
-  /** As the package has it */
+/** `choices` are words of options that need no value with one, after `=`; `main` returns the status. */
+interface Program<V extends Values> extends Required<Pick<ParseArgsConfig, "options">> {
   name: string;
   help: string;
-  /** Those of node's `parseArgs`, but for `help` and `version` */
-  options: ParseArgsConfig["options"];
-  /** Words of options that need no value with one, after `=` */
   choices?: string[];
-  /** Returns the status */
   main: (words: Words<V>) => Promise<number>;
 }
 

@@ -21,13 +21,7 @@ export type FilesValues = Values
 export type Context = GraphRun & { values: FilesValues, paths: string[] };
 
 /** `key` is what it is known by, which doesn't change with the lines of a file; `value` is added to `member`. */
-interface Finding {
-  member: string;
-  key: string;
-  /** As people read it */
-  lines: string[];
-  value: unknown;
-}
+type Finding = { member: string, key: string, lines: string[], value: unknown };
 
 export interface Answer {
   /** Each makes the status 1, unless it is known */

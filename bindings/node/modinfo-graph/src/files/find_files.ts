@@ -7,29 +7,23 @@ import { FileFault, unlessThrown } from "../runtime/faults.js";
 import { isComponent, isModule, isPage } from "./file_kinds.js";
 import { realPath } from "./urls.js";
 
+/** A file, perhaps left out, or a link that isn't followed (`isLeft`); `error` is why the path can't be read. */
 export interface Found {
   path: string;
   /** The path without links in it, where it was found in a folder */
   real?: string;
-  /** Why the path can't be read */
   error?: Error;
-  /** Whether it is a link that is not followed */
   isLeft?: boolean;
-  /** Whether it is among those that are left out */
   isExcluded?: boolean;
 }
 
-interface Options {
+/** Which files of folders are taken: what is left out and kept all the same has `isExcluded`. */
+interface Options extends Partial<Record<"isExcluded" | "isKept", (path: string) => boolean>> {
   /** Whether to go into `node_modules` and into folders whose names begin with a dot */
   all?: boolean;
-  /** Whether to follow links to files that are below no root */
+  /** Whether to follow links to files below no root, and the roots besides the folder itself */
   follow?: boolean;
-  /** Paths, besides the folder itself, below which a link may lead */
   roots?: string[];
-  /** Whether a file or folder is left out that a folder has */
-  isExcluded?: (path: string) => boolean;
-  /** Whether a file or folder that is left out is taken all the same, with `isExcluded` */
-  isKept?: (path: string) => boolean;
   /** Whether to take components and pages too */
   components?: boolean;
 }

@@ -25,12 +25,7 @@ export interface ReadOptions {
 
 export type Read = Pick<FileResult, "value" | "fault">;
 
-export interface FileResult {
-  path: string;
-  /** The path without links in it, where it is known */
-  real?: string;
-  /** Whether it is a link that isn't followed */
-  isLeft?: boolean;
+export interface FileResult extends Omit<Found, "error" | "isExcluded"> {
   /** The JSON of its `ModuleInfo` */
   info?: string | Buffer;
   /** The `ModuleInfo`, where it is of several texts */

@@ -102,15 +102,8 @@ function requireRegular(status: Stats) {
 export type System = Pick<typeof fs, "lstatSync" | "realpathSync" | "readdirSync" | "openSync" | "fstatSync" |
   "readSync" | "closeSync">;
 
-/** What a path leads to */
-export interface Entry {
-  /** `file` is a regular one */
-  kind: "file" | "folder" | "other" | "none";
-  /** Without links; empty where nothing is there */
-  path: string;
-  /** Whether there is a link on the way */
-  isLinked: boolean;
-}
+/** What a path leads to, its path without links (empty for nothing), and whether there is a link on the way. */
+export type Entry = { kind: "file" | "folder" | "other" | "none", path: string, isLinked: boolean };
 
 /** The most bytes of a package.json or a configuration: 4 MiB. */
 export const MAX_CONFIGURATION = 4 * 2 ** 20;

@@ -47,26 +47,19 @@ export interface Options {
 /** Which files a configuration includes, where it says so; absolute patterns */
 type Lists = { [Name in "files" | "include" | "exclude"]?: string[] };
 
-/** A configuration together with those that it extends */
+/** A configuration together with those that it extends, perhaps in a loop; null takes an inherited option away. */
 interface Extended {
-  /** Of which null takes an inherited one away */
   options: { [Name in keyof Options]: Options[Name] | null };
   members: Lists & { references?: unknown };
-  /** Whether one of them extends another one that extends it */
   isInLoop: boolean;
 }
 
 /** The configurations that are known, and how many were merged */
 type Merged = { known: Map<string, Extended>, count: number };
 
-export interface Configuration extends Required<Lists> {
-  path: string;
-  folder: string;
-  /** Together with those that it extends */
-  options: Options;
-  /** The paths of the configurations that it refers to */
-  references: string[];
-}
+/** Together with those that it extends; `references` are the paths of those that it refers to. */
+export type Configuration = Required<Lists>
+  & { path: string, folder: string, options: Options, references: string[] };
 
 export class Configurations {
   readonly notices = new Notices();

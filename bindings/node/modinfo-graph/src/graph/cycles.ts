@@ -2,17 +2,11 @@
 
 import { isRunKind } from "./references.js";
 
-export interface Cycle {
-  /** ascending */
-  modules: number[];
-  /**
-   * A shortest path from the first back to it, without its end; of a cycle that types close, one that has an edge
-   * of types.
-   */
-  path: number[];
-  /** Whether edges that run close it; else edges of types, JSDoc or references are needed */
-  isRun: boolean;
-}
+/**
+ * Modules, ascending, and a shortest path from the first back to it, without its end. Edges that run close the
+ * cycle; else edges of types, JSDoc or references, of which the path has one.
+ */
+export type Cycle = { modules: number[], path: number[], isRun: boolean };
 
 /** Between the indexes of two modules. */
 type Edge = { from: number, to: number, kind: string };

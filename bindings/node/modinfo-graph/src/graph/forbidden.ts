@@ -8,12 +8,7 @@ import type { Ends, Mention, Reference } from "./graph.cjs";
 import type { ModuleGraph } from "./module_graph.js";
 
 /** `to` is a file's URL, or a package's name; `way` a shortest one from an entry to it, or from the module. */
-export interface Forbidden {
-  rule: string;
-  mention: Mention;
-  to: string;
-  way: string[];
-}
+type Forbidden = { rule: string, mention: Mention, to: string, way: string[] };
 
 /** Rules are "FROM:TO", of which both are globs, the second one perhaps of packages' names. @throws {GlobFault} */
 export function forbiddenEdges(graph: ModuleGraph, entries: string[], rules: string[]): Forbidden[] {

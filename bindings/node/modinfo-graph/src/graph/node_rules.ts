@@ -25,15 +25,8 @@ export type Found = { kind: "file" | "outside", path: string }
   | { kind: "url", url: string }
   | Missing;
 
-export interface Missing {
-  kind: "none";
-  /** The path at which nothing is, where the rules lead to one */
-  wanted?: string;
-  /** The folder of the package that was looked in */
-  package?: string;
-  /** Whether other folders of packages don't count */
-  isFinal?: boolean;
-}
+/** Nothing is at the path `wanted`, or in the folder `package`; with `isFinal` other folders don't count. */
+export type Missing = { kind: "none", wanted?: string, package?: string, isFinal?: boolean };
 
 /** What a `require` adds to a name. */
 const ENDINGS = [".js", ".json", ".node"];

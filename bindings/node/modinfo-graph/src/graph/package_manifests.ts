@@ -8,18 +8,12 @@ import type { RegularFiles } from "../files/regular_files.js";
 
 export type Format = "import" | "require";
 
-export interface Manifest {
-  /** Without links, where the folder's path has none */
+/** The package.json at a path, with all its members; neither `exports` nor `imports` is null. */
+export interface Manifest extends Partial<Record<"name" | "main" | "type", string>> {
   folder: string;
-  /** Of the file */
   path: string;
-  name?: string;
-  main?: string;
-  type?: string;
-  /** Neither it nor `imports` is null */
   exports?: unknown;
   imports?: unknown;
-  /** All of them */
   members: Record<string, unknown>;
 }
 

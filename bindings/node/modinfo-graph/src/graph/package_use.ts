@@ -121,13 +121,8 @@ function packageNamed({ specifier = "", resolved }: Reference, path: string, lis
   return kind === "builtin" || isListed || isWorkspace ? own : undefined;
 }
 
-export interface PackageReason {
-  kind: "types" | "bin" | "configuration" | "peer" | "text";
-  /** The URL of the file that has it */
-  file: string;
-  /** The script, or the package whose peer it is */
-  text?: string;
-}
+/** `file` is the URL of the file that has it, `text` the script, or the package whose peer it is. */
+type PackageReason = { kind: "types" | "bin" | "configuration" | "peer" | "text", file: string, text?: string };
 
 /** A file that is searched, by its path. */
 type Text = { file: string, text: string };

@@ -3,15 +3,7 @@
 
 export type Kind = "static" | "dynamic" | "type" | "require" | "jsdoc" | "pragma";
 
-interface DrawnKind {
-  kind: Kind;
-  title: string;
-  syntax: string;
-  light: string;
-  dark: string;
-  dash: string;
-  dot: string;
-}
+type DrawnKind = { kind: Kind } & Record<"title" | "syntax" | "light" | "dark" | "dash" | "dot", string>;
 
 /** The members of each kind in the order of the type, and the kinds in that of the legend. */
 const ROWS: [Kind, ...string[]][] = [

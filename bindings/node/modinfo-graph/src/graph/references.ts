@@ -40,13 +40,8 @@ const PRAGMAS = [
 /** Whether a reference of a kind runs the module that it names. */
 export const isRunKind = (kind: string): boolean => RUN_KINDS.has(kind);
 
-/** Which references and edges count. */
-export interface Counted {
-  /** Whether those of types, JSDoc and references count */
-  types?: boolean;
-  /** Whether those of `import(..)` count; true where it is missing */
-  dynamic?: boolean;
-}
+/** Whether references of types, JSDoc and comments count, and those of `import(..)`: true where it is missing. */
+export type Counted = { types?: boolean, dynamic?: boolean };
 
 export function counts({ kind }: { kind: string }, { types = false, dynamic = true }: Counted): boolean {
   return isRunKind(kind) ? kind !== "dynamic" || dynamic : types;

@@ -6,15 +6,8 @@
 
 import { ModinfoFault, ProgramEnd } from "modinfo/internal/core/errors.cjs";
 
-/** As it is printed */
-export interface Fault {
-  /** One of the names in docs/FORMATS.md or in README.md of this package */
-  fault: string;
-  message: string;
-  /** Of a syntax error, with the column counted from one */
-  line?: number;
-  column?: number;
-}
+/** As it is printed: a name of docs/FORMATS.md or README.md, and where a syntax error is, counted from one. */
+export type Fault = { fault: string, message: string, line?: number, column?: number };
 
 /** A file that can't be read or parsed. */
 export class FileFault extends Error {

@@ -10,7 +10,6 @@ export interface Lane {
   send(text: string | Uint8Array): void;
   /** @param isHeld whether the lane keeps node from ending */
   hold(isHeld: boolean): void;
-  /** Ends the lane at once. */
   kill(): void;
 }
 
