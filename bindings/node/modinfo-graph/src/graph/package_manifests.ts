@@ -4,6 +4,7 @@ import { basename, dirname, extname, join } from "node:path";
 
 import { inherited, memoized, nearest } from "../files/by_folder.js";
 import { Notices, firstIn, membersAt } from "./members.js";
+import { isObject } from "./package_targets.js";
 import type { RegularFiles } from "../files/regular_files.js";
 
 export type Format = "import" | "require";
@@ -18,6 +19,12 @@ export interface Manifest extends Partial<Record<"name" | "main" | "type", strin
 }
 
 const MAX_NOTICES = 10;
+
+/** The packages in some lists of a package.json. */
+export function packagesIn({ members = {} }: Partial<Manifest> = {}, lists: string[]): string[] {
+  const found = lists.map((list) => (Object.hasOwn(members, list) ? members[list] : undefined));
+  return found.filter(isObject).flatMap((each) => Object.keys(each));
+}
 
 const BY_EXTENSION: Record<string, Format> = {
   ".mjs": "import", ".mts": "import", ".cjs": "require", ".cts": "require",

@@ -14,7 +14,7 @@ import { urlOfPath } from "../files/urls.js";
 import { unlessThrown } from "../runtime/faults.js";
 import { packageOf, typesOf } from "./names.js";
 import { PackageFolders } from "./package_folders.js";
-import { type Manifest, PackageManifests, projectsOf } from "./package_manifests.js";
+import { type Manifest, PackageManifests, packagesIn, projectsOf } from "./package_manifests.js";
 import { isObject } from "./package_targets.js";
 import type { Ends, GraphModule, Mention, Reference } from "./graph.cjs";
 import type { ModuleGraph } from "./module_graph.js";
@@ -150,14 +150,8 @@ const OTHERS = new Set([
 /** A package that configurations name without its tool, as `eslint-plugin-react` and `@babel/preset-env`. */
 const OF_TOOL = /^(?:(@([^/]+))\/)?(?:([a-z]+)-)?(?:plugin|config|preset)(?:-(.+))?$/;
 
-/** The packages in some lists of a package.json. */
-export function packagesIn({ members }: Manifest, lists: string[]): string[] {
-  const found = lists.map((list) => (Object.hasOwn(members, list) ? members[list] : undefined));
-  return found.filter(isObject).flatMap((each) => Object.keys(each));
-}
-
 /** Returns a function that finds why a package may be used. It reads each text once. */
-export function packageReasons(
+function packageReasons(
   files: RegularFiles, manifests: PackageManifests, modules: GraphModule[], pages: string[],
 ) {
   const folders = new PackageFolders(files, globalFolders);

@@ -160,10 +160,9 @@ function moduleOf(
   const source = json && resolver.sourceOf(real ?? fileURLToPath(specifier));
   const module = { specifier, references, ...(source !== undefined && { source: keyOf(source) }) };
   const known = json && { info: json, module, notices: resolver.takeNotices() };
-  onRead?.({ path, isLeft, fault, ...known }, isExcluded(path));
-  return isLeft ? undefined : {
-    ...module, ...(fault && { fault }), ...(isExcluded(path) && { isExcluded: true as const }),
-  };
+  const isOut = isExcluded(path);
+  onRead?.({ path, isLeft, fault, ...known }, isOut);
+  return isLeft ? undefined : { ...module, ...(fault && { fault }), ...(isOut && { isExcluded: true as const }) };
 }
 
 /** Replaces what the names of a module lead to by what a hook returns: a path, or the URL of a file. */

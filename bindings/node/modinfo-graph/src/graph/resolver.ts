@@ -14,8 +14,7 @@ import { ConfiguredNames } from "./configured_names.js";
 import { ImportMaps } from "./import_maps.js";
 import { packageOf, schemeOf } from "./names.js";
 import { fileAt } from "./node_rules.js";
-import { type Format as Mode, PackageManifests, projectsOf } from "./package_manifests.js";
-import { isObject } from "./package_targets.js";
+import { type Format as Mode, PackageManifests, packagesIn, projectsOf } from "./package_manifests.js";
 import { type Named, type Syntax, namedBy } from "./references.js";
 import { type Importer, type Name, type Run, Search } from "./search.js";
 import { TypeScriptTypes } from "./typescript_types.js";
@@ -126,8 +125,7 @@ export class Resolver {
 
   /** The names of the packages that the nearest package.json lists, for an absolute path. */
   listedFor(path: string): string[] {
-    const { members = {} } = this.manifests.scopeOfFile(path) ?? {};
-    return LISTS.map((name) => members[name]).filter(isObject).flatMap((list) => Object.keys(list));
+    return packagesIn(this.manifests.scopeOfFile(path), LISTS);
   }
 
   /** What was found wrong with manifests and configurations since the last call. */

@@ -77,12 +77,9 @@ export function scriptsOf(text: string, path: string): Scripts {
 
 /** A text with blanks in place of what no program reads: comments of a page, and prose. */
 export function searchedText(text: string, path: string): string {
-  if (!isComponent(path) && !isPage(path)) {
-    return text;
-  }
-  return path.toLowerCase().endsWith(".mdx")
-    ? scriptsOf(text, path).scripts.map((each) => each.text).join("")
-    : withoutComments(text, COMMENTS[0]);
+  const isMarkdown = path.toLowerCase().endsWith(".mdx");
+  return isMarkdown ? scriptsOf(text, path).scripts.map((each) => each.text).join("")
+    : isComponent(path) || isPage(path) ? withoutComments(text, COMMENTS[0]) : text;
 }
 
 /** What is in ascending ranges, with as many characters in each line before it. */
