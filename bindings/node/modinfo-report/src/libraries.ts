@@ -1,9 +1,8 @@
 /** The libraries that are written into the page: they lay out the graph and the picture of sizes. */
 
-import { readFileSync } from "node:fs";
 import { fileURLToPath } from "node:url";
 
-import { DEBIAN_MODULES } from "modinfo-graph/internal/files/program.js";
+import { DEBIAN_MODULES, readOwnFile } from "modinfo-graph/internal/files/program.js";
 import { unlessThrown } from "modinfo-graph/internal/runtime/faults.js";
 
 /** The libraries: of each what it draws. */
@@ -28,7 +27,7 @@ export interface Library {
 export function readLibraries([own, debianModules] = [OWN, DEBIAN_MODULES]): Library[] {
   return LIBRARIES.map(({ name, debian, draws }) => {
     const file = `${name}.min.js`;
-    const read = (path: string) => unlessThrown(() => readFileSync(path, "utf8"));
+    const read = (path: string) => unlessThrown(() => readOwnFile(path));
     const text = read(`${own}/${file}`) ?? read(`${debianModules}/${name}/dist/${file}`);
     const fault = `${name} not found: the package modinfo-report has it, as has Debian's ${debian}`;
     return text === undefined ? { name, draws, fault } : { name, draws, text };

@@ -1,9 +1,9 @@
 /** The page, in one file that loads nothing. */
 
 import { createHash } from "node:crypto";
-import { readFileSync } from "node:fs";
 import { deflateSync } from "node:zlib";
 
+import { readOwnFile } from "modinfo-graph/internal/files/program.js";
 import { KINDS } from "modinfo-graph/internal/graph/pictures.js";
 import type { Library } from "./libraries.js";
 import type { Details, Index } from "./page_data.js";
@@ -14,7 +14,7 @@ const IMPORT = /^import [^;]* from "\.\/(\w+\.js)";\n/gm;
 export function pageOf(index: Omit<Index, "absent">, parts: Iterable<Details[]>, libraries: Library[]): string {
   const [layout, sizes] = libraries;
   const script = `${sizes.text ? `${sizes.text}\n` : ""}${scriptOf("main.js")}`;
-  const style = `${colours()}${readFileSync(new URL("../style.css", import.meta.url), "utf8")}`;
+  const style = `${colours()}${readOwnFile(new URL("../style.css", import.meta.url))}`;
   const policy = [
     "default-src 'none'", `script-src '${hash(script)}'`, `style-src '${hash(style)}'`,
     "worker-src blob:", "require-trusted-types-for 'script'", "trusted-types layout",
@@ -44,7 +44,7 @@ ${[...parts].map((part, at) => partElement(part, at)).join("\n")}
 /** Joins a module of the page, after those that it imports, to one script. */
 function scriptOf(name: string, known = new Set<string>()): string {
   known.add(name);
-  const text = readFileSync(new URL(`./page/${name}`, import.meta.url), "utf8");
+  const text = readOwnFile(new URL(`./page/${name}`, import.meta.url));
   const before = [...text.matchAll(IMPORT)].map(([, each]) => (known.has(each) ? "" : scriptOf(each, known)));
   return `${before.join("")}\n${text.replace(IMPORT, "").replace(/^export /gm, "")}`;
 }

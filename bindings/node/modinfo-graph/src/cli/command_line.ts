@@ -1,10 +1,9 @@
 /** What the commands share: their words, their output, and how they end. */
 
-import { readFileSync } from "node:fs";
 import { type ParseArgsConfig, parseArgs } from "node:util";
 
 import { GlobFault } from "../files/globs.js";
-import { programName } from "../files/program.js";
+import { programName, readOwnFile } from "../files/program.js";
 import { EntryFault } from "../graph/entry_points.js";
 import { readJobs as processors } from "../runtime/call_options.js";
 import { printable, printableLines, systemMessage } from "../runtime/faults.js";
@@ -89,7 +88,7 @@ async function printHelp(name: string, help: string, { values }: Words) {
     await writeOutput(help);
   } else if (values.version) {
     const own = new URL("../../package.json", import.meta.url);
-    const { version } = JSON.parse(readFileSync(own, "utf8"));
+    const { version } = JSON.parse(readOwnFile(own));
     await writeOutput(`${name} ${version} (${printable(programName())})\n`);
   }
   return Boolean(values.help || values.version);

@@ -2,7 +2,7 @@
 
 import { spawn } from "node:child_process";
 import { once } from "node:events";
-import { existsSync } from "node:fs";
+import { existsSync, readFileSync } from "node:fs";
 import { createRequire } from "node:module";
 import { resolve as absolute } from "node:path";
 import { fileURLToPath } from "node:url";
@@ -93,3 +93,6 @@ export function loadTypeScript(): unknown {
   }
   throw new Error("types need TypeScript: npm install typescript, or Debian's node-typescript");
 }
+
+/** The text of a file of this package, or of one that is installed for it. */
+export const readOwnFile = (path: string | URL): string => readFileSync(path, "utf8");
