@@ -23,19 +23,14 @@ export type Context = GraphRun & { values: FilesValues, paths: string[] };
 /** `key` is what it is known by, which doesn't change with the lines of a file; `value` is added to `member`. */
 type Finding = { member: string, key: string, lines: string[], value: unknown };
 
-export interface Answer {
-  /** Each makes the status 1, unless it is known */
+/** Findings make the status 1, unless they are known; `isFinding` is whether the rest does. */
+export interface Answer extends Partial<Record<"lines" | "notes", string[]>> {
   findings?: Finding[];
-  /** What else is printed */
-  lines?: string[];
-  /** The same, where it has lines of its own */
+  /** What is printed in place of `lines`; notes go to the error output */
   text?: string;
   /** The rest as JSON has it, with empty lists for findings */
   data: Record<string, unknown>;
-  /** Whether the rest makes the status 1 */
   isFinding?: boolean;
-  /** Lines of the error output */
-  notes?: string[];
 }
 
 export const CHECKS: Record<string, (context: Context) => Answer> = {

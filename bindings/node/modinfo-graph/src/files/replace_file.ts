@@ -2,7 +2,7 @@
 
 import { randomBytes } from "node:crypto";
 import { constants, statSync } from "node:fs";
-import { open, rename, rm, writeFile } from "node:fs/promises";
+import { chmod, open, rename, rm, writeFile } from "node:fs/promises";
 import { basename, dirname, join, resolve as absolute } from "node:path";
 
 import { readBeginning } from "./regular_files.js";
@@ -28,7 +28,8 @@ export async function replaceFile(path: string, text: string): Promise<void> {
   const place = placeOf(path);
   const beside = join(dirname(place), `.${basename(place)}.${randomBytes(6).toString("hex")}`);
   try {
-    await writeNew(beside, text, status?.mode);
+    await writeFile(beside, text, { flag: "wx", ...(status && { mode: status.mode & 0o777 }) });
+    await (status && chmod(beside, status.mode & 0o7777));
     await rename(beside, place);
   } catch (error) {
     await rm(beside, { force: true });
@@ -50,17 +51,4 @@ export function isReplaceable(path: string, isOutput: (text: string) => boolean)
 export function placeOf(path: string): string {
   const folder = dirname(absolute(path));
   return realPath(path) ?? (folder === path ? path : join(placeOf(folder), basename(path)));
-}
-
-/** @param mode that of the file which is replaced */
-async function writeNew(path: string, text: string, mode?: number) {
-  const file = await open(path, "wx");
-  try {
-    if (mode !== undefined) {
-      await file.chmod(mode & 0o7777);
-    }
-    await file.writeFile(text);
-  } finally {
-    await file.close();
-  }
 }

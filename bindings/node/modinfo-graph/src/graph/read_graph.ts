@@ -24,17 +24,12 @@ export type ReadFile = Pick<FileResult, "path" | "isLeft" | "fault">
 
 type OfOptions = Pick<GraphOptions, "exclude" | "ignore" | "gitignore" | "all" | "resolve">;
 
-/** Options of the package, and others */
-interface ProjectTask extends ReadOptions, Counted, OfOptions {
+/** Options of the package, and others: whether links below no root are followed, and excluded files read. */
+interface ProjectTask extends ReadOptions, Counted, OfOptions, Partial<Record<"links" | "excluded", boolean>> {
   paths: AsyncIterable<string> | Iterable<string>;
   /** Those of the paths that are known before, below which links may lead */
   roots: string[];
-  /** paths */
   entries: string[];
-  /** Whether links to files below no root are followed */
-  links?: boolean;
-  /** Whether excluded files are read too, for what they lead to */
-  excluded?: boolean;
   resolver: ResolverOptions;
   /** Hands the files on, and may look them up ahead */
   ahead?: (files: AsyncIterable<Found>) => AsyncIterable<Found>;

@@ -21,12 +21,10 @@ import type { Ends, GraphModule, Reason, Reference } from "./graph.cjs";
 import type { ModuleGraph } from "./module_graph.js";
 import type { Resolver } from "./resolver.js";
 
+/** The keys of entries, what package.json names for other conditions, and the paths of what isn't parsed. */
 export interface Project {
-  /** keys */
   entries: string[];
-  /** What package.json names for other conditions */
   perhaps: Perhaps[];
-  /** The paths of pages, and of scripts that aren't parsed */
   pages: string[];
   /** Whether a file isn't read as a module */
   isIgnored: (path: string) => boolean;

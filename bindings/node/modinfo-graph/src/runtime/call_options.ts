@@ -16,20 +16,12 @@ export function readJobs(jobs: unknown = os.availableParallelism?.() ?? os.cpus(
 
 /** The result of a call, which isn't made once a signal is aborted; then rejected with the reason. */
 export async function unlessAborted<T>(signal: Signal | undefined, call: () => Promise<T>): Promise<T> {
-  if (!signal) {
-    return call();
-  }
-  signal.throwIfAborted();
-  const result = call();
+  signal?.throwIfAborted();
   let takeBack = () => {};
-  const aborted: Promise<never> = new Promise((_, reject) => {
-    takeBack = onAbort(signal, () => reject(signal.reason));
+  const aborted = new Promise<never>((_, reject) => {
+    takeBack = onAbort(signal, () => reject(signal?.reason));
   });
-  try {
-    return await Promise.race([result, aborted]);
-  } finally {
-    takeBack();
-  }
+  return Promise.race([call(), aborted]).finally(takeBack);
 }
 
 /** By each signal what is called. It has one listener: node warns of many. */

@@ -11,15 +11,11 @@ export type Fault = { fault: string, message: string, line?: number, column?: nu
 
 /** A file that can't be read or parsed. */
 export class FileFault extends Error {
-  readonly fault;
-  readonly position;
+  override readonly name = "FileFault";
 
   /** @param position from zero */
-  constructor(fault: string, message: string, position?: [line: number, character: number]) {
+  constructor(readonly fault: string, message: string, readonly position?: [line: number, character: number]) {
     super(message);
-    this.name = "FileFault";
-    this.fault = fault;
-    this.position = position;
   }
 }
 
