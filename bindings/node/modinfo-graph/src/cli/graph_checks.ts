@@ -5,7 +5,7 @@ import { relative, resolve as absolute } from "node:path";
 import { fileURLToPath } from "node:url";
 
 import { realPath } from "../files/urls.js";
-import { forbiddenEdges } from "../graph/forbidden.js";
+import { forbiddenEdges } from "../graph/module_graph.js";
 import { packageUse } from "../graph/package_use.js";
 import { unreachedOf } from "../graph/unreached.js";
 import { printable } from "../runtime/faults.js";

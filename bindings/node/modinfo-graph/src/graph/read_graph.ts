@@ -8,15 +8,15 @@ import { isComponent, isDeclaration, isModule, isPage } from "../files/file_kind
 import { type Found, findFiles } from "../files/find_files.js";
 import { type FileResult, type ReadOptions, readFiles } from "../files/read_files.js";
 import { type KeyOf, canonicalUrls } from "../files/urls.js";
-import { readComponent, textReader } from "./components.js";
 import { entryPoints } from "./entry_points.js";
 import { ModuleGraph } from "./module_graph.js";
 import { type Counted, counts, referencesOf } from "./references.js";
 import { Resolver, type ResolverOptions } from "./resolver.js";
+import { readComponent, textReader } from "./scripts.js";
 import type { ModuleInfo } from "modinfo";
 import type { GraphOptions } from "../options.cjs";
 import type { Ends, GraphModule, ResolveHook } from "./graph.cjs";
-import type { Project } from "./reasons.js";
+import type { Project } from "./unreached.js";
 
 /** `info` has `resolved` in all that names a module; a file with a fault may have neither it nor `module`. */
 export type ReadFile = Pick<FileResult, "path" | "isLeft" | "fault">
