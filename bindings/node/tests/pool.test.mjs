@@ -3,7 +3,7 @@
 import assert from "node:assert/strict";
 import { spawnSync } from "node:child_process";
 import { EventEmitter, once } from "node:events";
-import { appendFileSync, chmodSync, existsSync, readFileSync } from "node:fs";
+import { chmodSync, existsSync, readFileSync } from "node:fs";
 import { join } from "node:path";
 import { test } from "node:test";
 
@@ -64,6 +64,7 @@ function programOf(body) {
   const path = join(folder, "modinfo.mjs");
   const files = folderOf({
     "modinfo.mjs": `#!${process.execPath}
+import { appendFileSync, existsSync, readFileSync } from "node:fs";
 import { createInterface } from "node:readline";
 const log = ${JSON.stringify(path)};
 const starts = existsSync(log) ? readFileSync(log, "utf8").length : 0;
