@@ -6,10 +6,12 @@ import { dirname } from "node:path";
 export function memoized<Key, Value>(make: (key: Key) => Value): (key: Key) => Value {
   const known = new Map<Key, Value>();
   return (key) => {
-    if (!known.has(key)) {
-      known.set(key, make(key));
+    let value = known.get(key);
+    if (value === undefined && !known.has(key)) {
+      value = make(key);
+      known.set(key, value);
     }
-    return known.get(key) as Value;
+    return value as Value;
   };
 }
 
