@@ -5,7 +5,6 @@
 
 import { extname, resolve as absolute } from "node:path";
 
-import { ModinfoFault } from "modinfo/internal/core/errors.cjs";
 import { Core } from "modinfo/internal/core/instance.cjs";
 import { plans } from "modinfo/internal/core/plans.cjs";
 import { compiledModule, modulePath } from "modinfo/internal/wasm_module.js";
@@ -270,21 +269,11 @@ function dependenciesOf(text: string, sources: Source[], isUrl: boolean): Depend
   }));
 }
 
-/**
- * Returns what analyzes texts by the WebAssembly module, which is loaded with the first text; rejected with a
- * `FileFault` that has the position of a syntax error.
- * @param program the path of `modinfo`, or of the module
- */
+/** Returns what analyzes texts by the WebAssembly module, which is loaded with the first text. */
 export function textReader(program: string) {
   let core: Core | undefined;
   return async (text: string, specifier: string, mediaType: MediaType): Promise<ModuleInfo> => {
-    try {
-      core ??= new Core(compiledModule(isWasm(program) ? program : modulePath()));
-      return plans.moduleInfo(text, specifier, mediaType)(core);
-    } catch (error) {
-      const { fault, message, line, column = 1 } = error as Partial<ModinfoFault>;
-      const isPlaced = error instanceof ModinfoFault && fault !== undefined && line !== undefined;
-      throw isPlaced ? new FileFault(fault, String(message), [line - 1, column - 1]) : error;
-    }
+    core ??= new Core(compiledModule(isWasm(program) ? program : modulePath()));
+    return plans.moduleInfo(text, specifier, mediaType)(core);
   };
 }

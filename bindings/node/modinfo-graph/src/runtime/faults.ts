@@ -27,7 +27,8 @@ export function faultOf(error: unknown): Fault {
     return { fault, message, ...(position && { line: line + 1, column: character + 1 }) };
   }
   if (error instanceof ModinfoFault) {
-    return { fault: error.fault, message: `modinfo reports ${error.fault}` };
+    const { fault, message, line, column } = error;
+    return line === undefined ? { fault, message: `modinfo reports ${fault}` } : { fault, message, line, column };
   }
   if (error instanceof ProgramEnd) {
     return { fault: "Program", message: error.message };
