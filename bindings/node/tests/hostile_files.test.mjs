@@ -6,7 +6,7 @@ import { chmodSync, readFileSync, readdirSync, symlinkSync } from "node:fs";
 import { join } from "node:path";
 import { test } from "node:test";
 
-import { readRegularFile } from "../modinfo-graph/dist/files/regular_file.js";
+import { readRegularFile } from "../modinfo-graph/dist/files/regular_files.js";
 import { MODINFO, folderOf, linesOf, programOf } from "./run_commands.mjs";
 
 /** More time than any of the commands needs, so that one that never ends is a failure. */

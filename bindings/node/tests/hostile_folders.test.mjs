@@ -8,7 +8,7 @@ import { test } from "node:test";
 
 import { Resolver } from "../modinfo-graph/dist/graph/resolver.js";
 import { moduleInfo } from "../modinfo/dist/index.js";
-import { onAbort } from "../modinfo-graph/dist/runtime/abort_signals.js";
+import { onAbort } from "../modinfo-graph/dist/runtime/call_options.js";
 import { folderOf, run } from "./run_commands.mjs";
 
 /**

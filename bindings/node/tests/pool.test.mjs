@@ -10,8 +10,7 @@ import { test } from "node:test";
 import { ModinfoFault, ProgramEnd } from "../modinfo/dist/index.js";
 import { documentCommand, lineOf } from "./equipment/document_command.mjs";
 import { inOrder } from "../modinfo-graph/dist/runtime/in_order.js";
-import { Pool } from "../modinfo-graph/dist/runtime/pool.js";
-import { processesOf } from "../modinfo-graph/dist/runtime/processes.js";
+import { Pool, processesOf } from "../modinfo-graph/dist/runtime/pool.js";
 import { all, settled } from "./promises.mjs";
 import { MODINFO, folderOf } from "./run_commands.mjs";
 
@@ -239,7 +238,7 @@ test("where no more files can be opened, each document is rejected", () => {
     import { openSync } from "node:fs";
     import { documentCommand } from ${JSON.stringify(new URL("./equipment/document_command.mjs", import.meta.url).href)};
     import { Pool } from ${JSON.stringify(new URL("../modinfo-graph/dist/runtime/pool.js", import.meta.url).href)};
-    import { processesOf } from ${JSON.stringify(new URL("../modinfo-graph/dist/runtime/processes.js", import.meta.url).href)};
+    import { processesOf } from ${JSON.stringify(new URL("../modinfo-graph/dist/runtime/pool.js", import.meta.url).href)};
     try { for (;;) openSync("/dev/null"); } catch {}
     const service = new Pool(processesOf(documentCommand("cat", "analyze")), 2);
     const settled = await Promise.allSettled([service.run("1\\n"), service.run("2\\n")]);

@@ -3,10 +3,9 @@
 import assert from "node:assert/strict";
 import { test } from "node:test";
 
-import { faultMarks, marksOf } from "../modinfo-report/dist/marks.js";
+import { faultMarks, marksOf, offsetsIn } from "../modinfo-report/dist/marks.js";
 import { withControls } from "../modinfo-report/dist/page/controls.js";
 import { lineSegments } from "../modinfo-report/dist/page/segments.js";
-import { Offsets } from "../modinfo-report/dist/offsets.js";
 import { rowsOf } from "../modinfo-report/dist/rows.js";
 import { unchecked } from "./unchecked.mjs";
 
@@ -50,14 +49,14 @@ test("characters are code points, and only a line feed ends a line", () => {
 });
 
 test("an offset is found in any order, at a line's end and at the text's", () => {
-  const offsets = new Offsets("a😀b\nc\n");
+  const offsetOf = offsetsIn("a😀b\nc\n");
   /** @type {[number, number][]} */
   const asked = [[0, 3], [0, 1], [1, 1], [0, 2], [2, 0], [0, 0], [1, 0]];
-  assert.deepEqual(asked.map((position) => offsets.find(position)), [4, 1, 6, 3, 7, 0, 5]);
+  assert.deepEqual(asked.map((position) => offsetOf(position)), [4, 1, 6, 3, 7, 0, 5]);
   /** @type {[number, number][]} */
   const absent = [[0, 4], [1, 2], [2, 1], [3, 0]];
   for (const none of absent) {
-    assert.throws(() => offsets.find(none), RangeError);
+    assert.throws(() => offsetOf(none), RangeError);
   }
 });
 

@@ -6,8 +6,8 @@ import { dirname, join, relative } from "node:path";
 import { test } from "node:test";
 import { fileURLToPath } from "node:url";
 
-import { matchesName, matchesPath } from "../modinfo-graph/dist/files/wildcards.js";
-import { parseWithComments } from "../modinfo-graph/dist/graph/json_with_comments.js";
+import { matchesName, matchesPath } from "../modinfo-graph/dist/files/globs.js";
+import { parseWithComments } from "../modinfo-graph/dist/graph/members.js";
 import { Resolver } from "../modinfo-graph/dist/graph/resolver.js";
 import { folderOf } from "./run_commands.mjs";
 

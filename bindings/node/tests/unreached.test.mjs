@@ -7,8 +7,7 @@ import { join } from "node:path";
 import { test } from "node:test";
 import { fileURLToPath } from "node:url";
 
-import { commentsOf, literalsOf } from "../modinfo-graph/dist/graph/literals.js";
-import { looseImports } from "../modinfo-graph/dist/graph/loose_references.js";
+import { commentsOf, literalsOf, looseImports } from "../modinfo-graph/dist/graph/loose_references.js";
 import { scriptsOf } from "../modinfo-graph/dist/graph/scripts.js";
 import { folderOf, run, urlOf } from "./run_commands.mjs";
 

@@ -42,10 +42,7 @@ export class Modinfo {
   }
 }
 
-/**
- * A document as it is at the call, since the caller may change it before the ES module is there: a copy of bytes,
- * and the JSON of what has one.
- */
+/** A copy of a document, or the JSON of what has one: the caller may change it before the ES module is there. */
 function documentNow(document: unknown): unknown {
   if (typeof document === "string") {
     return document;

@@ -6,8 +6,7 @@ import {
   ProgramEnd, analyze, analyzeEstree, check, checkSource, convert, moduleInfo, reach,
 } from "modinfo";
 import { modinfoPath } from "./files/program.js";
-import { graphOf, readGraphOptions } from "./graph/graph_service.js";
-import { readResolveOptions, resolveInfo } from "./graph/resolve_service.js";
+import { graphOf, readGraphOptions, readResolveOptions, resolveInfo } from "./graph/services.js";
 import { checkKnown, readJobs, readSignal, unlessAborted } from "./runtime/call_options.js";
 import type { Calls, ModinfoOptions, OfTexts } from "./options.cjs";
 

@@ -7,32 +7,31 @@
 
 import { basename } from "node:path";
 
-import { UsageFault, readJobs, runProgram, usageOf } from "modinfo-graph/internal/cli/command_line.js";
-import { gapsNote } from "modinfo-graph/internal/cli/graph_output.js";
+import {
+  UsageFault, type Values, type Words, readJobs, runProgram, usageOf,
+} from "modinfo-graph/internal/cli/command_line.js";
+import { gapsNote } from "modinfo-graph/internal/cli/graph_checks.js";
 import { withProjectOptions } from "modinfo-graph/internal/cli/project_options.js";
-import { ENTRY_HELP, RESOLUTION_HELP, RUN_OPTIONS, readRun } from "modinfo-graph/internal/cli/run.js";
+import {
+  ENTRY_HELP, type GraphRun, RESOLUTION_HELP, RUN_OPTIONS, type Run, readRun,
+} from "modinfo-graph/internal/cli/run.js";
 import { PROGRAM_HELP, checkProgram, modinfoPath } from "modinfo-graph/internal/files/program.js";
 import { isReplaceable, placeOf, replaceFile } from "modinfo-graph/internal/files/replace_file.js";
-import { isReport } from "modinfo-graph/internal/files/report_pages.js";
 import { dotText, isDot } from "modinfo-graph/internal/graph/pictures.js";
+import { isReport } from "modinfo-graph/internal/graph/scripts.js";
 import { unledOf, unreachedOf } from "modinfo-graph/internal/graph/unreached.js";
-import { systemMessage } from "modinfo-graph/internal/runtime/faults.js";
-import { printable, printableLines } from "modinfo-graph/internal/runtime/printable.js";
-import { indexOf, partsOf } from "./data.js";
-import { readLibraries } from "./libraries.js";
-import { Links, edgesOf } from "./links.js";
+import { printable, printableLines, systemMessage } from "modinfo-graph/internal/runtime/faults.js";
+import { type Report, indexOf, partsOf } from "./data.js";
+import { type Library, readLibraries } from "./libraries.js";
+import { type Edge, Links, edgesOf } from "./links.js";
 import { listsOf, shownCycles, shownUnreached } from "./lists.js";
 import { outsideOf } from "./outside.js";
 import { pageOf } from "./page.js";
-import { Project } from "./project.js";
-import type { Values, Words } from "modinfo-graph/internal/cli/command_line.js";
-import type { GraphRun } from "modinfo-graph/internal/cli/run.js";
+import { type Module, Project } from "./project.js";
 import type { ReadFile } from "modinfo-graph/internal/graph/read_graph.js";
-import type { Library } from "./libraries.js";
-import type { Edge } from "./links.js";
-import type { Lists } from "./lists.js";
-import type { Classes } from "./outside.js";
-import type { Module } from "./project.js";
+
+/** The modules of a report, and the folder around them */
+type Listed = { folder: string, modules: Module[] };
 
 type ReportValues = Values & { output?: string, dot?: string };
 
@@ -78,19 +77,16 @@ async function main(words: Words<ReportValues>): Promise<number> {
     const numbers = [...project.modules.keys()];
     await write(dot, dotText(numbers, edges, (module) => project.modules[module].path));
   }
-  const found = listsFor(project, { links, edges, read });
+  const found = listsFor(project, links, edges, read);
   const libraries = readLibraries();
-  await write(output, drawPage(project, { links, edges, ...found }, libraries));
+  await write(output, drawPage(project, links, { edges, ...found }, libraries));
   const notes = gapsNote(found.gaps);
   notes.forEach((note) => process.stderr.write(`${NAME}: ${note}\n`));
   return reportAbsent(libraries) || notes.length > 0 ? 1 : read.status;
 }
 
-/** @returns the page */
 function drawPage(
-  { folder, modules }: { folder: string, modules: Module[] },
-  { links, ...found }: { links: Links, edges: Edge[], entries: number[], lists: Lists, outside: Classes },
-  libraries: Library[],
+  { folder, modules }: Listed, links: Links, found: Omit<Report, "title" | "modules">, libraries: Library[],
 ): string {
   const title = printable(basename(folder) || folder);
   const parts = [...partsOf(modules, links)];
@@ -122,24 +118,15 @@ function checkInputs(outputs: (string | undefined)[], modules: Module[]) {
   }
 }
 
-async function readProject(
-  { values, program, paths }: { values: ReportValues, program: string, paths: string[] },
-): Promise<{ project: { folder: string, modules: Module[] }, read: GraphRun }> {
+async function readProject({ values, program, paths }: Omit<Run<ReportValues>, "name">) {
   const project = new Project();
-  const onRead = (result: ReadFile) => {
-    if (!result.isLeft) {
-      project.add(result);
-    }
-  };
+  const onRead = (result: ReadFile) => project.add(result);
   const read = await readRun({ name: NAME, values, paths, program }, { excluded: true, onRead });
   const isListed = (key: string) => read.graph.module(key)?.isExcluded !== true;
   return { project: project.finish(paths, isListed), read };
 }
 
-function listsFor(
-  { folder, modules }: { folder: string, modules: Module[] },
-  { links, edges, read }: { links: Links, edges: Edge[], read: GraphRun },
-) {
+function listsFor({ folder, modules }: Listed, links: Links, edges: Edge[], read: GraphRun) {
   const { graph, entries: keys, named } = read;
   const entries = keys.flatMap((key) => links.moduleAt(key) ?? []);
   const unreached = (keys.length > 0 ? unreachedOf : unledOf)(graph, [...new Set(named)], read);

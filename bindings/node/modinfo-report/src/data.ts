@@ -5,31 +5,18 @@
 
 import { posix } from "node:path";
 
-import { KINDS } from "modinfo-graph/internal/graph/kinds.js";
+import { KINDS } from "modinfo-graph/internal/graph/pictures.js";
 import { withinBounds } from "./excerpts.js";
-import { countEdges } from "./links.js";
-import type { Edge, Links } from "./links.js";
-import type { Lists } from "./lists.js";
-import type { Classes } from "./outside.js";
+import { type Edge, type Links, countEdges } from "./links.js";
 import type { Details, Index, RowDetails } from "./page_data.js";
 import type { Module } from "./project.js";
 import type { Row } from "./rows.js";
 
 /** What a report has, without the texts of its modules. */
-interface Report {
-  title: string;
-  modules: Module[];
-  edges: Edge[];
-  entries: number[];
-  lists: Lists;
-  outside: Classes;
-}
+export type Report = Pick<Index, "title" | "entries" | "lists" | "outside"> & { modules: Module[], edges: Edge[] };
 
-interface Part {
-  /** The first module. */
-  start: number;
-  modules: Details[];
-}
+/** `start` is its first module */
+type Part = { start: number, modules: Details[] };
 
 /** The bytes of text in a part, about. */
 const PART = 400_000;

@@ -2,7 +2,8 @@
 
 import { fileURLToPath } from "node:url";
 
-import { DEBIAN_MODULES, readOwnFile } from "modinfo-graph/internal/files/own_files.js";
+import { DEBIAN_MODULES, readOwnFile } from "modinfo-graph/internal/files/program.js";
+import { unlessThrown } from "modinfo-graph/internal/runtime/faults.js";
 
 /** The libraries: of each what it draws. */
 const LIBRARIES = [
@@ -26,16 +27,9 @@ export interface Library {
 export function readLibraries([own, debianModules] = [OWN, DEBIAN_MODULES]): Library[] {
   return LIBRARIES.map(({ name, debian, draws }) => {
     const file = `${name}.min.js`;
+    const read = (path: string) => unlessThrown(() => readOwnFile(path));
     const text = read(`${own}/${file}`) ?? read(`${debianModules}/${name}/dist/${file}`);
     const fault = `${name} not found: the package modinfo-report has it, as has Debian's ${debian}`;
     return text === undefined ? { name, draws, fault } : { name, draws, text };
   });
-}
-
-function read(path: string) {
-  try {
-    return readOwnFile(path);
-  } catch {
-    return undefined;
-  }
 }

@@ -5,9 +5,9 @@ import { fileURLToPath } from "node:url";
 
 import { isDeclaration } from "modinfo-graph/internal/files/file_kinds.js";
 import { isRunKind, textOfArgument } from "modinfo-graph/internal/graph/references.js";
-import { Manifests } from "./manifests.js";
+import { versions } from "./manifests.js";
 import type { Ends, Resolution } from "modinfo-graph";
-import type { Kind } from "modinfo-graph/internal/graph/kinds.js";
+import type { Kind } from "modinfo-graph/internal/graph/pictures.js";
 import type { Module } from "./project.js";
 import type { Row } from "./rows.js";
 
@@ -40,7 +40,7 @@ export interface Edge {
 export class Links {
   #folder;
   #indexes;
-  #manifests = new Manifests();
+  #version = versions();
   #found: WeakMap<Row, { name?: Target, types?: Target }> = new WeakMap();
 
   /** @param folder the report's */
@@ -61,33 +61,30 @@ export class Links {
 
   /** Returns the targets of a row, which are resolved once. */
   #targets(row: Row, user: string) {
-    let targets = this.#found.get(row);
-    if (targets === undefined) {
-      const { name, resolved, types } = row;
-      const isKnown = name !== null && textOfArgument(name) !== undefined;
-      targets = {
-        name: isKnown ? this.#target(resolved, { user, runs: runs(row) }) : undefined,
-        types: types && this.#target(types.resolved, { user, runs: false }),
-      };
-      this.#found.set(row, targets);
-    }
+    const { name, resolved, types } = row;
+    const isKnown = name !== null && textOfArgument(name) !== undefined;
+    const targets = this.#found.get(row) ?? {
+      name: isKnown ? this.#target(resolved, user, runs(row)) : undefined,
+      types: types && this.#target(types.resolved, user, false),
+    };
+    this.#found.set(row, targets);
     return targets;
   }
 
-  /** @param use `runs` if the target is the file that runs, not its types */
-  #target(resolved: Resolution | undefined, { user, runs }: { user: string, runs: boolean }): Target | undefined {
+  /** @param isRun whether the target is the file that runs, not its types */
+  #target(resolved: Resolution | undefined, user: string, isRun: boolean): Target | undefined {
     if (resolved === undefined) {
       return undefined;
     }
     const { class: name, file: ran, types, package: packageName } = resolved as Ends;
-    const url = runs ? ran ?? types : types ?? ran;
+    const url = isRun ? ran ?? types : types ?? ran;
     const module = this.moduleAt(url);
     if (module !== undefined) {
       return { module };
     }
     const file = url && fileURLToPath(url);
     if (packageName !== undefined) {
-      const version = this.#manifests.version(packageName, { file, user });
+      const version = this.#version(packageName, file, user);
       return { class: name, package: packageName, version, isAbsent: file === undefined || undefined };
     }
     return { class: name, file: file && relative(this.#folder, file) };
@@ -124,16 +121,11 @@ function edgesOfRow({ file }: Module, row: Row, links: Links): [number, Kind][] 
 }
 
 /** @returns whether the row runs what it names */
-function runs({ kind, word }: Row): boolean {
-  return isRunKind(kind) || word === "jsxImportSource";
-}
+const runs = ({ kind, word }: Row): boolean => isRunKind(kind) || word === "jsxImportSource";
 
 /** @returns the kind of its edge: a compiler imports what JSX is made by */
 function kindOfRow(row: Row): Kind {
-  if (row.kind !== "pragma") {
-    return row.kind;
-  }
-  return runs(row) ? "static" : "type";
+  return row.kind !== "pragma" ? row.kind : runs(row) ? "static" : "type";
 }
 
 /** Counts the edges; those of one kind between two modules count once. */

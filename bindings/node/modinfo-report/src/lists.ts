@@ -6,8 +6,8 @@ import { fileURLToPath } from "node:url";
 import { isRunKind } from "modinfo-graph/internal/graph/references.js";
 import type { Cycle as FoundCycle, ReasonKind, Unreached as FoundUnreached } from "modinfo-graph";
 import type { Cycle as RunCycle } from "modinfo-graph/internal/graph/cycles.js";
-import type { Kind } from "modinfo-graph/internal/graph/kinds.js";
 import type { ModuleGraph } from "modinfo-graph/internal/graph/module_graph.js";
+import type { Kind } from "modinfo-graph/internal/graph/pictures.js";
 import type { Edge, Links, Target } from "./links.js";
 import type { Module } from "./project.js";
 import type { Row } from "./rows.js";
@@ -32,32 +32,22 @@ export type ShownCycle = Cycle & { rows: Found[] };
 interface Unreached {
   unreached: number[];
   mayBeReached: MayBeReached[];
-  /** `by` is the module that has the name, else `file` the path of an excluded one */
-  byTypes: { module: number, by?: number, file?: string, line: number, text?: string }[];
+  byTypes: Omit<MayBeReached, "kind">[];
 }
 
+/** `by` is the module that has the reason, else `file` the path of another file, from the report's folder */
 export interface MayBeReached {
   module: number;
   kind: ReasonKind;
-  /** The module that has the reason */
   by?: number;
-  /** Else the path of another file, from the report's folder */
   file?: string;
   /** From zero */
   line?: number;
   text?: string;
 }
 
-/** Modules are indexes */
-export interface Lists {
-  missing: Found[];
-  /** arguments */
-  unknown: Found[];
-  /** Known arguments */
-  partly: Found[];
-  unreached: number[];
-  mayBeReached: MayBeReached[];
-  byTypes: Unreached["byTypes"];
+/** `unknown` and `partly` are arguments */
+export interface Lists extends Unreached, Record<"missing" | "unknown" | "partly", Found[]> {
   cycles: ShownCycle[];
   faults: number[];
 }

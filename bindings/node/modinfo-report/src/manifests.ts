@@ -2,6 +2,7 @@
 
 import { dirname } from "node:path";
 
+import { nearest } from "modinfo-graph/internal/files/by_folder.js";
 import { RegularFiles } from "modinfo-graph/internal/files/regular_files.js";
 import { realPath } from "modinfo-graph/internal/files/urls.js";
 import { PackageManifests } from "modinfo-graph/internal/graph/package_manifests.js";
@@ -10,42 +11,28 @@ import { isObject } from "modinfo-graph/internal/graph/package_targets.js";
 /** The members of a package.json that name other packages. */
 const MEMBERS = ["dependencies", "peerDependencies", "optionalDependencies", "devDependencies"];
 
-export class Manifests {
-  #manifests;
-
-  constructor() {
-    const files = new RegularFiles();
-    files.addAllWithoutLinks();
-    this.#manifests = new PackageManifests(files);
-  }
-
-  /**
-   * The version of a package, else the range in the user's package.json.
-   * @param file one of the package's, where it is installed
-   * @param user a file that names the package
-   */
-  version(name: string, { file, user }: { file?: string, user: string }): string | undefined {
-    const installed = file && textIn(this.#of(dirname(file)), "version");
-    if (installed) {
-      return installed;
-    }
-    const manifest = this.#of(dirname(realPath(user) ?? user));
-    return MEMBERS.map((member) => textIn(memberOf(manifest, member), name)).find((each) => each !== undefined);
-  }
-
-  /** The members of the nearest package.json of a folder that has a name; none where there is none. */
-  #of(folder: string): Record<string, unknown> {
-    const manifest = this.#manifests.of(folder);
-    const parent = dirname(folder);
-    return manifest?.name || parent === folder ? manifest?.members ?? {} : this.#of(parent);
-  }
-}
-
-function memberOf(value: unknown, name: string): unknown {
-  return isObject(value) && Object.hasOwn(value, name) ? value[name] : undefined;
+/**
+ * Returns a function that finds the version of a package, else the range in the user's package.json.
+ * @returns takes a file of the package, where it is installed, and a file that names the package
+ */
+export function versions(): (name: string, file: string | undefined, user: string) => string | undefined {
+  const files = new RegularFiles();
+  files.addAllWithoutLinks();
+  const manifests = new PackageManifests(files);
+  /** The members of the nearest package.json of a folder that has a name, else of the root's. */
+  const membersOf = nearest((folder) => {
+    const manifest = manifests.of(folder);
+    return manifest?.name || folder === dirname(folder) ? manifest?.members : undefined;
+  });
+  return (name, file, user) => {
+    const installed = file && textIn(membersOf(dirname(file)), "version");
+    const listing = installed ? undefined : membersOf(dirname(realPath(user) ?? user));
+    const listed = MEMBERS.map((member) => textIn(listing?.[member], name));
+    return installed || listed.find((each) => each !== undefined);
+  };
 }
 
 function textIn(value: unknown, name: string): string | undefined {
-  const member = memberOf(value, name);
+  const member = isObject(value) && Object.hasOwn(value, name) ? value[name] : undefined;
   return typeof member === "string" ? member : undefined;
 }

@@ -60,6 +60,4 @@ function add(
   found[list].set(key, item);
 }
 
-function byName(one: Outside, other: Outside) {
-  return one.name < other.name ? -1 : Number(one.name > other.name);
-}
+const byName = (one: Outside, other: Outside) => (one.name < other.name ? -1 : Number(one.name > other.name));

@@ -3,30 +3,17 @@
 import { createHash } from "node:crypto";
 import { deflateSync } from "node:zlib";
 
-import { readOwnFile } from "modinfo-graph/internal/files/own_files.js";
-import { KINDS } from "modinfo-graph/internal/graph/kinds.js";
+import { readOwnFile } from "modinfo-graph/internal/files/program.js";
+import { KINDS } from "modinfo-graph/internal/graph/pictures.js";
 import type { Library } from "./libraries.js";
 import type { Details, Index } from "./page_data.js";
 
-/** The page's own modules; a module is after those that it imports. */
-const SCRIPTS = [
-  "elements.js", "controls.js", "report.js", "weights.js", "folders.js", "details.js", "pieces.js", "reveal.js",
-  "cycles.js", "labels.js",
-  "segments.js", "source_view.js", "table_view.js", "ways.js", "way_view.js", "module_view.js",
-  "outside_view.js", "lists_view.js",
-  "graph_kinds.js", "graph_tree.js", "graph_edges.js", "graph_scene.js", "filter.js",
-  "graph_layout.js", "graph_move.js", "graph_follow.js", "graph_keys.js", "graph_legend.js",
-  "graph_nodes.js", "graph_drawing.js", "graph_view.js", "near_view.js", "cycle_view.js",
-  "matrix_order.js", "matrix_view.js", "large_view.js", "sizes_view.js", "module_list.js", "main.js",
-];
-
-/** The modules of the page's worker. */
-const LAYOUT_SCRIPTS = ["layout_grid.js", "layout_curves.js", "layout_boxes.js", "layout_worker.js"];
+const IMPORT = /^import [^;]* from "\.\/(\w+\.js)";\n/gm;
 
 /** The HTML of a page, in which each part is compressed. */
 export function pageOf(index: Omit<Index, "absent">, parts: Iterable<Details[]>, libraries: Library[]): string {
   const [layout, sizes] = libraries;
-  const script = `${sizes.text ? `${sizes.text}\n` : ""}${scriptOf(SCRIPTS)}`;
+  const script = `${sizes.text ? `${sizes.text}\n` : ""}${scriptOf("main.js")}`;
   const style = `${colours()}${readOwnFile(new URL("../style.css", import.meta.url))}`;
   const policy = [
     "default-src 'none'", `script-src '${hash(script)}'`, `style-src '${hash(style)}'`,
@@ -54,18 +41,17 @@ ${[...parts].map((part, at) => partElement(part, at)).join("\n")}
 `;
 }
 
-/** Joins modules to one script. */
-function scriptOf(names: string[]): string {
-  const parts = names.map((name) => {
-    const text = read(name);
-    return text.replace(/^import [^;]*;\n/gm, "").replace(/^export /gm, "");
-  });
-  return `\n${parts.join("\n")}`;
+/** Joins a module of the page, after those that it imports, to one script. */
+function scriptOf(name: string, known = new Set<string>()): string {
+  known.add(name);
+  const text = readOwnFile(new URL(`./page/${name}`, import.meta.url));
+  const before = [...text.matchAll(IMPORT)].map(([, each]) => (known.has(each) ? "" : scriptOf(each, known)));
+  return `${before.join("")}\n${text.replace(IMPORT, "").replace(/^export /gm, "")}`;
 }
 
 /** Returns the script of the worker, without `</script` and `<!--`, which would end its element. */
 function layoutScript(library: string) {
-  return `${library}\n${scriptOf(LAYOUT_SCRIPTS)}`.replace(/<(?=\/script|!--)/gi, "\\x3c");
+  return `${library}\n${scriptOf("layout_worker.js")}`.replace(/<(?=\/script|!--)/gi, "\\x3c");
 }
 
 function faultsOf(libraries: Library[]) {
@@ -90,13 +76,7 @@ ${classes}
 `;
 }
 
-function read(name: string) {
-  return readOwnFile(new URL(`./page/${name}`, import.meta.url));
-}
-
-function hash(text: string) {
-  return `sha256-${createHash("sha256").update(text).digest("base64")}`;
-}
+const hash = (text: string) => `sha256-${createHash("sha256").update(text).digest("base64")}`;
 
 /** @returns HTML */
 function escapeText(text: string): string {
@@ -104,6 +84,4 @@ function escapeText(text: string): string {
 }
 
 /** Returns JSON that neither ends a script element nor begins a comment in it. */
-function escapeJson(value: unknown): string {
-  return JSON.stringify(value).replace(/</g, "\\u003c");
-}
+const escapeJson = (value: unknown): string => JSON.stringify(value).replace(/</g, "\\u003c");

@@ -1,11 +1,11 @@
 /** What the page's script reads: the data that are written into the page, as JSON. */
 
-import type { DynamicArgument, ImportAttributes, PositionRange, ResolutionMode } from "modinfo";
-import type { Kind } from "modinfo-graph/internal/graph/kinds.js";
+import type { Kind } from "modinfo-graph/internal/graph/pictures.js";
 import type { Fault } from "modinfo-graph/internal/runtime/faults.js";
 import type { Target } from "./links.js";
 import type { Lists } from "./lists.js";
 import type { Classes } from "./outside.js";
+import type { Row } from "./rows.js";
 
 /** The index, which is read at once. */
 export interface Index {
@@ -50,14 +50,7 @@ export interface Details {
   marks: MarkDetails[];
 }
 
-export interface RowDetails {
-  kind: Kind;
-  word: string;
-  name: DynamicArgument | null;
-  range: PositionRange;
-  attributes?: ImportAttributes;
-  mode?: ResolutionMode;
-  sideEffect?: boolean;
+export interface RowDetails extends Omit<Row, "types" | "resolved"> {
   to?: Target;
   /** What a comment names. */
   types?: string;

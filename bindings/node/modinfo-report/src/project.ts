@@ -3,16 +3,13 @@
 import { dirname, relative, resolve as absolute } from "node:path";
 
 import { isFolder } from "modinfo-graph/internal/files/find_files.js";
-import { readRegularText } from "modinfo-graph/internal/files/regular_file.js";
-import { canonicalUrl } from "modinfo-graph/internal/graph/reach.js";
-import { faultOf } from "modinfo-graph/internal/runtime/faults.js";
-import { faultMarks, marksOf } from "./marks.js";
-import { rowsOf } from "./rows.js";
-import type { ModuleInfo } from "modinfo";
+import { readRegularText } from "modinfo-graph/internal/files/regular_files.js";
+import { canonicalUrl } from "modinfo-graph/internal/files/urls.js";
+import { type Fault, faultOf } from "modinfo-graph/internal/runtime/faults.js";
+import { type Mark, faultMarks, marksOf } from "./marks.js";
+import { type Row, rowsOf } from "./rows.js";
 import type { ResolvedModuleInfo } from "modinfo-graph";
-import type { Fault } from "modinfo-graph/internal/runtime/faults.js";
-import type { Mark } from "./marks.js";
-import type { Row } from "./rows.js";
+import type { ReadFile } from "modinfo-graph/internal/graph/read_graph.js";
 
 export interface Module {
   /** The path of its file, absolute */
@@ -29,22 +26,17 @@ export interface Module {
   fault?: Fault;
 }
 
-interface FileResult {
-  path: string;
-  info?: ModuleInfo;
-  fault?: Fault;
-}
-
 /** Collects modules in the order in which they are read, each file once. */
 export class Project {
   #modules: Module[] = [];
 
-  /** @param result `info` with its resolutions */
-  add({ path, info, fault }: FileResult) {
+  add({ path, info, fault, isLeft }: ReadFile) {
     const file = absolute(path);
     const module = { file, path: "", key: canonicalUrl(file), rows: [], marks: [] };
-    this.#modules.push(module);
-    this.#read(module, info, fault);
+    if (!isLeft) {
+      this.#modules.push(module);
+      this.#read(module, info, fault);
+    }
   }
 
   /** The modules that are listed, and the deepest folder around these and the paths of the words. */
@@ -58,7 +50,7 @@ export class Project {
     return { folder, modules };
   }
 
-  #read(module: Module, info: ModuleInfo | undefined, fault: Fault | undefined) {
+  #read(module: Module, info: ReadFile["info"], fault: Fault | undefined) {
     try {
       module.source = readRegularText(module.file);
       if (fault) {

@@ -5,7 +5,7 @@ import type {
   DynamicArgument, ImportAttributes, JsDocImportInfo, Position, PositionRange, ResolutionMode,
 } from "modinfo";
 import type { Ends, Resolution, ResolvedDependency, ResolvedModuleInfo } from "modinfo-graph";
-import type { Kind } from "modinfo-graph/internal/graph/kinds.js";
+import type { Kind } from "modinfo-graph/internal/graph/pictures.js";
 
 export interface Row {
   kind: Kind;
@@ -77,6 +77,4 @@ function commentRow(
   return { kind, word, name: text, range, mode: resolutionMode, resolved };
 }
 
-function compare(one: Position, other: Position) {
-  return one[0] - other[0] || one[1] - other[1];
-}
+const compare = (one: Position, other: Position) => one[0] - other[0] || one[1] - other[1];

@@ -16,7 +16,7 @@ import { folderOf } from "../run_commands.mjs";
 
 const WORDS = ["core", "view", "model", "route", "store", "parse", "format", "client", "server", "util", "test", "theme"];
 
-/** @type {import("../../modinfo-graph/dist/graph/kinds.js").Kind[]} */
+/** @type {import("../../modinfo-graph/dist/graph/pictures.js").Kind[]} */
 const KINDS = ["static", "static", "type", "dynamic"];
 
 /**
@@ -48,7 +48,7 @@ function pathsOf(count, isFlat) {
 }
 
 /**
- * @param {import("../../modinfo-graph/dist/graph/kinds.js").Kind} kind
+ * @param {import("../../modinfo-graph/dist/graph/pictures.js").Kind} kind
  * @param {string} name
  * @param {{ resolved: import("../../modinfo-graph/dist/graph/graph.cjs").Resolution, line: number }} found
  * @returns {import("../../modinfo-report/dist/rows.js").Row}

@@ -1,8 +1,7 @@
 /** What other parsers say of a text: the information of the module that their trees have. */
 
 import { estreeDocument } from "../../modinfo/dist/index.js";
-import { Pool } from "../../modinfo-graph/dist/runtime/pool.js";
-import { processesOf } from "../../modinfo-graph/dist/runtime/processes.js";
+import { Pool, processesOf } from "../../modinfo-graph/dist/runtime/pool.js";
 import { documentCommand, lineOf } from "../equipment/document_command.mjs";
 import { ACORN, PARSERS, TYPESCRIPT_PARSER, parsed } from "../estree_parsers.mjs";
 import { MODINFO } from "../run_commands.mjs";

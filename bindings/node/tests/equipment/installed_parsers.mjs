@@ -1,6 +1,6 @@
 /** Finds the parsers that are installed. */
 
-import { DEBIAN_MODULES, ownRequire as require } from "../../modinfo-graph/dist/files/own_files.js";
+import { DEBIAN_MODULES, ownRequire as require } from "../../modinfo-graph/dist/files/program.js";
 
 /**
  * A look-up takes as long as many a file's parse.

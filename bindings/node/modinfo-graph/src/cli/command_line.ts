@@ -1,15 +1,12 @@
-/** What the commands share: their words, and how they end. */
+/** What the commands share: their words, their output, and how they end. */
 
-import { parseArgs } from "node:util";
-import type { ParseArgsConfig } from "node:util";
+import { type ParseArgsConfig, parseArgs } from "node:util";
 
 import { GlobFault } from "../files/globs.js";
-import { readOwnFile } from "../files/own_files.js";
-import { programName } from "../files/program.js";
+import { programName, readOwnFile } from "../files/program.js";
 import { EntryFault } from "../graph/entry_points.js";
 import { readJobs as processors } from "../runtime/call_options.js";
-import { printable, printableLines } from "../runtime/printable.js";
-import { OutputFault, writeOutput } from "./standard_output.js";
+import { printable, printableLines, systemMessage } from "../runtime/faults.js";
 
 const MOST_JOBS = 9999;
 
@@ -21,15 +18,11 @@ export function flags<Name extends string>(...names: Name[]) {
   return Object.fromEntries(names.map((name) => [name, { type: "boolean" }])) as Record<Name, { type: "boolean" }>;
 }
 
-interface Program<V extends Values> {
-  /** As the package has it */
+/** `choices` are words of options that need no value with one, after `=`; `main` returns the status. */
+interface Program<V extends Values> extends Required<Pick<ParseArgsConfig, "options">> {
   name: string;
   help: string;
-  /** Those of node's `parseArgs`, but for `help` and `version` */
-  options: ParseArgsConfig["options"];
-  /** Words of options that need no value with one, after `=` */
   choices?: string[];
-  /** Returns the status */
   main: (words: Words<V>) => Promise<number>;
 }
 
@@ -102,9 +95,7 @@ async function printHelp(name: string, help: string, { values }: Words) {
 }
 
 /** The first lines of a help, which are the usage. */
-export function usageOf(help: string): string {
-  return help.slice(0, help.indexOf("\n\n"));
-}
+export const usageOf = (help: string): string => help.slice(0, help.indexOf("\n\n"));
 
 /** How many processes parse at most: one for each processor; where the word is a smaller number, as many. */
 export function readJobs(word: string | undefined): number {
@@ -113,4 +104,58 @@ export function readJobs(word: string | undefined): number {
     throw new UsageFault(`--jobs must be a number from 1 to ${MOST_JOBS}`);
   }
   return Math.min(most, processors());
+}
+
+export class OutputFault extends Error {
+  /** Whether its reader has ended, as `head` does. */
+  readonly isClosed;
+
+  constructor(error: NodeJS.ErrnoException) {
+    super(`the standard output: ${systemMessage(error)}`);
+    this.name = "OutputFault";
+    this.isClosed = error.code === "EPIPE";
+  }
+}
+
+/** How many characters wait for others at most. */
+const PIECE = 1 << 16;
+
+/** Lines, of which those that come in one turn are written at once. */
+export class OutputLines {
+  #waiting = "";
+  #written: Promise<void> = Promise.resolve();
+  #hasFailed = false;
+
+  /** Takes a line with its end. What it returns has to be waited for; rejected with an `OutputFault`. */
+  write(line: string): Promise<void> | undefined {
+    if (this.#waiting === "") {
+      setImmediate(() => this.#flush());
+    }
+    this.#waiting += line;
+    return this.#waiting.length < PIECE && !this.#hasFailed ? undefined : this.end();
+  }
+
+  /** @returns once all lines are written; rejected with an `OutputFault` */
+  end(): Promise<void> {
+    this.#flush();
+    return this.#written;
+  }
+
+  #flush() {
+    const text = this.#waiting;
+    this.#waiting = "";
+    if (text !== "" && !this.#hasFailed) {
+      this.#written = Promise.all([this.#written, writeOutput(text)]).then(() => {});
+      this.#written.catch(() => {
+        this.#hasFailed = true;
+      });
+    }
+  }
+}
+
+/** @returns once it is written; rejected with an `OutputFault` */
+export function writeOutput(text: string): Promise<void> {
+  return new Promise((resolve, reject) => {
+    process.stdout.write(text, (error) => (error ? reject(new OutputFault(error)) : resolve()));
+  });
 }

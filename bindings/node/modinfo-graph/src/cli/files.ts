@@ -11,17 +11,13 @@ import { pathToFileURL } from "node:url";
 
 import { PROGRAM_HELP, checkProgram, modinfoPath } from "../files/program.js";
 import { Resolver } from "../graph/resolver.js";
-import { UsageFault, flags, runProgram, usageOf } from "./command_line.js";
-import { CHECKS } from "./graph_checks.js";
+import { OutputLines, UsageFault, type Words, flags, runProgram, usageOf } from "./command_line.js";
+import { CHECKS, type FilesValues } from "./graph_checks.js";
 import { answerQuestions, questionsOf } from "./graph_questions.js";
 import { withProjectOptions } from "./project_options.js";
-import { ENTRY_HELP, RESOLUTION_HELP, RUN_OPTIONS, resolverOptions, runLines } from "./run.js";
-import { OutputLines } from "./standard_output.js";
+import { ENTRY_HELP, RESOLUTION_HELP, RUN_OPTIONS, type Run, resolverOptions, runLines } from "./run.js";
 import type { FileResult } from "../files/read_files.js";
-import type { Words } from "./command_line.js";
-import type { FilesValues } from "./graph_checks.js";
 import type { FileReporter } from "./reporter.js";
-import type { Run } from "./run.js";
 
 type FilesWords = Words<FilesValues>;
 

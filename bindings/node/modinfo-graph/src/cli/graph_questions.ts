@@ -2,20 +2,17 @@
 
 import { isComponent, isModule } from "../files/file_kinds.js";
 import { isFile } from "../files/find_files.js";
+import { canonicalUrl } from "../files/urls.js";
 import { dotText, mermaidText } from "../graph/pictures.js";
-import { canonicalUrl } from "../graph/reach.js";
 import { unreachedOf } from "../graph/unreached.js";
-import { printable } from "../runtime/printable.js";
-import { UsageFault } from "./command_line.js";
-import { CHECKS } from "./graph_checks.js";
+import { printable } from "../runtime/faults.js";
+import { UsageFault, writeOutput } from "./command_line.js";
 import {
-  byTypesLine, gapsNote, mayBeReachedLine, mentionData, shownPath, stepLine,
-} from "./graph_output.js";
-import { readRun } from "./run.js";
-import { writeOutput } from "./standard_output.js";
+  type Answer, CHECKS, type Context, type FilesValues, byTypesData, byTypesLine, gapsNote, mayBeReachedLine,
+  mentionData, shownPath, stepLine,
+} from "./graph_checks.js";
+import { type Run, readRun } from "./run.js";
 import type { Step } from "../graph/graph.cjs";
-import type { Answer, Context, FilesValues } from "./graph_checks.js";
-import type { Run } from "./run.js";
 
 /** Without the findings that are known; `keys` are those of the others */
 type Found = Answer & { question: string, keys: string[] };
@@ -42,17 +39,12 @@ export function questionsOf(values: FilesValues): string[] {
   return asked;
 }
 
-/**
- * Reads the files of a run into a graph, and prints the answers to questions.
- * @param known findings that aren't reported, by their questions
- * @returns the status
- */
+/** Prints the answers to questions without the findings that are known, by their questions. Returns the status. */
 export async function answerQuestions(
   questions: string[], run: Run<FilesValues>, known: Record<string, string[]>,
 ): Promise<number> {
   const { values, name, paths } = run;
-  checkKnown(known);
-  checkFile(values.why ?? values.dependents);
+  checkWords(known, values.why ?? values.dependents);
   // What --why asks for is read too, so that what may reach it is found.
   const { why: target = "" } = values;
   const named = isModule(target) || isComponent(target) ? [target] : [];
@@ -73,11 +65,15 @@ export async function answerQuestions(
   return found.some(({ isFinding, keys }) => isFinding || keys.length > 0) ? 1 : status;
 }
 
-function checkKnown(known: Record<string, string[]>) {
+/** @throws {UsageFault} findings are known of another question, or no file is there that is asked for */
+function checkWords(known: Record<string, string[]>, path: string | undefined) {
   const other = Object.keys(known).find((each) => !Object.hasOwn(CHECKS, each));
   if (other !== undefined) {
     const all = Object.keys(CHECKS).join(", ");
     throw new UsageFault(`package.json: known of modinfo has ${other}: the questions are ${all}`);
+  }
+  if (path !== undefined && !isFile(path)) {
+    throw new UsageFault(`${printable(path)}: no such file`);
   }
 }
 
@@ -125,18 +121,12 @@ function reached({ graph, entries }: Context) {
   return { lines: files.map(shownPath), data: { entries, reached: files }, notes, isFinding: notes.length > 0 };
 }
 
-/** @throws {UsageFault} no file is there */
-function checkFile(path: string | undefined) {
-  if (path !== undefined && !isFile(path)) {
-    throw new UsageFault(`${printable(path)}: no such file`);
-  }
-}
-
 /** A chain to a file, or what may lead to it, with a chain to that. */
 function why(context: Context) {
   const { graph, entries, values } = context;
   const key = canonicalUrl(String(values.why));
-  const steps = graph.chain(entries, key);
+  const chainTo = graph.chains(entries);
+  const steps = chainTo(key);
   if (steps.length > 0) {
     return { lines: steps.map(stepLine), data: { why: steps.map(stepData) } };
   }
@@ -147,14 +137,14 @@ function why(context: Context) {
   for (let at = reasons.get(key); at && !ways.includes(at); at = reasons.get(at.reason.module)) {
     ways.unshift(at);
   }
-  const before = ways.length > 0 ? graph.chain(entries, ways[0].reason.module) : [];
+  const before = ways.length > 0 ? chainTo(ways[0].reason.module) : [];
   const types = byTypes.filter(({ module }) => module === key);
   const isAnswered = ways.length + types.length > 0;
   return {
     lines: [...before.map(stepLine), ...ways.map(mayBeReachedLine), ...types.map(byTypesLine)],
     data: {
       why: before.map(stepData), ...(ways.length > 0 && { mayBeReached: ways }),
-      ...(types.length > 0 && { byTypes: types.map(({ module, by }) => ({ module, by: mentionData(by) })) }),
+      ...(types.length > 0 && { byTypes: byTypesData(types) }),
     },
     isFinding: !isAnswered, notes: isAnswered ? [] : [`no entry reaches ${values.why}`],
   };
@@ -170,10 +160,9 @@ function dependents({ graph, values }: Context) {
 }
 
 function drawn(draw: typeof dotText, context: Context) {
-  const keys = context.graph.listed.map(({ specifier }) => specifier);
-  const listed = new Set(keys);
-  const edges = context.graph.edges().filter(({ from, to }) => listed.has(from) && listed.has(to));
-  return { text: draw(keys, edges, shownPath), ...whole(context) };
+  const keys = new Set(context.graph.listed.map(({ specifier }) => specifier));
+  const edges = context.graph.edges().filter(({ from, to }) => keys.has(from) && keys.has(to));
+  return { text: draw([...keys], edges, shownPath), ...whole(context) };
 }
 
 function whole({ graph, entries }: Context) {

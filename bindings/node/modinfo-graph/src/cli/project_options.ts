@@ -5,13 +5,10 @@
 
 import { resolve as absolute, sep } from "node:path";
 
-import { readRegularFile } from "../files/regular_file.js";
+import { MAX_CONFIGURATION, readRegularFile } from "../files/regular_files.js";
 import { realPath } from "../files/urls.js";
-import { UsageFault } from "./command_line.js";
-import type { Values, Words } from "./command_line.js";
-
-/** The most bytes of a package.json: 4 MiB. */
-const MAX_BYTES = 4 * 2 ** 20;
+import { unlessThrown } from "../runtime/faults.js";
+import { UsageFault, type Values, type Words } from "./command_line.js";
 
 type Test = (value: unknown) => boolean;
 
@@ -58,13 +55,10 @@ export function withProjectOptions<V extends Values>(
 }
 
 function readMember(): object {
-  try {
-    const { modinfo } = JSON.parse(String(readRegularFile("package.json", MAX_BYTES)));
-    return typeof modinfo === "object" ? modinfo ?? {} : {};
-  } catch {
-    // There is none, or it is no JSON: the resolution of names warns of that.
-    return {};
-  }
+  // Where there is no package.json, or it is no JSON, the resolution of names warns of that.
+  const text = unlessThrown(() => String(readRegularFile("package.json", MAX_CONFIGURATION))) ?? "";
+  const modinfo = unlessThrown(() => JSON.parse(text).modinfo);
+  return typeof modinfo === "object" ? modinfo ?? {} : {};
 }
 
 function valueOf(name: string, value: unknown): unknown {

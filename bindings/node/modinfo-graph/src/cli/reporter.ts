@@ -1,11 +1,9 @@
 /** What is printed on the error output while files are read. */
 
-import { readRegularFile } from "../files/regular_file.js";
-import { describeFault } from "../runtime/faults.js";
-import { printable } from "../runtime/printable.js";
+import { readRegularFile } from "../files/regular_files.js";
+import { type Fault, describeFault, printable, unlessThrown } from "../runtime/faults.js";
 import { UsageFault } from "./command_line.js";
 import type { FileResult } from "../files/read_files.js";
-import type { Fault } from "../runtime/faults.js";
 
 const ENDINGS = ".js, .mjs, .cjs, .jsx, .ts, .mts, .cts or .tsx";
 
@@ -24,8 +22,6 @@ export class FileReporter {
   status = 0;
   /** Whether there is a line of progress. */
   readonly isShown;
-  #name;
-  #stream;
   #drawn = -Infinity;
   #found = 0;
   #done = 0;
@@ -34,10 +30,9 @@ export class FileReporter {
 
   /** @param isShown whether the stream, where it is a terminal, gets a line of progress */
   constructor(
-    name: string, isShown: boolean, stream: { write(text: string): unknown, isTTY?: boolean } = process.stderr,
+    private readonly name: string, isShown: boolean,
+    private readonly stream: { write(text: string): unknown, isTTY?: boolean } = process.stderr,
   ) {
-    this.#name = name;
-    this.#stream = stream;
     this.isShown = Boolean(isShown && stream.isTTY);
   }
 
@@ -79,21 +74,21 @@ export class FileReporter {
     this.#done++;
     if (this.isShown && performance.now() - this.#drawn >= STEP) {
       const faults = `${this.#faults} ${this.#faults === 1 ? "fault" : "faults"}`;
-      this.#stream.write(`${CLEAR}${this.#done} of ${this.#found} files, ${faults}`);
+      this.stream.write(`${CLEAR}${this.#done} of ${this.#found} files, ${faults}`);
       this.#drawn = performance.now();
     }
   }
 
   #clear() {
     if (this.#drawn > 0) {
-      this.#stream.write(CLEAR);
+      this.stream.write(CLEAR);
       this.#drawn = -Infinity;
     }
   }
 
   #print(text: string) {
     this.#clear();
-    this.#stream.write(`${this.#name}: ${text}\n`);
+    this.stream.write(`${this.name}: ${text}\n`);
   }
 }
 
@@ -102,14 +97,11 @@ function excerptLines(path: string, { line, column = 1 }: Fault): string[] {
   if (line === undefined) {
     return [];
   }
-  try {
-    const characters = [...readRegularFile(path).toString().split("\n", line)[line - 1]];
-    const from = Math.max(0, column - 1 - AROUND);
-    const before = printable(characters.slice(from, column - 1).join(""));
-    const rest = printable(characters.slice(column - 1, column - 1 + AROUND).join("").replace(/\r$/, ""));
-    return [`  | ${before}${rest}`, `  | ${before.replace(/[^\t]/g, " ")}^`];
-  } catch {
-    // The file has changed.
-    return [];
-  }
+  // A file that has changed has no such line.
+  const text = unlessThrown(() => String(readRegularFile(path)).split("\n", line)[line - 1]);
+  const characters = [...text ?? ""];
+  const from = Math.max(0, column - 1 - AROUND);
+  const before = printable(characters.slice(from, column - 1).join(""));
+  const rest = printable(characters.slice(column - 1, column - 1 + AROUND).join("").replace(/\r$/, ""));
+  return text === undefined ? [] : [`  | ${before}${rest}`, `  | ${before.replace(/[^\t]/g, " ")}^`];
 }

@@ -4,16 +4,12 @@ import { resolve as absolute } from "node:path";
 import { Readable } from "node:stream";
 
 import { exclusionsOf } from "../files/exclusions.js";
-import { findFiles, readPaths } from "../files/find_files.js";
-import { readFiles } from "../files/read_files.js";
-import { readProject } from "../graph/read_graph.js";
-import { flags, readJobs } from "./command_line.js";
+import { type Found, findFiles, readPaths } from "../files/find_files.js";
+import { type FileResult, readFiles } from "../files/read_files.js";
+import { type ProjectGraph, type ReadFile, readProject } from "../graph/read_graph.js";
+import { type Values, flags, readJobs } from "./command_line.js";
 import { FileReporter } from "./reporter.js";
-import type { Found } from "../files/find_files.js";
-import type { FileResult } from "../files/read_files.js";
-import type { ProjectGraph, ReadFile } from "../graph/read_graph.js";
 import type { ResolverOptions } from "../graph/resolver.js";
-import type { Values } from "./command_line.js";
 
 const [text, texts] = [{ type: "string" }, { type: "string", multiple: true }] as const;
 
@@ -43,21 +39,10 @@ export const RESOLUTION_HELP = `\
 /** How many paths are looked up ahead of the files that are read. */
 const AHEAD = 1_000_000;
 
-export interface Run<V extends Values = Values> {
-  /** The program's */
-  name: string;
-  /** Those of its options */
-  values: V;
-  paths: string[];
-  /** The path of `modinfo` */
-  program: string;
-}
+/** The name of a command, the values of its options, and the path of `modinfo` */
+export type Run<V extends Values = Values> = { name: string, values: V, paths: string[], program: string };
 
-/**
- * Reads the files of some paths, and prints what is wrong with them.
- * @param write is called for each file in turn
- * @returns the status
- */
+/** Reads the files of some paths, prints what is wrong with them, and writes each. Returns the status. */
 export async function runLines(
   run: Run, write: (result: FileResult, reporter: FileReporter) => Promise<void> | undefined,
 ): Promise<number> {
@@ -81,13 +66,8 @@ export async function runLines(
 /** `status` is 1 if a file can't be read, or an entry isn't there */
 export type GraphRun = ProjectGraph & { status: number };
 
-interface Reading {
-  /** Whether excluded files are read too, for what they lead to. */
-  excluded: boolean;
-  /** Whether declaration files are looked for; true where it is missing. */
-  declarations?: boolean;
-  onRead?: (result: ReadFile) => void;
-}
+/** Whether excluded files are read too, for what they lead to, and whether declaration files are looked for */
+type Reading = { excluded: boolean, declarations?: boolean, onRead?: (result: ReadFile) => void };
 
 export async function readRun(run: Run, { excluded, declarations, onRead }: Reading): Promise<GraphRun> {
   const { name, program, paths, values } = run;

@@ -2,21 +2,16 @@
 
 import { dirname } from "node:path";
 
-/**
- * @param known what is remembered
- * @returns like the function, which is called once for each key
- */
-export function memoized<Key, Value>(
-  make: (key: Key) => Value, known: Map<Key, Value> = new Map(),
-): (key: Key) => Value {
+/** @returns like the function, which is called once for each key */
+export function memoized<Key, Value>(make: (key: Key) => Value): (key: Key) => Value {
+  const known = new Map<Key, Value>();
   return (key) => {
-    const value = known.get(key);
-    if (value !== undefined || known.has(key)) {
-      return value as Value;
+    let value = known.get(key);
+    if (value === undefined && !known.has(key)) {
+      value = make(key);
+      known.set(key, value);
     }
-    const made = make(key);
-    known.set(key, made);
-    return made;
+    return value as Value;
   };
 }
 
@@ -29,43 +24,21 @@ export function foldersFrom(folder: string): string[] {
   return all;
 }
 
-/**
- * What the nearest folder has for which there is something: a folder itself, or one above it.
- * @param find is called once for each folder; null where the folders above don't count
- */
-export function nearest<Value>(
-  find: (folder: string) => Value | null | undefined,
-): (folder: string) => Value | undefined {
-  const known = new Map<string, Value | undefined>();
-  return memoized((folder) => {
-    const passed: string[] = [];
-    let found: Value | null | undefined;
-    for (const each of foldersFrom(folder)) {
-      found = known.has(each) ? known.get(each) ?? null : find(each);
-      passed.push(each);
-      if (found !== undefined) {
-        break;
-      }
-    }
-    passed.forEach((each) => known.set(each, found ?? undefined));
-    return found ?? undefined;
-  }, known);
+/** What the nearest folder up from one has; `find` is called once for each, null is for none, also above. */
+export function nearest<Value>(find: (folder: string) => Value | null | undefined) {
+  const of: (folder: string) => Value | undefined = memoized((folder) => {
+    const found = find(folder);
+    const above = dirname(folder);
+    return found === undefined && above !== folder ? of(above) : found ?? undefined;
+  });
+  return of;
 }
 
-/**
- * What folders have that depends on those above them.
- * @param make is called once for each folder, after that above it
- */
-export function inherited<Value>(
-  make: (folder: string, above: Value | undefined) => Value,
-): (folder: string) => Value {
-  const known = new Map<string, Value>();
-  return memoized((folder) => {
-    let above: Value | undefined;
-    for (const each of foldersFrom(folder).reverse()) {
-      above = known.has(each) ? known.get(each) : make(each, above);
-      known.set(each, above as Value);
-    }
-    return above as Value;
-  }, known);
+/** What folders have that depends on those above; `make` is called once for each folder, after that above it. */
+export function inherited<Value>(make: (folder: string, above: Value | undefined) => Value) {
+  const of: (folder: string) => Value = memoized((folder) => {
+    const above = dirname(folder);
+    return make(folder, above === folder ? undefined : of(above));
+  });
+  return of;
 }

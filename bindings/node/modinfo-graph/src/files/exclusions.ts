@@ -1,9 +1,10 @@
 /** Which files are left out: those that globs match, and those that git ignores. */
 
 import { execFile } from "node:child_process";
-import { dirname, join, relative, resolve as absolute, sep } from "node:path";
+import { join, relative, resolve as absolute, sep } from "node:path";
 import { promisify } from "node:util";
 
+import { inherited } from "./by_folder.js";
 import { foldersOf } from "./find_files.js";
 import { globMatcher } from "./globs.js";
 
@@ -13,24 +14,13 @@ export class GitFault extends Error {}
 /** Whether a path, or a folder around it, is left out */
 type IsOut = (path: string) => boolean;
 
-interface Exclusions {
-  /** Whether a file isn't listed */
-  isExcluded: IsOut;
-  /** Whether it isn't read either */
-  isIgnored: IsOut;
-  /** Whether it isn't listed by `exclude` alone */
-  isKept: IsOut;
-  /** Whether it is excluded or ignored */
-  isLeftOut: IsOut;
-}
+/** Whether a file isn't listed, isn't read either, isn't listed by `exclude` alone, and one of the first two. */
+type Exclusions = Record<"isExcluded" | "isIgnored" | "isKept" | "isLeftOut", IsOut>;
 
 /** Globs as `globMatcher` takes them, and whether git decides what isn't listed. */
 type Words = { exclude?: string[], ignore?: string[], gitignore?: boolean };
 
-/**
- * @param paths in whose repositories git decides
- * @returns rejected with a `GlobFault` or a `GitFault`
- */
+/** Git decides in the repositories of the paths. @returns rejected with a `GlobFault` or a `GitFault` */
 export async function exclusionsOf(
   { exclude = [], ignore = [], gitignore = false }: Words, paths: string[],
 ): Promise<Exclusions> {
@@ -56,13 +46,7 @@ export function pathMatcher(globs: string[]): IsOut {
 
 /** True for what is in such a folder too. `isAny` is whether any path is out. */
 function withFolders(isNamed: IsOut, isAny: boolean): IsOut {
-  const known = new Map<string, boolean>();
-  const isOut: IsOut = (path) => {
-    const folder = dirname(path);
-    const found = known.get(path) ?? (isNamed(path) || (folder !== path && isOut(folder)));
-    known.set(path, found);
-    return found;
-  };
+  const isOut = inherited<boolean>((path, isFolderOut) => isFolderOut || isNamed(path));
   return isAny ? (path) => isOut(absolute(path)) : () => false;
 }
 
@@ -74,7 +58,7 @@ async function ignoredBelow(folder: string): Promise<string[]> {
   return paths.map((path) => join(root, path.replace(/\/$/, "")));
 }
 
-async function git(folder: string, words: string[]): Promise<string> {
+async function git(folder: string, words: string[]) {
   try {
     return (await promisify(execFile)("git", words, { cwd: folder, maxBuffer: 1 << 30 })).stdout;
   } catch (error) {

@@ -99,9 +99,7 @@ export function mediaTypeOfMime(type: string): MediaType | undefined {
 }
 
 /** @returns the path without the ending of a module, a declaration file or a component */
-export function withoutEnding(path: string): string {
-  return path.replace(ENDING, "");
-}
+export const withoutEnding = (path: string): string => path.replace(ENDING, "");
 
 /** The path of the JavaScript that a compiler makes of a TypeScript file. */
 export function compiledPath(path: string): string | undefined {
@@ -127,9 +125,7 @@ export function declarationOf(path: string): string | undefined {
 }
 
 /** Whether nothing loads a file as a module, as a style sheet. */
-export function isAsset(path: string): boolean {
-  return !LOADED.has(extname(path).toLowerCase());
-}
+export const isAsset = (path: string): boolean => !LOADED.has(extname(path).toLowerCase());
 
 /** Whether a file, by its path without links, is that of an installed package, and not one of a project. */
 export function isInstalled(path: string): boolean {

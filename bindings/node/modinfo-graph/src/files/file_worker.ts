@@ -1,13 +1,12 @@
 /** A thread that analyzes files by the WebAssembly module as `modinfo files` does, with its messages. */
 
-import { realpathSync } from "node:fs";
+import { type Stats, realpathSync } from "node:fs";
 import { parentPort, workerData } from "node:worker_threads";
-import type { Stats } from "node:fs";
 
 import { Core } from "modinfo/internal/core/instance.cjs";
 import { messageOf } from "modinfo/internal/core/plans.cjs";
 import { FileFault } from "../runtime/faults.js";
-import { MAX_BYTES, readRegularFile } from "./regular_file.js";
+import { MAX_BYTES, readRegularFile } from "./regular_files.js";
 
 /** Characters that `encodeURIComponent` encodes, and the path of a file's URL needn't. */
 const LEFT = /%(?:2F|24|26|2B|2C|3B|3D|3A|40)/g;

@@ -1,36 +1,29 @@
 /** Finds the files that paths name. */
 
-import { readdirSync, statSync } from "node:fs";
+import { type Dirent, readdirSync, statSync } from "node:fs";
 import { dirname, join, sep } from "node:path";
-import type { Dirent, Stats } from "node:fs";
 
-import { FileFault } from "../runtime/faults.js";
+import { FileFault, unlessThrown } from "../runtime/faults.js";
 import { isComponent, isModule, isPage } from "./file_kinds.js";
 import { realPath } from "./urls.js";
 
+/** A file, perhaps left out, or a link that isn't followed (`isLeft`); `error` is why the path can't be read. */
 export interface Found {
   path: string;
   /** The path without links in it, where it was found in a folder */
   real?: string;
-  /** Why the path can't be read */
   error?: Error;
-  /** Whether it is a link that is not followed */
   isLeft?: boolean;
-  /** Whether it is among those that are left out */
   isExcluded?: boolean;
 }
 
-interface Options {
+/** Which files of folders are taken: what is left out and kept all the same has `isExcluded`. */
+interface Options extends Partial<Record<"isExcluded" | "isKept", (path: string) => boolean>> {
   /** Whether to go into `node_modules` and into folders whose names begin with a dot */
   all?: boolean;
-  /** Whether to follow links to files that are below no root */
+  /** Whether to follow links to files below no root, and the roots besides the folder itself */
   follow?: boolean;
-  /** Paths, besides the folder itself, below which a link may lead */
   roots?: string[];
-  /** Whether a file or folder is left out that a folder has */
-  isExcluded?: (path: string) => boolean;
-  /** Whether a file or folder that is left out is taken all the same, with `isExcluded` */
-  isKept?: (path: string) => boolean;
   /** Whether to take components and pages too */
   components?: boolean;
 }
@@ -55,9 +48,7 @@ export async function* findFiles(
 }
 
 /** Yields the paths of a list: one per line, or each ended by a zero byte. */
-export async function* readPaths(
-  input: AsyncIterable<Uint8Array>, separator: "\n" | "\0",
-): AsyncGenerator<string, void, undefined> {
+export async function* readPaths(input: AsyncIterable<Uint8Array>, separator: "\n" | "\0") {
   const decoder = new TextDecoder();
   let begun = "";
   for await (const bytes of input) {
@@ -127,19 +118,7 @@ function leadsOut(path: string, roots: string[]) {
   return real !== undefined && !roots.some(isIn);
 }
 
-/** @returns without those that lead to nothing */
-function realPaths(paths: string[]): string[] {
-  return paths.flatMap((path) => realPath(path) ?? []);
-}
-
-/** @returns nothing where it leads to nothing */
-function statusOf(path: string): Stats | undefined {
-  try {
-    return statSync(path);
-  } catch {
-    return undefined;
-  }
-}
+const realPaths = (paths: string[]): string[] => paths.flatMap((path) => realPath(path) ?? []);
 
 /** @returns true also where that can't be found out */
 function isThere(path: string): boolean {
@@ -150,15 +129,14 @@ function isThere(path: string): boolean {
   }
 }
 
+/** @returns nothing where it leads to nothing */
+const statusOf = (path: string) => unlessThrown(() => statSync(path));
+
 /** @returns false also where nothing is there */
-export function isFolder(path: string): boolean {
-  return statusOf(path)?.isDirectory() ?? false;
-}
+export const isFolder = (path: string): boolean => statusOf(path)?.isDirectory() ?? false;
 
 /** @returns false also where nothing is there, or no regular file */
-export function isFile(path: string): boolean {
-  return statusOf(path)?.isFile() ?? false;
-}
+export const isFile = (path: string): boolean => statusOf(path)?.isFile() ?? false;
 
 /** The folders of some paths, each once: a folder itself, and the folder of a file. */
 export function foldersOf(paths: string[]): string[] {

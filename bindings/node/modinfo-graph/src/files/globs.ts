@@ -3,7 +3,6 @@
  * several texts. The time of a match is at most the product of the lengths of the glob and the path.
  */
 
-import { matchesPath } from "./wildcards.js";
 
 /** The most globs that the braces of one stand for. */
 const MOST_GLOBS = 1000;
@@ -14,11 +13,7 @@ export class GlobFault extends Error {
   }
 }
 
-/**
- * @param glob without a slash it matches a name in any folder, with one a path from the current folder
- * @returns for a path with slashes, from the current folder
- * @throws {GlobFault} the glob begins with `!`, or its braces can't be read
- */
+/** A glob without a slash is of a name in any folder, else of a path from the current one. @throws {GlobFault} */
 export function globMatcher(glob: string): (path: string) => boolean {
   if (glob.startsWith("!")) {
     const why = `a glob that begins with "!" isn't supported; for a name that begins with it, write ./${glob}`;
@@ -44,4 +39,42 @@ function spelledOut(path: string, glob: string): string[] {
     }
   }
   return found;
+}
+
+/** Whether a text is what a pattern has: `*` is any characters, `?` one. */
+export function matchesName(pattern: string, text: string): boolean {
+  return matches([...pattern], [...text], "*", (one, other) => one === "?" || one === other);
+}
+
+/** Like `matchesName` in each part of a path; `**` as a part is any folders, and at the end all in a folder. */
+export function matchesPath(pattern: string, path: string): boolean {
+  const whole = pattern.replace(/(^|\/)\*\*$/, "$1**/*");
+  return matches(whole.split("/"), path.split("/"), "**", matchesName);
+}
+
+/**
+ * Whether items are those of a pattern, in which `any` stands for any number of them. An `any` takes
+ * more only where what follows it fails: then none before it needs another try.
+ */
+function matches(
+  pattern: string[], items: string[], any: string, isSame: (one: string, other: string) => boolean,
+) {
+  let [at, taken] = [0, 0];
+  let last: { at: number, taken: number } | undefined;
+  while (taken < items.length) {
+    if (pattern[at] === any) {
+      last = { at, taken };
+      at++;
+    } else if (at < pattern.length && isSame(pattern[at], items[taken])) {
+      at++;
+      taken++;
+    } else if (last) {
+      last.taken++;
+      at = last.at + 1;
+      taken = last.taken;
+    } else {
+      return false;
+    }
+  }
+  return pattern.slice(at).every((each) => each === any);
 }

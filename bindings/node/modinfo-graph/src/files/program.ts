@@ -1,13 +1,14 @@
-/** Finds the program `modinfo`, and tries whether it runs. */
+/** Finds the program `modinfo`, tries whether it runs, and loads what is installed for this package. */
 
 import { spawn } from "node:child_process";
 import { once } from "node:events";
-import { existsSync } from "node:fs";
+import { existsSync, readFileSync } from "node:fs";
+import { createRequire } from "node:module";
 import { resolve as absolute } from "node:path";
 import { fileURLToPath } from "node:url";
 
 import { compiledModule, modulePath } from "modinfo/internal/wasm_module.js";
-import { ownRequire } from "./own_files.js";
+import { unlessThrown } from "../runtime/faults.js";
 
 /** The package that has the program for this system, where there is one. */
 const PACKAGE = `modinfo-${process.platform}-${process.arch}`;
@@ -42,27 +43,16 @@ export function programName(): string {
 }
 
 /** Whether a path is that of a WebAssembly module, or of the file of `modinfo` that has the module as text. */
-export function isWasm(program: string): boolean {
-  return /\.wasm$|[\\/]module\.js$/.test(program);
-}
+export const isWasm = (program: string): boolean => /\.wasm$|[\\/]module\.js$/.test(program);
 
-function installedPath() {
-  try {
-    return ownRequire.resolve(`${PACKAGE}/modinfo`);
-  } catch {
-    return undefined;
-  }
-}
+const installedPath = () => unlessThrown(() => ownRequire.resolve(`${PACKAGE}/modinfo`));
 
 function builtPath() {
   const path = REPOSITORY && fileURLToPath(new URL("build/modinfo", REPOSITORY));
   return path && existsSync(path) ? path : undefined;
 }
 
-/**
- * Runs the program without a document, or compiles the module.
- * @returns rejected where it can't be started, or ends otherwise than with status 0
- */
+/** Runs the program without a document, or compiles the module; rejected where that fails. */
 export async function checkProgram(program: string): Promise<void> {
   if (isWasm(program)) {
     compiledModule(program);
@@ -83,3 +73,26 @@ async function endOf(program: string): Promise<string> {
   const [status, signal] = await once(child, "close");
   return signal ?? `status ${status}`;
 }
+
+/** The folder of Debian's packages. Debian's node looks for modules there, others don't. */
+export const DEBIAN_MODULES = "/usr/share/nodejs";
+
+/** What node loads from this package, or from the bundle with it: never a module of a project that is read. */
+export const ownRequire = createRequire(import.meta.url ?? __filename);
+
+/** @throws {Error} it isn't installed */
+export function loadTypeScript(): unknown {
+  for (const path of ["typescript", `${DEBIAN_MODULES}/typescript`]) {
+    try {
+      return ownRequire(path);
+    } catch (error) {
+      if ((error as NodeJS.ErrnoException).code !== "MODULE_NOT_FOUND") {
+        throw error;
+      }
+    }
+  }
+  throw new Error("types need TypeScript: npm install typescript, or Debian's node-typescript");
+}
+
+/** The text of a file of this package, or of one that is installed for it. */
+export const readOwnFile = (path: string | URL): string => readFileSync(path, "utf8");

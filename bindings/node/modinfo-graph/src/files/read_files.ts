@@ -1,39 +1,30 @@
-/** Reads many files at once, by `modinfo files` or by the WebAssembly module. */
+/** Reads many files at once, by `modinfo files` or, in threads, by the WebAssembly module. */
 
-import { onAbort } from "../runtime/abort_signals.js";
-import { FileFault, faultOf } from "../runtime/faults.js";
+import { Worker } from "node:worker_threads";
+
+import { compiledModule } from "modinfo/internal/wasm_module.js";
+import { onAbort } from "../runtime/call_options.js";
+import { type Fault, FileFault, faultOf, unlessThrown } from "../runtime/faults.js";
 import { inOrder } from "../runtime/in_order.js";
-import { Pool } from "../runtime/pool.js";
-import { processesOf } from "../runtime/processes.js";
+import { type Answer, type Kind, Pool, processesOf } from "../runtime/pool.js";
 import { isModule } from "./file_kinds.js";
 import { isWasm } from "./program.js";
-import { Texts } from "./texts.js";
-import { threadsOf } from "./threads.js";
 import { realPath } from "./urls.js";
 import type { ModuleInfo, Signal } from "modinfo";
-import type { Fault } from "../runtime/faults.js";
-import type { Answer } from "../runtime/pool.js";
 import type { Found } from "./find_files.js";
 
+/** `program` is the path of `modinfo` or of the WebAssembly module, `jobs` the most processes at once. */
 export interface ReadOptions {
-  /** The path of `modinfo`, or of the WebAssembly module */
   program: string;
-  /** The most processes or threads at once */
   jobs: number;
-  /** Ends the processes */
   signal?: Signal;
   /** Reads a file that isn't a module as a whole; nothing for other files */
-  readOther?: (path: string, texts: Texts) => Promise<Read> | undefined;
+  readOther?: (path: string) => Promise<Read> | undefined;
 }
 
-type Read = Pick<FileResult, "value" | "fault">;
+export type Read = Pick<FileResult, "value" | "fault">;
 
-export interface FileResult {
-  path: string;
-  /** The path without links in it, where it is known */
-  real?: string;
-  /** Whether it is a link that isn't followed */
-  isLeft?: boolean;
+export interface FileResult extends Omit<Found, "error" | "isExcluded"> {
   /** The JSON of its `ModuleInfo` */
   info?: string | Buffer;
   /** The `ModuleInfo`, where it is of several texts */
@@ -57,11 +48,10 @@ export function readFiles(
     ? threadsOf(program)
     : processesOf({ program, words: ["files", "--null"], read: readAnswer });
   const pool = new Pool(kind, jobs);
-  const texts = new Texts(program);
   const takeBack = onAbort(signal, () => pool.kill());
   const read = (file: Found): Promise<FileResult> | FileResult => {
     const { path, real, error, isLeft } = file;
-    const other = error || isLeft ? undefined : readOther(path, texts);
+    const other = error || isLeft ? undefined : readOther(path);
     return other ? other.then((result) => ({ path, real, ...result })) : readFile(file, pool);
   };
   return inOrder(files, jobs * UNDER_WAY, read, () => {
@@ -79,11 +69,9 @@ async function readFile({ path, real, error, isLeft }: Found, pool: Pool): Promi
       throw error ?? new FileFault("MediaType", "files with this ending are not read");
     }
     const own = real ?? realPath(path) ?? path;
-    if (own.includes("\0")) {
-      throw new FileFault("Input", "no such file: the path has a zero byte");
-    }
-    if (ENDLESS.test(own)) {
-      throw new FileFault("Input", "a file of the system");
+    if (own.includes("\0") || ENDLESS.test(own)) {
+      const why = own.includes("\0") ? "no such file: the path has a zero byte" : "a file of the system";
+      throw new FileFault("Input", why);
     }
     return { path, real, info: await pool.run(`${own}\0`) };
   } catch (fault) {
@@ -97,10 +85,31 @@ function readAnswer(line: Buffer): Answer | undefined {
   if (at >= 0) {
     return { value: line.subarray(at + INFO.length, -1) };
   }
-  try {
-    const { name, message, position } = JSON.parse(String(line)).fault;
-    return typeof name === "string" ? { error: new FileFault(name, message, position) } : undefined;
-  } catch {
-    return undefined;
-  }
+  const { name, message, position } = unlessThrown(() => JSON.parse(String(line)).fault) ?? {};
+  return typeof name === "string" ? { error: new FileFault(name, message, position) } : undefined;
+}
+
+/** For some dozen paths. */
+const ROOM = 1 << 10;
+
+/** @param path of the module */
+export function threadsOf(path: string): Kind {
+  const workerData = compiledModule(path);
+  return {
+    name: "a thread",
+    room: ROOM,
+    start: ({ onAnswer, onEnd }) => {
+      const worker = new Worker(new URL("./file_worker.js", import.meta.url), { workerData });
+      worker.on("message", ({ info, fault, message, position }) => {
+        onAnswer(info === undefined ? { error: new FileFault(fault, message, position) } : { value: info });
+      });
+      worker.on("error", ({ message }) => onEnd(`ended: ${message}`));
+      worker.on("exit", () => onEnd("ended: it ended"));
+      return {
+        send: (path) => worker.postMessage(path.slice(0, -1)),
+        hold: (isHeld) => (isHeld ? worker.ref() : worker.unref()),
+        kill: () => worker.terminate(),
+      };
+    },
+  };
 }

@@ -1,33 +1,112 @@
 /**
- * The files that resolution looks at: what paths lead to, and the text of package.json and of
- * configurations. Nothing else is opened, and of these regular files alone: a device or a FIFO that
- * has such a name never is.
- *
- * Where each path leads is known before anything is opened. What is found is kept: a path is looked at once.
+ * Reads regular files alone: a FIFO or a device may never end, and opening one may have effects. Resolution
+ * looks at what paths lead to, and opens package.json and configurations. Where each path leads is known
+ * before anything is opened. What is found is kept: a path is looked at once.
  */
 
-import fs from "node:fs";
+import fs, { type Dirent, type Stats, constants, statSync } from "node:fs";
 import { dirname, join } from "node:path";
-import type { Stats } from "node:fs";
 
-import { FileFault } from "../runtime/faults.js";
-import { readOpened } from "./regular_file.js";
+import { FileFault, unlessThrown } from "../runtime/faults.js";
+import { foldersFrom, inherited } from "./by_folder.js";
+
+/** The most bytes of a file, where no other limit is given: 64 MiB. */
+export const MAX_BYTES = 64 * 2 ** 20;
+
+/** The first bytes that are asked for of a file without a size, as those in /proc are. */
+const FIRST_PART = 2 ** 16;
+
+const decoder = new TextDecoder("utf-8", { fatal: true, ignoreBOM: true });
+
+/** Throws a `FileFault` for a file that isn't regular. */
+type Check = (status: Stats) => void;
+
+/** The content of a regular file, checked before and after it is opened. @throws {FileFault | Error} */
+export function readRegularFile(path: string, maxBytes = MAX_BYTES, check: Check = requireRegular): Buffer {
+  check(statSync(path));
+  return readOpened(path, maxBytes, 0, fs, check);
+}
+
+/** The text of a regular file, with its byte order mark. @throws {FileFault | Error} also where it isn't UTF-8 */
+export function readRegularText(path: string, maxBytes = MAX_BYTES): string {
+  const bytes = readRegularFile(path, maxBytes);
+  const text = unlessThrown(() => decoder.decode(bytes));
+  if (text === undefined) {
+    throw new FileFault("Input", "the file is not UTF-8");
+  }
+  return text;
+}
+
+/** The content of a file; `flags` are those besides the ones for reading. @throws {FileFault | Error} */
+export function readOpened(
+  path: string, maxBytes: number, flags = 0,
+  system: Pick<typeof fs, "openSync" | "fstatSync" | "readSync" | "closeSync"> = fs, check: Check = requireRegular,
+): Buffer {
+  return withOpened(path, flags, system, (file) => {
+    const status = system.fstatSync(file);
+    check(status);
+    requireAtMost(maxBytes, status.size);
+    return readAtMost(file, status.size, maxBytes, system);
+  });
+}
+
+/** The first bytes of a file, at most so many, as text. */
+export function readBeginning(path: string, length: number): string {
+  const bytes = Buffer.alloc(length);
+  return withOpened(path, 0, fs, (file) => bytes.toString("utf8", 0, fs.readSync(file, bytes, 0, length, 0)));
+}
+
+/** Opens a file that by now may be something else: opening doesn't wait for a FIFO's writer. */
+function withOpened<T>(
+  path: string, flags: number, system: Pick<typeof fs, "openSync" | "closeSync">, use: (file: number) => T,
+): T {
+  const file = system.openSync(path, constants.O_RDONLY | constants.O_NONBLOCK | constants.O_NOCTTY | flags);
+  try {
+    return use(file);
+  } finally {
+    system.closeSync(file);
+  }
+}
+
+/** Reads to the end, which need not be where the size has it. */
+function readAtMost(file: number, size: number, maxBytes: number, { readSync }: Pick<typeof fs, "readSync">) {
+  let bytes = Buffer.allocUnsafe((size || FIRST_PART) + 1);
+  let length = 0;
+  for (;;) {
+    const count = readSync(file, bytes, length, bytes.length - length, null);
+    length += count;
+    requireAtMost(maxBytes, length);
+    if (count === 0) {
+      return bytes.subarray(0, length);
+    }
+    if (length === bytes.length) {
+      bytes = Buffer.concat([bytes], 2 * length);
+    }
+  }
+}
+
+function requireAtMost(maxBytes: number, length: number) {
+  if (length > maxBytes) {
+    throw new FileFault("Input", `the file has more than ${maxBytes} bytes`);
+  }
+}
+
+function requireRegular(status: Stats) {
+  if (!status.isFile()) {
+    const kind = status.isDirectory() ? "a folder"
+      : status.isFIFO() ? "a FIFO" : status.isSocket() ? "a socket" : "a device";
+    throw new FileFault("Input", `${kind}, not a regular file`);
+  }
+}
 
 export type System = Pick<typeof fs, "lstatSync" | "realpathSync" | "readdirSync" | "openSync" | "fstatSync" |
   "readSync" | "closeSync">;
 
-/** What a path leads to */
-export interface Entry {
-  /** `file` is a regular one */
-  kind: "file" | "folder" | "other" | "none";
-  /** Without links; empty where nothing is there */
-  path: string;
-  /** Whether there is a link on the way */
-  isLinked: boolean;
-}
+/** What a path leads to, its path without links (empty for nothing), and whether there is a link on the way. */
+export type Entry = { kind: "file" | "folder" | "other" | "none", path: string, isLinked: boolean };
 
 /** The most bytes of a package.json or a configuration: 4 MiB. */
-const MAX_BYTES = 4 * 2 ** 20;
+export const MAX_CONFIGURATION = 4 * 2 ** 20;
 
 /** The most bytes of a name in a folder, with the slash before it. */
 const MAX_NAME = 256;
@@ -41,19 +120,16 @@ const NONE: Entry = { kind: "none", path: "", isLinked: false };
 const NO_LINK = fs.constants.O_NOFOLLOW ?? 0;
 
 export class RegularFiles {
-  #system;
-  #entries: Map<string, Entry> = new Map();
-  #roots: Set<string> = new Set();
+  #entries = new Map<string, Entry>();
+  #roots = new Set<string>();
   /** Whether a folder is a root, or is in one. */
-  #inside: Map<string, boolean> = new Map();
+  #isInside: (folder: string) => boolean = () => false;
   #hasAll = false;
   /** Folders above a root: their own package.json and configurations count. */
-  #above: Set<string> = new Set();
+  #above = new Set<string>();
 
   /** @param system what looks at files and opens them */
-  constructor(system: System = fs) {
-    this.#system = system;
-  }
+  constructor(private readonly system: System = fs) {}
 
   /** Adds a folder in which files may be, together with each `node_modules` above it. */
   addProject(path: string) {
@@ -62,8 +138,7 @@ export class RegularFiles {
       return;
     }
     this.#addRoot(root);
-    for (let folder = root; folder !== "/";) {
-      folder = dirname(folder);
+    for (const folder of foldersFrom(dirname(root))) {
       this.#above.add(folder);
       this.addFolder(join(folder, "node_modules"));
     }
@@ -79,7 +154,7 @@ export class RegularFiles {
 
   #addRoot(root: string) {
     this.#roots.add(root);
-    this.#inside.clear();
+    this.#isInside = inherited<boolean>((folder, isInside) => isInside || this.#roots.has(folder));
   }
 
   /** Looks at what a path leads to. All paths here are absolute and normal. */
@@ -90,27 +165,19 @@ export class RegularFiles {
     }
     const last = path.lastIndexOf("/");
     const parent = this.#entries.get(path.slice(0, last));
-    if (parent && path.length - last <= MAX_NAME) {
-      return parent.kind === "folder" ? this.#look(parent, path) : NONE;
-    }
+    let entry = parent ?? ROOT;
     // From above: a long path costs no more than the part of it that is there.
-    let entry = ROOT;
-    for (let begin = 0; begin < path.length && path !== "/";) {
-      if (entry.kind !== "folder") {
-        return NONE;
-      }
+    for (let begin = parent ? last : 0; begin < path.length && path !== "/";) {
       const next = path.indexOf("/", begin + 1);
       const end = next < 0 ? path.length : next;
+      if (entry.kind !== "folder" || end - begin > MAX_NAME) {
+        return NONE;
+      }
       const each = path.slice(0, end);
-      entry = this.#entries.get(each) ?? (end - begin > MAX_NAME ? NONE : this.#look(entry, each));
+      entry = this.#entries.get(each) ?? this.#look(entry, each);
       begin = end;
     }
     return entry;
-  }
-
-  /** Looks at what is in a folder under a name. */
-  in(folder: string, name: string): Entry {
-    return this.at(folder === "/" ? `/${name}` : `${folder}/${name}`);
   }
 
   /** Takes all that no link leads to for inside. */
@@ -123,21 +190,7 @@ export class RegularFiles {
     return !((this.#hasAll && !isLinked) || this.#roots.has(path) || this.#isInside(dirname(path)));
   }
 
-  #isInside(folder: string): boolean {
-    let isInside = this.#inside.get(folder);
-    if (isInside === undefined) {
-      isInside = this.#roots.has(folder) || (folder !== "/" && this.#isInside(dirname(folder)));
-      this.#inside.set(folder, isInside);
-    }
-    return isInside;
-  }
-
-  /**
-   * The text of a package.json or a configuration, without a byte order mark.
-   * @throws {FileFault} nothing is there, or no regular file; the file is in no folder that was
-   *   added, or has more than 4 MiB
-   * @throws {Error} the system's, where it can't be read
-   */
+  /** The text of a package.json or a configuration, in a folder that was added. @throws {FileFault | Error} */
   read(path: string): string {
     const entry = this.at(path);
     const { kind, path: real } = entry;
@@ -147,28 +200,15 @@ export class RegularFiles {
     if (this.isOutside(entry) && !this.#above.has(dirname(real))) {
       throw new FileFault("Input", `outside the project, in ${dirname(real)}`);
     }
-    return textOf(readOpened(real, MAX_BYTES, NO_LINK, this.#system));
+    return textOf(readOpened(real, MAX_CONFIGURATION, NO_LINK, this.system));
   }
 
-  /** The sorted names of the folders in a folder of a project, without links; none where it can't be read. */
-  foldersIn(path: string): string[] {
-    return this.#namesIn(path, (item) => item.isDirectory());
-  }
-
-  /** The sorted names of the regular files there, without links. */
-  filesIn(path: string): string[] {
-    return this.#namesIn(path, (item) => item.isFile());
-  }
-
-  #namesIn(path: string, isTaken: (item: fs.Dirent) => boolean): string[] {
+  /** The sorted names in a folder of a project, without those of links; none where it can't be read. */
+  namesIn(path: string, kind: "file" | "folder"): string[] {
     const entry = this.at(path);
-    try {
-      const items = entry.kind !== "folder" || this.isOutside(entry) ? []
-        : this.#system.readdirSync(entry.path, { withFileTypes: true });
-      return items.filter(isTaken).map(({ name }) => name).sort();
-    } catch {
-      return [];
-    }
+    const isRead = entry.kind === "folder" && !this.isOutside(entry);
+    const items = isRead && unlessThrown(() => this.system.readdirSync(entry.path, { withFileTypes: true }));
+    return (items || []).filter((item) => kindOf(item) === kind).map(({ name }) => name).sort();
   }
 
   /** @param path in it */
@@ -176,47 +216,26 @@ export class RegularFiles {
     if (this.#entries.size > MAX_ENTRIES) {
       this.#entries.clear();
     }
-    const entry = parent.isLinked
-      ? this.#lookBehind(join(parent.path, path.slice(path.lastIndexOf("/"))), path)
-      : this.#entryAt(path);
+    const entry = unlessThrown(() => this.#found(parent, path)) ?? NONE;
     this.#entries.set(path, entry);
     return entry;
   }
 
-  /** @param real the path, in the folder that a link leads to */
-  #lookBehind(real: string, path: string): Entry {
-    const entry = this.at(real);
+  #found(parent: Entry, path: string): Entry | undefined {
+    const { system } = this;
+    const own = parent.isLinked ? join(parent.path, path.slice(path.lastIndexOf("/"))) : path;
+    const status = system.lstatSync(own, { throwIfNoEntry: false });
+    if (!status?.isSymbolicLink()) {
+      return status && { kind: kindOf(status), path: own, isLinked: parent.isLinked };
+    }
     // The links on the way to this one count too: together they may be too many.
-    return entry.isLinked ? this.#followed(path) : { ...entry, isLinked: entry.kind !== "none" };
-  }
-
-  #entryAt(path: string): Entry {
-    try {
-      const status = this.#system.lstatSync(path, { throwIfNoEntry: false });
-      if (status?.isSymbolicLink()) {
-        return this.#followed(path);
-      }
-      return status ? { kind: kindOf(status), path, isLinked: false } : NONE;
-    } catch {
-      return NONE;
-    }
-  }
-
-  #followed(path: string): Entry {
-    try {
-      const real = this.#system.realpathSync.native(path);
-      return { kind: kindOf(this.#system.lstatSync(real)), path: real, isLinked: true };
-    } catch {
-      return NONE;
-    }
+    const real = system.realpathSync.native(path);
+    return { kind: kindOf(system.lstatSync(real)), path: real, isLinked: true };
   }
 }
 
-function kindOf(status: Stats): Entry["kind"] {
-  if (status.isDirectory()) {
-    return "folder";
-  }
-  return status.isFile() ? "file" : "other";
+function kindOf(status: Stats | Dirent): Entry["kind"] {
+  return status.isDirectory() ? "folder" : status.isFile() ? "file" : "other";
 }
 
 /** @param bytes in the encoding that their byte order mark names, else in UTF-8 */

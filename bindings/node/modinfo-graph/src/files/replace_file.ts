@@ -1,11 +1,12 @@
 /** Writes files that are there as a whole or not at all. */
 
 import { randomBytes } from "node:crypto";
-import { constants, realpathSync, statSync } from "node:fs";
-import { open, rename, rm, writeFile } from "node:fs/promises";
+import { constants, statSync } from "node:fs";
+import { chmod, open, rename, rm, writeFile } from "node:fs/promises";
 import { basename, dirname, join, resolve as absolute } from "node:path";
 
-import { readBeginning } from "./regular_file.js";
+import { readBeginning } from "./regular_files.js";
+import { realPath } from "./urls.js";
 
 /** The bytes by which a file is known for an earlier output. */
 const BEGINNING = 4096;
@@ -27,7 +28,8 @@ export async function replaceFile(path: string, text: string): Promise<void> {
   const place = placeOf(path);
   const beside = join(dirname(place), `.${basename(place)}.${randomBytes(6).toString("hex")}`);
   try {
-    await writeNew(beside, text, status?.mode);
+    await writeFile(beside, text, { flag: "wx", ...(status && { mode: status.mode & 0o777 }) });
+    await (status && chmod(beside, status.mode & 0o7777));
     await rename(beside, place);
   } catch (error) {
     await rm(beside, { force: true });
@@ -47,23 +49,6 @@ export function isReplaceable(path: string, isOutput: (text: string) => boolean)
 
 /** The path without links, of which the last folders need not exist. */
 export function placeOf(path: string): string {
-  try {
-    return realpathSync.native(path);
-  } catch {
-    const folder = dirname(absolute(path));
-    return folder === path ? path : join(placeOf(folder), basename(path));
-  }
-}
-
-/** @param mode that of the file which is replaced */
-async function writeNew(path: string, text: string, mode?: number) {
-  const file = await open(path, "wx");
-  try {
-    if (mode !== undefined) {
-      await file.chmod(mode & 0o7777);
-    }
-    await file.writeFile(text);
-  } finally {
-    await file.close();
-  }
+  const folder = dirname(absolute(path));
+  return realPath(path) ?? (folder === path ? path : join(placeOf(folder), basename(path)));
 }

@@ -1,7 +1,11 @@
 /** URLs and places of names, files and folders. */
 
 import { realpathSync } from "node:fs";
+import { resolve as absolute } from "node:path";
 import { fileURLToPath, pathToFileURL } from "node:url";
+
+import { unlessThrown } from "../runtime/faults.js";
+import { memoized } from "./by_folder.js";
 
 /** A path of which each character stands for itself in a URL. */
 const PLAIN = /^[\w./@+~-]*$/;
@@ -31,24 +35,25 @@ export function urlFrom(text: string, base?: URL): URL | undefined {
 }
 
 /** @returns with a slash at the end */
-export function urlOfFolder(folder: string): URL {
-  return pathToFileURL(`${folder}/`);
-}
+export const urlOfFolder = (folder: string): URL => pathToFileURL(`${folder}/`);
 
 /** @returns nothing where the URL can't have a path */
-export function pathOfUrl(url: URL): string | undefined {
-  return unlessThrown(() => fileURLToPath(url));
-}
+export const pathOfUrl = (url: URL): string | undefined => unlessThrown(() => fileURLToPath(url));
 
 /** @returns the path without links in it; nothing where it leads to nothing */
-export function realPath(path: string): string | undefined {
-  return unlessThrown(() => realpathSync.native(path));
+export const realPath = (path: string): string | undefined => unlessThrown(() => realpathSync.native(path));
+
+/** Like `canonicalUrl` */
+export type KeyOf = (path: string, real?: string) => string;
+
+/** The URL of a file without symbolic links in it; `real` is the path without links, where it is known. */
+export function canonicalUrl(path: string, real?: string): string {
+  const own = absolute(path);
+  return urlOfPath(real ?? realPath(own) ?? own);
 }
 
-function unlessThrown<T>(call: () => T): T | undefined {
-  try {
-    return call();
-  } catch {
-    return undefined;
-  }
+/** @returns for one graph: a link leads where it led when it was first asked for */
+export function canonicalUrls(): KeyOf {
+  const known = memoized((path: string) => canonicalUrl(path));
+  return (path, real) => (real === undefined ? known(absolute(path)) : urlOfPath(real));
 }

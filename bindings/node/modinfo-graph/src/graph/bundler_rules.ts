@@ -9,10 +9,9 @@ import { join, resolve as absolute } from "node:path";
 import { memoized } from "../files/by_folder.js";
 import { isDeclaration } from "../files/file_kinds.js";
 import { isPath, pathOf } from "./names.js";
-import { fileAt, firstOf } from "./node_rules.js";
+import { type Found, fileAt, firstOf } from "./node_rules.js";
 import { isObject } from "./package_targets.js";
 import type { RegularFiles } from "../files/regular_files.js";
-import type { Found } from "./node_rules.js";
 import type { Manifest, PackageManifests } from "./package_manifests.js";
 
 const SCRIPT_ENDINGS = [".js", ".jsx", ".mjs"];
@@ -60,11 +59,6 @@ export class BundlerRules {
     return this.firstFile(names) ?? this.asFolder(wanted, source) ?? { kind: "none", wanted };
   }
 
-  /** The module of the first path that has one. */
-  atPaths(paths: string[], source: Source): Found | undefined {
-    return firstOf(paths, (path) => this.atPath(path, source));
-  }
-
   /** The first file of a path that has one for each platform, as React Native finds it. */
   ofPlatform(path: string, { isTypeScript }: Source): Found | undefined {
     return this.firstFile(namesOf(path, { isTypeScript, suffixes: PLATFORMS }));
@@ -77,22 +71,19 @@ export class BundlerRules {
       : this.atPath(pathOf(`.${rest}`, folder), source);
   }
 
-  /**
-   * What the `browser` of a manifest puts in the place of an absolute path or of a package's name.
-   * @returns an absolute path without what is added to names, or another package's name; false for nothing
-   */
+  /** What `browser` of a manifest has for an absolute path or a package's name; false for nothing. */
   replacement(manifest: Manifest | undefined, key: string): string | false | undefined {
-    return manifest && this.replaced(manifest)[0].get(key);
+    return this.replaced(manifest)[0].get(key);
   }
 
   /** Like `replacement`, by all members like `browser`; absolute paths alone. */
   replacements(manifest: Manifest | undefined, key: string): string[] {
-    const all = manifest ? this.replaced(manifest) : [];
-    return all.flatMap((each) => each.get(key) || []).filter((target) => target.startsWith("/"));
+    const found = this.replaced(manifest).flatMap((each) => each.get(key) || []);
+    return found.filter((target) => target.startsWith("/"));
   }
 
-  private readonly replaced = memoized((manifest: Manifest) => {
-    return REPLACING.map((member) => replacementsOf(manifest, member));
+  private readonly replaced = memoized((manifest: Manifest | undefined) => {
+    return REPLACING.map((member) => (manifest ? replacementsOf(manifest, member) : new Map<string, string>()));
   });
 
   private firstFile(paths: string[]): Found | undefined {

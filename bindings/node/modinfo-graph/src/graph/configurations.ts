@@ -3,9 +3,8 @@
 import { dirname, join, resolve as absolute } from "node:path";
 
 import { foldersFrom, memoized, nearest } from "../files/by_folder.js";
-import { matchesPath } from "../files/wildcards.js";
-import { parseWithComments } from "./json_with_comments.js";
-import { Notices, firstIn, isThere, membersAt } from "./members.js";
+import { matchesPath } from "../files/globs.js";
+import { Notices, firstIn, isThere, membersAt, parseWithComments } from "./members.js";
 import { isPath } from "./names.js";
 import { isObject } from "./package_targets.js";
 import type { RegularFiles } from "../files/regular_files.js";
@@ -26,7 +25,6 @@ const NEVER = [MODULES, "bower_components", "jspm_packages"];
 
 const HAS_WILDCARD_OR_EXTENSION = /[*?]|\.[^./]+$/;
 
-/** Stands for the folder of the configuration that extends all others. */
 const CONFIG_DIR = /^\$\{configDir\}/i;
 
 /** Those that decide what names lead to, with absolute paths */
@@ -46,36 +44,22 @@ export interface Options {
   jsxImportSource?: string;
 }
 
-/** Which files a configuration includes, where it says so */
-interface Lists {
-  files?: string[];
-  include?: string[];
-  exclude?: string[];
-}
+/** Which files a configuration includes, where it says so; absolute patterns */
+type Lists = { [Name in "files" | "include" | "exclude"]?: string[] };
 
-/** A configuration together with those that it extends */
+/** A configuration together with those that it extends, perhaps in a loop; null takes an inherited option away. */
 interface Extended {
-  /** Of which null takes an inherited one away */
   options: { [Name in keyof Options]: Options[Name] | null };
-  /** Of `files`, `include` and `exclude` absolute patterns */
   members: Lists & { references?: unknown };
-  /** Whether one of them extends another one that extends it */
   isInLoop: boolean;
 }
 
 /** The configurations that are known, and how many were merged */
 type Merged = { known: Map<string, Extended>, count: number };
 
-/** Its lists have absolute patterns */
-export interface Configuration extends Required<Lists> {
-  /** Of its file */
-  path: string;
-  folder: string;
-  /** Together with those that it extends */
-  options: Options;
-  /** The paths of the configurations that it refers to */
-  references: string[];
-}
+/** Together with those that it extends; `references` are the paths of those that it refers to. */
+export type Configuration = Required<Lists>
+  & { path: string, folder: string, options: Options, references: string[] };
 
 export class Configurations {
   readonly notices = new Notices();
@@ -111,25 +95,16 @@ export class Configurations {
   });
 
   private readonly read = memoized((path: string): Configuration => {
-    const { options, members } = this.extended(path, [], { known: new Map(), count: 0 });
-    const { files, include, exclude } = members;
+    const { options: all, members } = this.extended(path, [], { known: new Map(), count: 0 });
     const folder = dirname(path);
-    const set = Object.entries(options).filter(([, value]) => value !== null);
-    const own: Options = Object.fromEntries(set);
-    const inFolder = (patterns: string[]) => patterns.map((each) => absolute(folder, each));
-    return {
-      path, folder, options: own,
-      references: this.referencesOf(path, members.references),
-      files: files ?? [],
-      include: include ?? (files ? [] : inFolder(ALL)),
-      exclude: exclude ?? [...inFolder(NEVER), ...outDirsOf(own)],
-    };
+    const options: Options = Object.fromEntries(Object.entries(all).filter(([, value]) => value !== null));
+    const include = members.files ? [] : ALL.map((each) => join(folder, each));
+    const exclude = [...NEVER.map((each) => join(folder, each)), ...outDirsOf(options)];
+    const references = this.referencesOf(path, members.references);
+    return { path, folder, options, files: [], include, exclude, ...members, references };
   });
 
-  /**
-   * The options and other members of a configuration, together with those that it extends.
-   * @param extending the paths of those that lead to it
-   */
+  /** A configuration together with those that it extends; `extending` has the paths of those that lead to it. */
   private extended(path: string, extending: string[], merged: Merged): Extended {
     const known = merged.known.get(path);
     if (known) {
@@ -138,7 +113,7 @@ export class Configurations {
     merged.count++;
     const members = membersAt(path, parseWithComments, this.files, this.notices);
     const paths = [...extending, path];
-    const main = dirname(paths[0]);
+    const place = placeOf(dirname(path), dirname(paths[0]), (why) => this.notices.add(path, why));
     const all: Extended = { options: {}, members: {}, isInLoop: false };
     for (const name of [members.extends ?? []].flat()) {
       const other = this.extendedPath(name, path);
@@ -149,11 +124,11 @@ export class Configurations {
       Object.assign(all.members, inherited?.members);
       if (!inherited) {
         const shown = typeof name === "string" ? JSON.stringify(name) : "a value that isn't a string";
-        this.notices.add(path, `"extends" has ${shown}, which isn't found or extends this file`);
+        place.note(`"extends" has ${shown}, which isn't found or extends this file`);
       }
     }
-    Object.assign(all.options, optionsOf(path, members.compilerOptions, main, this.notices));
-    Object.assign(all.members, listsOf(members, dirname(path), main), { references: members.references });
+    Object.assign(all.options, optionsOf(members.compilerOptions, place));
+    Object.assign(all.members, listsOf(members, place), { references: members.references });
     // What a loop leaves out depends on where it is entered.
     if (!all.isInLoop || merged.count > MAX_MERGED) {
       merged.known.set(path, all);
@@ -161,7 +136,6 @@ export class Configurations {
     return all;
   }
 
-  /** The path of what the configuration at a path extends. */
   private extendedPath(name: unknown, path: string): string | undefined {
     if (typeof name !== "string") {
       return undefined;
@@ -185,19 +159,18 @@ export class Configurations {
   }
 }
 
-/** The folders of the JavaScript and of the declarations. */
 export function outDirsOf({ outDir, declarationDir }: Options): string[] {
   return [outDir, declarationDir].flatMap((each) => each ?? []);
 }
 
-/** Where options are read */
-interface Place {
-  /** The absolute path of one that the file has */
-  at(path: string): string;
-  /** The folder of the configuration that extends all others */
-  main: string;
-  note(why: string): void;
+/** @param main the folder of the configuration that extends all others, which is `${configDir}` */
+function placeOf(folder: string, main: string, note: (why: string) => void) {
+  const filled = (path: string) => path.replace(CONFIG_DIR, () => `${main}/`);
+  return { folder, note, filled, at: (path: string) => absolute(folder, filled(path)) };
 }
+
+/** The folder of the file whose options are read, and what makes paths of the texts in it */
+type Place = ReturnType<typeof placeOf>;
 
 /** The shape that an option has, and what is read of one; nothing where it has another shape */
 type Reader = [shape: string, read: (value: unknown, place: Place) => unknown];
@@ -219,34 +192,30 @@ const READERS: Record<Exclude<keyof Options, "pathsFolder">, Reader> = {
   jsxImportSource: text((value) => value),
 };
 
-/** @param main the folder of the configuration that extends all others */
-function optionsOf(path: string, options: unknown = {}, main: string, notices: Notices): Extended["options"] {
-  const note = (why: string) => notices.add(path, why);
+function optionsOf(options: unknown = {}, place: Place): Extended["options"] {
   if (!isObject(options)) {
-    note(`"compilerOptions" must be an object`);
+    place.note(`"compilerOptions" must be an object`);
     return {};
   }
-  const folder = dirname(path);
-  const at = (each: string) => absolute(folder, withFolder(each, main));
   const own: Record<string, unknown> = {};
   for (const [name, [shape, read]] of Object.entries(READERS).filter(([each]) => Object.hasOwn(options, each))) {
-    const value = options[name] === null ? null : read(options[name], { at, main, note });
+    const value = options[name] === null ? null : read(options[name], place);
     if (value === undefined) {
-      note(`${JSON.stringify(name)} is ignored: not ${shape}`);
+      place.note(`${JSON.stringify(name)} is ignored: not ${shape}`);
     } else {
       own[name] = value;
     }
   }
-  return own.paths === undefined ? own : { ...own, pathsFolder: own.paths && folder };
+  return own.paths === undefined ? own : { ...own, pathsFolder: own.paths && place.folder };
 }
 
-function pathsOf(paths: unknown, { main, note }: Place): Map<string, string[]> | undefined {
+function pathsOf(paths: unknown, { filled, note }: Place): Map<string, string[]> | undefined {
   return isObject(paths) ? new Map(Object.entries(paths).flatMap(([pattern, targets]) => {
     const texts = Array.isArray(targets) ? textsOf(targets) : undefined;
     if (!texts) {
       note(`${JSON.stringify(pattern)} of "paths" is ignored: not a list of strings`);
     }
-    return texts ? [[pattern, texts.map((each) => withFolder(each, main))]] : [];
+    return texts ? [[pattern, texts.map(filled)]] : [];
   })) : undefined;
 }
 
@@ -256,16 +225,12 @@ function textsOf(value: unknown): string[] | undefined {
   return list.every((each): each is string => typeof each === "string") ? list : undefined;
 }
 
-/** @param main the folder of the configuration that extends all */
-function listsOf(members: Record<string, unknown>, folder: string, main: string): Lists {
+function listsOf(members: Record<string, unknown>, { at }: Place): Lists {
   return Object.fromEntries(["files", "include", "exclude"].flatMap((name) => {
     const texts = Array.isArray(members[name]) ? textsOf(members[name]) : undefined;
-    return texts ? [[name, texts.map((each) => absolute(folder, withFolder(each, main)))]] : [];
+    return texts ? [[name, texts.map(at)]] : [];
   }));
 }
-
-/** A path with a folder in the place of `${configDir}`. */
-const withFolder = (path: string, folder: string) => path.replace(CONFIG_DIR, () => `${folder}/`);
 
 /** Whether a configuration includes a file. */
 function includes({ files, include, exclude }: Configuration, file: string) {

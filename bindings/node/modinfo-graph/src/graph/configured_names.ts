@@ -7,10 +7,9 @@ import { isBuiltin } from "node:module";
 import { dirname, join, relative, sep } from "node:path";
 
 import { withoutEnding } from "../files/file_kinds.js";
-import { outDirsOf } from "./configurations.js";
+import { type Configuration, type Configurations, type Options, outDirsOf } from "./configurations.js";
 import { isPath, pathOf } from "./names.js";
 import { longestPattern } from "./package_targets.js";
-import type { Configuration, Configurations, Options } from "./configurations.js";
 import type { Configured, ImportMaps } from "./import_maps.js";
 import type { Format, PackageManifests } from "./package_manifests.js";
 
@@ -26,11 +25,9 @@ export class ConfiguredNames {
 
   /** What an import in a file becomes before it runs; nothing where it isn't known. */
   formatOf(file: string, isTypeScript: boolean): Format | undefined {
-    if (this.importMaps.of(file)?.isDeno) {
-      return "import";
-    }
-    const format = this.manifests.formatOf(file);
-    if (!isTypeScript) {
+    const isDeno = this.importMaps.of(file)?.isDeno;
+    const format = isDeno ? "import" : this.manifests.formatOf(file);
+    if (isDeno || !isTypeScript) {
       return format;
     }
     const { configuration } = this.configurations.of(file);
@@ -61,10 +58,9 @@ export class ConfiguredNames {
   private inNames(specifier: string, importer: string): string[] {
     const { options = {} } = this.configurations.of(importer).configuration ?? {};
     const { baseUrl, paths } = options;
-    if (!this.isBrowser && isBuiltin(specifier) && !paths?.has(specifier)) {
-      return [];
-    }
-    return [...inPaths(specifier, options), ...(baseUrl === undefined ? [] : [pathOf(specifier, baseUrl)])];
+    const isNode = !this.isBrowser && isBuiltin(specifier) && !paths?.has(specifier);
+    const inBase = baseUrl === undefined ? [] : [pathOf(specifier, baseUrl)];
+    return isNode ? [] : [...inPaths(specifier, options), ...inBase];
   }
 
   /** @returns the same for files of a folder of which each name leads to the same */

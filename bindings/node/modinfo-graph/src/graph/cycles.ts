@@ -1,26 +1,15 @@
-/** The cycles of a graph: sets of modules of which each leads to each other one. */
+/** What is reached, and the cycles of a graph: sets of modules of which each leads to each other one. */
 
-import { wayTo, ways } from "./reach.js";
 import { isRunKind } from "./references.js";
 
-export interface Cycle {
-  /** ascending */
-  modules: number[];
-  /**
-   * A shortest path from the first back to it, without its end; of a cycle that types close, one that has an edge
-   * of types.
-   */
-  path: number[];
-  /** Whether edges that run close it; else edges of types, JSDoc or references are needed */
-  isRun: boolean;
-}
+/**
+ * Modules, ascending, and a shortest path from the first back to it, without its end. Edges that run close the
+ * cycle; else edges of types, JSDoc or references, of which the path has one.
+ */
+export type Cycle = { modules: number[], path: number[], isRun: boolean };
 
 /** Between the indexes of two modules. */
-interface Edge {
-  from: number;
-  to: number;
-  kind: string;
-}
+type Edge = { from: number, to: number, kind: string };
 
 /**
  * The cycles of the edges that run; and with them those that need other edges, of which each has
@@ -33,9 +22,7 @@ export function cyclesOf(count: number, edges: Edge[]): Cycle[] {
   const run = components(runs);
   const groups = new Map(run.flatMap((modules, at) => modules.map((each) => [each, at] as const)));
   /** Whether a cycle of what runs has both. */
-  const isTogether = (one: number, other: number) => {
-    return groups.has(one) && groups.get(one) === groups.get(other);
-  };
+  const isTogether = (one: number, other: number) => groups.has(one) && groups.get(one) === groups.get(other);
   const others = next === runs ? [] : components(next).filter((modules) => {
     return modules.some((each) => !isTogether(modules[0], each));
   });
@@ -103,4 +90,26 @@ function leavingOrder(next: number[][]): number[] {
     }
   }
   return order;
+}
+
+/** All that some starts reach, the nearest first, each with the one that leads to it first; none for a start. */
+export function ways<Key>(starts: Iterable<Key>, next: (key: Key) => Key[]): Map<Key, Key | undefined> {
+  const before = new Map<Key, Key | undefined>();
+  for (const start of starts) {
+    before.set(start, undefined);
+  }
+  // What is added meanwhile follows.
+  for (const [key] of before) {
+    next(key).filter((to) => !before.has(to)).forEach((to) => before.set(to, key));
+  }
+  return before;
+}
+
+/** The keys from a start to a key that is reached. */
+export function wayTo<Key>(end: Key, before: Map<Key, Key | undefined>): Key[] {
+  const way = [];
+  for (let key: Key | undefined = end; key !== undefined; key = before.get(key)) {
+    way.push(key);
+  }
+  return way.reverse();
 }

@@ -1,38 +1,26 @@
 /** The modules with which a program begins, by what names them: a module, a page or a package. */
 
-import { dirname, extname, join, resolve as absolute } from "node:path";
+import { dirname, extname, join, relative, resolve as absolute } from "node:path";
 
 import { MODULE_ENDINGS, isComponent, isDeclaration, isModule } from "../files/file_kinds.js";
-import { isFile, isFolder } from "../files/find_files.js";
-import { readRegularFile } from "../files/regular_file.js";
+import { findFiles, isFile, isFolder } from "../files/find_files.js";
+import { readRegularFile } from "../files/regular_files.js";
+import { pathOfUrl, urlOfFolder } from "../files/urls.js";
+import { unlessThrown } from "../runtime/faults.js";
 import { looseImports } from "./loose_references.js";
 import { isPath, isRelative } from "./names.js";
-import { exportedFiles } from "./package_entries.js";
-import { isObject, textsIn } from "./package_targets.js";
+import { allTargets, bySubpath, exportsTarget, isObject, textsIn } from "./package_targets.js";
+import { NODE_CONDITIONS } from "./search.js";
 import type { Resolver } from "./resolver.js";
 
 /** A path that names no entry. The message is for people. */
 export class EntryFault extends Error {}
 
-interface EntryPoints {
-  /** paths */
-  files: string[];
-  /** What a package.json names that isn't there */
-  absent: string[];
-  /** The paths of scripts without an ending, which aren't parsed */
-  texts: string[];
-  perhaps: Perhaps[];
-}
+/** Paths of modules, what isn't there, and scripts without an ending, which aren't parsed. */
+type EntryPoints = Record<"files" | "absent" | "texts", string[]> & { perhaps: Perhaps[] };
 
-/** What a package.json names that may be reached */
-export interface Perhaps {
-  kind: "condition" | "text";
-  /** Of the file; without it the text may lead to some */
-  path?: string;
-  /** The path of the package.json, absolute */
-  from: string;
-  text: string;
-}
+/** What the package.json at `from` may lead to: the file at a path; without a path, what the text names. */
+export type Perhaps = { kind: "condition" | "text", path?: string, from: string, text: string };
 
 /** The members of a package.json that name modules, and of tools, whose files may be missing. */
 const MEMBERS = ["main", "module", "bin", "browser"];
@@ -56,14 +44,8 @@ const READERS = new Set([
   "stylelint", "rimraf", "rm", "cp", "mv", "git",
 ]);
 
-/**
- * The entries of modules, pages, and folders with a package.json, each file once.
- * @param conditions of `exports` besides node's
- * @throws {EntryFault} a folder names no entry that is there
- */
-export async function entryPoints(
-  paths: string[], conditions: readonly string[], resolver: Resolver,
-): Promise<EntryPoints> {
+/** The entries of modules, pages, and folders with a package.json, each once. @throws {EntryFault} */
+export async function entryPoints(paths: string[], conditions: readonly string[], resolver: Resolver) {
   const all: EntryPoints[] = [];
   for (const path of paths) {
     const found = { files: [path], absent: [], texts: [], perhaps: [] };
@@ -92,20 +74,16 @@ async function ofPackage(folder: string, conditions: readonly string[], resolver
     const what = found.absent.length > 0 ? `files not found: ${found.absent.join(", ")}` : "it names no module";
     throw new EntryFault(`${manifest}: ${what}`);
   }
-  exported.perhaps.forEach(({ path, text }) => {
-    found.perhaps.push({ kind: "condition", path: absolute(path), from, text });
-  });
   const forTools = Object.fromEntries(Object.entries(values).filter(([member]) => !NO_TEXTS.has(member)));
-  for (const text of textsIn(forTools).filter((each) => /[/*]/.test(each))) {
-    found.perhaps.push({ kind: "text", from, text });
-  }
-  return { ...found, absent: found.absent.map((name) => `${manifest}: ${name}`) };
+  const texts = textsIn(forTools).filter((text) => /[/*]/.test(text));
+  const perhaps: Perhaps[] = [
+    ...exported.perhaps.map((each) => ({ ...each, kind: "condition" as const, path: absolute(each.path), from })),
+    ...texts.map((text) => ({ kind: "text" as const, from, text })),
+  ];
+  return { ...found, absent: found.absent.map((name) => `${manifest}: ${name}`), perhaps };
 }
 
-/**
- * Adds the files that names lead to, and those that scripts without an ending among them import.
- * @param isOptional whether they may be missing
- */
+/** Adds the files that names lead to, and those that scripts without an ending among them import. */
 function follow(
   start: { from: string, names: string[] }, found: EntryPoints, resolver: Resolver, isOptional: boolean,
 ) {
@@ -152,22 +130,84 @@ function wordsOf(line: unknown): string[] {
   return words.filter((word) => isModule(word) || /^[\w.-]+\/[\w./-]*\w$/.test(word)).map(asPath);
 }
 
-function asPath(name: string) {
-  return isPath(name) ? name : `./${name}`;
-}
+const asPath = (name: string) => (isPath(name) ? name : `./${name}`);
 
 /** The relative names that a script imports, as far as they are known as a whole. */
 function importedBy(path: string): string[] {
-  try {
-    const imports = looseImports(String(readRegularFile(path)), "script").filter(({ kind }) => kind === "script");
-    return imports.flatMap(({ parts }) => (parts.length === 1 ? parts.join("") : [])).filter(isRelative);
-  } catch {
-    return [];
-  }
+  const text = unlessThrown(() => String(readRegularFile(path))) ?? "";
+  return looseImports(text, "script").filter(({ kind, parts }) => kind === "script" && parts.length === 1)
+    .map(({ parts }) => String(parts[0])).filter(isRelative);
 }
 
 /** The path of a module with one of the endings, or of an index of the folder. */
 function fileAt(path: string): string | undefined {
   return [path, join(path, "index")].flatMap((each) => ["", ...MODULE_ENDINGS].map((ending) => each + ending))
     .find(isFile);
+}
+
+/** The paths of those that node finds, the targets that aren't there, and what other conditions lead to */
+type Exported = { files: string[], absent: string[], perhaps: { path: string, text: string }[] };
+
+/** @param conditions besides node's */
+export async function exportedFiles(exports: unknown, folder: string, conditions: readonly string[]) {
+  const all: Exported = { files: [], absent: [], perhaps: [] };
+  for (const [subpath, target] of Object.entries(exports ? bySubpath(exports) : {})) {
+    const isThere = subpath.includes("*");
+    for (const match of isThere ? await matchesOf(target, folder) : [""]) {
+      const from = { subpath: subpath.replace("*", () => match), folder, conditions, isThere };
+      add(all, isThere ? exports : { [subpath]: target }, from);
+    }
+  }
+  if (all.files.length + all.absent.length === 0) {
+    // No condition of node's is among them.
+    all.files = all.perhaps.splice(0).map(({ path }) => path);
+  }
+  return all;
+}
+
+/** @param from.isThere whether only files that are there count */
+function add(
+  all: Exported, exports: unknown,
+  from: { subpath: string, folder: string, conditions: readonly string[], isThere: boolean },
+) {
+  const { subpath, folder, isThere } = from;
+  const url = urlOfFolder(absolute(folder));
+  const chosen = ["import", "require"].flatMap((mode) => {
+    const conditions = new Set([...NODE_CONDITIONS, ...from.conditions, mode]);
+    const target = exportsTarget(exports, subpath, { folder: url, conditions });
+    return target.kind === "file" ? target.url.href : [];
+  });
+  for (const target of allTargets(exports, subpath, url)) {
+    const own = pathOfUrl(target);
+    const text = `./${relative(absolute(folder), own ?? "")}`;
+    const path = join(folder, text);
+    const isMeant = own !== undefined && !isDeclaration(path) && (isModule(path) || !/\.\w+$/.test(path));
+    if (isMeant && chosen.includes(target.href)) {
+      (isFile(path) ? all.files : isThere ? [] : all.absent).push(isFile(path) ? path : text);
+    } else if (isMeant && isFile(path)) {
+      all.perhaps.push({ path, text });
+    }
+  }
+}
+
+/** @returns what the `*` of a pattern may stand for, by the files of a package */
+async function matchesOf(target: unknown, folder: string): Promise<Set<string>> {
+  const matches = new Set<string>();
+  for (const text of textsIn(target).filter((each) => each.includes("*"))) {
+    const base = join(folder, dirname(`${text.slice(0, text.indexOf("*"))}x`));
+    for await (const { path } of findFiles(isFolder(base) ? [base] : [], {})) {
+      const match = matchOf(text, `./${relative(folder, path)}`);
+      if (match !== undefined) {
+        matches.add(match);
+      }
+    }
+  }
+  return matches;
+}
+
+function matchOf(pattern: string, name: string): string | undefined {
+  const texts = pattern.split("*");
+  const length = (name.length - texts.join("").length) / (texts.length - 1);
+  const match = name.slice(texts[0].length, texts[0].length + length);
+  return length > 0 && texts.join(match) === name ? match : undefined;
 }

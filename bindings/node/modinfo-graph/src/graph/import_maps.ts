@@ -10,31 +10,20 @@ import { pathToFileURL } from "node:url";
 import { inherited, memoized } from "../files/by_folder.js";
 import { isPage } from "../files/file_kinds.js";
 import { pathOfUrl, urlFrom, urlOfFolder } from "../files/urls.js";
-import { parseWithComments } from "./json_with_comments.js";
-import { Notices, firstIn, membersAt } from "./members.js";
+import { Notices, firstIn, membersAt, parseWithComments } from "./members.js";
 import { isPath } from "./names.js";
 import { isObject } from "./package_targets.js";
 import { scriptsOf } from "./scripts.js";
 import type { RegularFiles } from "../files/regular_files.js";
 
-/** Where a name leads by a configuration. */
-export interface Configured {
-  by: "tsconfig" | "importmap";
-  /** At which the module may be, without what is added to names */
-  paths: string[];
-  /** Another name for it, which no path is */
-  name?: string;
-}
+/** Where a name leads by a configuration: paths without what is added to names, or another name. */
+export type Configured = { by: "tsconfig" | "importmap", paths: string[], name?: string };
 
 /** By keys, each a URL, or a name where it is none */
 type Targets = Map<string, string>;
 
-interface ImportMap {
-  isDeno: boolean;
-  imports: Targets;
-  /** The longest first */
-  scopes: [scope: string, imports: Targets][];
-}
+/** The longest scopes are the first. */
+type ImportMap = { isDeno: boolean, imports: Targets, scopes: [scope: string, imports: Targets][] };
 
 const NAMES = ["deno.json", "deno.jsonc"];
 const REGISTRY = /^(?:jsr|npm):/;
@@ -73,9 +62,9 @@ export class ImportMaps {
 
   /** The import maps of the pages in a folder, as one. */
   private mapOfPages(folder: string): ImportMap | undefined {
-    const pages = this.files.filesIn(folder).filter(isPage).map((name) => join(folder, name));
-    const maps = pages.flatMap((path) => this.mapsOfPage(path));
-    return maps.length === 0 ? undefined : maps.reduce(withAbove);
+    const pages = this.files.namesIn(folder, "file").filter(isPage);
+    const [first, ...others] = pages.flatMap((name) => this.mapsOfPage(join(folder, name)));
+    return first && others.reduce(withAbove, first);
   }
 
   private mapsOfPage(path: string): ImportMap[] {
@@ -96,10 +85,8 @@ export class ImportMaps {
     const isFile = typeof importMap === "string" && urlFrom(importMap) === undefined;
     const mapPath = isFile ? join(dirname(path), importMap) : path;
     const map = this.mapOf(isFile ? this.membersOf(mapPath) : members, mapPath);
-    const folders = Array.isArray(workspace) ? workspace : [];
-    for (const folder of folders.filter((each) => typeof each === "string")) {
-      this.addMember(map, join(dirname(path), folder));
-    }
+    const folders = Array.isArray(workspace) ? workspace.filter((each) => typeof each === "string") : [];
+    folders.forEach((folder) => this.addMember(map, join(dirname(path), folder)));
     return map;
   }
 
@@ -107,12 +94,9 @@ export class ImportMaps {
   private addMember(map: ImportMap, folder: string) {
     const path = firstIn(folder, NAMES, this.files);
     const { name, exports }: Record<string, unknown> = path ? this.membersOf(path) : {};
-    if (typeof name !== "string") {
-      return;
-    }
     for (const [subpath, target] of Object.entries(isObject(exports) ? exports : { ".": exports })) {
       const url = typeof target === "string" ? urlOf(target, urlOfFolder(folder)) : undefined;
-      if (url !== undefined) {
+      if (typeof name === "string" && url !== undefined) {
         map.imports.set(join(name, subpath), url);
       }
     }
@@ -179,22 +163,15 @@ function urlOf(specifier: string, base: URL): string | undefined {
  * and that the name begins with. A name of `jsr:` or `npm:` has what is below it too.
  */
 function targetIn(imports: Targets, name: string): string | undefined {
-  const exact = imports.get(name);
-  if (exact !== undefined) {
-    return exact;
-  }
   const found = [...imports].filter(([key, target]) => {
     return (key.endsWith("/") && name.startsWith(key)) || (REGISTRY.test(target) && name.startsWith(`${key}/`));
   });
   const [best] = found.sort(([one], [other]) => other.length - one.length);
-  return best && best[1] + name.slice(best[0].length);
+  return imports.get(name) ?? (best && best[1] + name.slice(best[0].length));
 }
 
 function configuredBy(target: string): Configured {
-  if (!target.startsWith("file:")) {
-    return { by: "importmap", paths: [], name: target };
-  }
-  const url = urlFrom(target);
-  const path = url && pathOfUrl(url);
-  return { by: "importmap", paths: path === undefined ? [] : [path] };
+  const url = target.startsWith("file:") ? urlFrom(target) : undefined;
+  const paths = [url && pathOfUrl(url)].flatMap((path) => path ?? []);
+  return { by: "importmap", paths, ...(!target.startsWith("file:") && { name: target }) };
 }

@@ -1,31 +1,27 @@
 /** A graph of modules, and what can be asked of it. */
 
+import { fileURLToPath } from "node:url";
+
 import { memoized } from "../files/by_folder.js";
+import { pathMatcher } from "../files/exclusions.js";
 import { isDeclaration, isPage, isTypeScript } from "../files/file_kinds.js";
-import { cyclesOf } from "./cycles.js";
+import { GlobFault, globMatcher } from "../files/globs.js";
+import { cyclesOf, wayTo, ways } from "./cycles.js";
 import { isAlias, isPath } from "./names.js";
-import { wayTo, ways } from "./reach.js";
-import { counts, edgesOf } from "./references.js";
+import { type Counted, counts, edgesOf } from "./references.js";
 import type { Cycle, Edge, Ends, GraphModule, Mention, Reference, Step } from "./graph.cjs";
-import type { Counted } from "./references.js";
 
 export class ModuleGraph {
-  #counted;
-  #modules;
-
-  /** @param modules in their order, by their specifiers */
-  constructor(counted: Counted, modules: Map<string, GraphModule>) {
-    this.#counted = counted;
-    this.#modules = modules;
-  }
+  /** @param byKey modules in their order, by their specifiers */
+  constructor(private readonly counted: Counted, private readonly byKey: Map<string, GraphModule>) {}
 
   /** Whether edges of types count. */
   get hasTypes() {
-    return this.#counted.types ?? false;
+    return this.counted.types ?? false;
   }
 
   get modules(): GraphModule[] {
-    return [...this.#modules.values()];
+    return [...this.byKey.values()];
   }
 
   /** Without those that are excluded. */
@@ -34,40 +30,33 @@ export class ModuleGraph {
   }
 
   module(key: string): GraphModule | undefined {
-    return this.#modules.get(key);
+    return this.byKey.get(key);
   }
 
   /** @returns of the same modules, in which edges of types count too */
   withTypes(): ModuleGraph {
-    return new ModuleGraph({ ...this.#counted, types: true }, this.#modules);
+    return new ModuleGraph({ ...this.counted, types: true }, this.byKey);
   }
 
   /** The edges that count, of one module. */
   readonly edgesFrom = memoized((key: string): Edge[] => {
-    return edgesOf(key, this.#modules.get(key)?.references ?? []).filter((each) => counts(each, this.#counted));
+    return edgesOf(key, this.module(key)?.references ?? []).filter((each) => counts(each, this.counted));
   });
 
   /** The modules that are in use where one is: those that it leads to, and the one that it was compiled from. */
-  #leadsFrom(key: string): string[] {
-    const { source } = this.#modules.get(key) ?? {};
-    const all = this.edgesFrom(key).map(({ to }) => to);
-    return source === undefined ? all : [...all, source];
+  private leadsFrom(key: string): string[] {
+    return [...this.edgesFrom(key).map(({ to }) => to), this.module(key)?.source ?? []].flat();
   }
 
   /** The keys of the modules that entries reach. */
   reached(entries: string[]): Set<string> {
-    const isModule = (key: string) => this.#modules.has(key);
-    return new Set(ways(entries.filter(isModule), (key) => this.#leadsFrom(key).filter(isModule)).keys());
+    const isModule = (key: string) => this.byKey.has(key);
+    return new Set(ways(entries.filter(isModule), (key) => this.leadsFrom(key).filter(isModule)).keys());
   }
 
-  /** A shortest chain of imports from one of the entries to a file; none where no entry reaches it. */
-  chain(entries: string[], target: string): Step[] {
-    return this.chains(entries)(target);
-  }
-
-  /** Like `chain`, for many targets. */
+  /** Returns what finds a shortest chain of imports from one of the entries to a file, which may be empty. */
   chains(entries: string[]): (target: string) => Step[] {
-    const before = ways(entries, (key) => this.#leadsFrom(key));
+    const before = ways(entries, (key) => this.leadsFrom(key));
     return (target) => (before.has(target) ? wayTo(target, before) : []).map((module, at, way) => {
       const from = way[at - 1];
       const edge = at === 0 ? undefined : this.edgesFrom(from).find(({ to }) => to === module);
@@ -88,17 +77,14 @@ export class ModuleGraph {
 
   /** The references in JavaScript that other rules than node's find. */
   foundByOthers(): Mention[] {
-    return this.mentions(({ resolved }, module) => {
-      return ((resolved as Ends).by ?? "node") !== "node" && !isTypeScript(module);
-    });
+    const isOther = ({ by = "node" }: Ends) => by !== "node";
+    return this.mentions(({ resolved }, module) => isOther(resolved as Ends) && !isTypeScript(module));
   }
 
   /** The references that count, of some modules: of those that are listed, where none are given. */
-  mentions(
-    isMeant: (reference: Reference, module: string) => boolean, modules: GraphModule[] = this.listed,
-  ): Mention[] {
+  mentions(isMeant: (reference: Reference, module: string) => boolean, modules: GraphModule[] = this.listed) {
     return modules.flatMap(({ specifier: module, references }) => {
-      return references.filter((each) => counts(each, this.#counted) && isMeant(each, module))
+      return references.filter((each) => counts(each, this.counted) && isMeant(each, module))
         .map((reference) => ({ module, reference }));
     });
   }
@@ -130,7 +116,7 @@ export class ModuleGraph {
     const all: { cycles: Cycle[], typeCycles: Cycle[] } = { cycles: [], typeCycles: [] };
     for (const { isRun, ...found } of cyclesOf(keys.length, edges)) {
       const [modules, path] = [found.modules, found.path].map((each) => each.map((index) => keys[index]));
-      const isOfTypes = isRun && this.#isPerhapsOfTypes(modules);
+      const isOfTypes = isRun && this.isPerhapsOfTypes(modules);
       all[isRun ? "cycles" : "typeCycles"].push({ modules, path, ...(isOfTypes && { perhapsOfTypes: true }) });
     }
     return all;
@@ -140,41 +126,75 @@ export class ModuleGraph {
    * Whether a cycle of what runs may be none: a compiler removes an import of TypeScript whose names are all
    * types, which a `ModuleInfo` doesn't have.
    */
-  #isPerhapsOfTypes(modules: string[]): boolean {
+  private isPerhapsOfTypes(modules: string[]): boolean {
     const inside = new Set<string | undefined>(modules);
     const isRemovable = ({ kind, sideEffect, resolved }: Reference) => {
       return kind === "static" && !sideEffect && inside.has((resolved as Ends).file);
     };
     return modules.some((key) => isTypeScript(key) && !isDeclaration(key) &&
-      this.#modules.get(key)?.references.some(isRemovable));
+      this.module(key)?.references.some(isRemovable));
   }
 
   /** The edges between modules of the graph. */
   edges(): Edge[] {
-    return [...this.#modules.keys()].flatMap((key) => {
-      return this.edgesFrom(key).filter(({ to }) => this.#modules.has(to));
-    });
+    return [...this.byKey.keys()].flatMap((key) => this.edgesFrom(key)).filter(({ to }) => this.byKey.has(to));
   }
 
   /** The first reference that makes an edge that counts. */
   mentionOf({ from, to }: Edge): Mention {
-    const { references } = this.#modules.get(from) as GraphModule;
+    const { references } = this.module(from) as GraphModule;
     const leads = (each: Reference) => {
       const { file, types } = each.resolved as Ends;
-      return counts(each, this.#counted) && (file === to || types === to);
+      return counts(each, this.counted) && (file === to || types === to);
     };
     return { module: from, reference: references.find(leads) as Reference };
   }
 }
 
 /** Whether a reference by a bundler's alias leads to no file. */
-function isOfAlias({ specifier = "", resolved }: Reference): boolean {
-  const isFound = "file" in resolved || "types" in resolved;
-  return !isFound && ["missing", "package", "url"].includes(resolved.class) && isAlias(specifier);
+function isOfAlias(reference: Reference): boolean {
+  return (isMissing(reference) || reference.resolved.class === "url") && isAlias(reference.specifier ?? "");
 }
 
 /** Whether nothing is found for a reference whose text is known. */
 function isMissing({ resolved }: Reference): boolean {
-  return resolved.class === "missing" ||
-    (resolved.class === "package" && resolved.file === undefined && resolved.types === undefined);
+  const { class: name, file, types } = resolved as Ends;
+  return name === "missing" || (name === "package" && (file ?? types) === undefined);
+}
+
+/** `to` is a file's URL, or a package's name; `way` a shortest one from an entry to it, or from the module. */
+type Forbidden = { rule: string, mention: Mention, to: string, way: string[] };
+
+/** Rules are "FROM:TO", of which both are globs, the second one perhaps of packages' names. @throws {GlobFault} */
+export function forbiddenEdges(graph: ModuleGraph, entries: string[], rules: string[]): Forbidden[] {
+  const chainTo = graph.chains(entries);
+  return rules.flatMap((rule) => {
+    const { isFrom, targetOf } = readRule(rule);
+    const found = graph.mentions((each, module) => isFrom(module) && targetOf(each) !== undefined);
+    return found.map((mention) => {
+      const to = targetOf(mention.reference) as string;
+      const before = chainTo(mention.module).map(({ module }) => module);
+      return { rule, mention, to, way: [...(before.length > 0 ? before : [mention.module]), to] };
+    });
+  });
+}
+
+function readRule(rule: string) {
+  const [from, ...rest] = rule.split(":");
+  const to = rest.join(":").replace(/^node:/, "");
+  if (from === "" || to === "") {
+    throw new GlobFault(`${rule}: a rule is FROM:TO, two globs`);
+  }
+  const [isFrom, isTo] = [from, to].map((glob) => {
+    const matches = pathMatcher([glob]);
+    return (url: string) => matches(fileURLToPath(url));
+  });
+  const isName = globMatcher(to);
+  /** @returns what is forbidden */
+  const targetOf = ({ specifier = "", resolved }: Reference): string | undefined => {
+    const { class: kind, file, types, package: installed } = resolved as Ends;
+    const name = kind === "builtin" ? specifier.replace(/^node:/, "") : installed;
+    return name !== undefined && isName(name) ? name : [file, types].find((url) => url !== undefined && isTo(url));
+  };
+  return { isFrom, targetOf };
 }

@@ -1,19 +1,21 @@
-/** Which files the names in a text lead to, among those that are looked for. */
+/**
+ * Which files the names in a text lead to, among those that are looked for. Of a name only some parts may be
+ * known. More files than those that a bundler would take are no error: a match is a reason to look, and no
+ * proof.
+ */
 
-import { dirname, join } from "node:path";
+import { basename, dirname, join, relative, resolve as absolute } from "node:path";
 
-import { isPage } from "../files/file_kinds.js";
-import { plainGlob } from "./literals.js";
+import { compiledPath, isModule, isPage, withoutEnding } from "../files/file_kinds.js";
+import { globMatcher } from "../files/globs.js";
+import { unlessThrown } from "../runtime/faults.js";
+import { PLATFORMS } from "./bundler_rules.js";
+import { type LooseReference, type Parts, plainGlob } from "./loose_references.js";
 import { isPath, isRelative, tailOf } from "./names.js";
-import type { LooseReference, Parts } from "./literals.js";
-import type { Candidates } from "./name_patterns.js";
 import type { Resolver } from "./resolver.js";
 
 /** The files that are looked for, and what finds them by the rules of node. */
-interface Among {
-  candidates: Candidates;
-  resolver: Resolver;
-}
+export type Among = { candidates: Candidates, resolver: Resolver };
 
 /** What jest writes for the folder of its configuration. */
 const ROOT_DIR = /^<rootDir>\//;
@@ -21,10 +23,7 @@ const ROOT_DIR = /^<rootDir>\//;
 /** The folders that a server may have for its root, in the folder of a package. */
 const SERVED = ["", "public", "static"];
 
-/**
- * The files that a string literal, a call or a tag names.
- * @param from the path of the file that has it
- */
+/** The files that a string literal, a call or a tag in the file at a path names. */
 export function filesNamed(from: string, { kind, parts, form, isFile }: LooseReference, among: Among): string[] {
   const { candidates, resolver } = among;
   const [name = "", ...others] = parts;
@@ -81,10 +80,7 @@ function fileOf(name: string, folders: string[], { candidates, resolver }: Among
   return files.find((each) => each.length > 0) ?? [];
 }
 
-/**
- * What a name of AMD leads to: from a folder, or from one above up to the root.
- * @param written perhaps with the name of a plugin before
- */
+/** What a name of AMD, perhaps after that of a plugin, leads to from a folder, or one above up to the root. */
 function ofAmd(written: string, folder: string, among: Among, root: string): string[] {
   const name = written.slice(written.lastIndexOf("!") + 1);
   const found = among.candidates.named(name, folder);
@@ -97,4 +93,115 @@ function atFolder([first, ...others]: Parts, isFile: boolean = false): Parts {
   const isSlashed = first?.startsWith("/");
   const before = isSlashed ? "." : isFile && first !== undefined && !isRelative(first) ? "./" : "";
   return [first === undefined ? first : before + first, ...others];
+}
+
+/** Files to look for names in. */
+export class Candidates {
+  private readonly byStem;
+  /** By the last name of their path, without an ending, and by that of their folder for an `index`. */
+  private readonly byName;
+
+  /** @param paths absolute */
+  constructor(private readonly paths: string[]) {
+    this.byStem = grouped(paths, (path) => [withoutEnding(path)]);
+    this.byName = grouped(paths, (path) => endsOf(path).map((each) => basename(each)));
+  }
+
+  /** The files whose paths end as a name does, which has no slash at its beginning. */
+  ending(tail: string): string[] {
+    const end = `/${withoutEnding(withoutSuffix(tail)).replace(/\/+$/, "")}`;
+    const named = this.byName.get(basename(end)) ?? [];
+    return named.filter((path) => endsOf(path).some((each) => each.endsWith(end)));
+  }
+
+  /** The files of one platform each, by the path of the one for others, with or without an ending. */
+  ofPlatforms(path: string): string[] {
+    return PLATFORMS.flatMap((platform) => this.byStem.get(withoutEnding(path) + platform) ?? []);
+  }
+
+  /** The files that a name may be, from an absolute folder: with another ending or none, or an `index`. */
+  named(name: string, folder: string): string[] {
+    const path = absolute(folder, withoutSuffix(name));
+    const found = [withoutEnding(path), path, join(path, "index")].flatMap((stem) => this.byStem.get(stem) ?? []);
+    return found.includes(path) ? [path] : [...new Set(found)];
+  }
+
+  /** The files that the known parts of a name match, from an absolute folder; none where too little is known. */
+  matching(parts: (string | undefined)[], folder: string): string[] {
+    const pattern = patternOf(parts, folder);
+    return pattern ? this.paths.filter((path) => spellingsOf(path).some((each) => fits(each, pattern))) : [];
+  }
+
+  /** The files of a folder and of those in it. */
+  below(name: string, folder: string): string[] {
+    const start = `${absolute(folder, name)}/`.replace(/\/+$/, "/");
+    return this.paths.filter((path) => path.startsWith(start));
+  }
+
+  /** The files that a glob matches; none where the glob can't be read. */
+  globbed(glob: string, folder: string): string[] {
+    const [ups] = /^(?:\.{1,2}\/)*/.exec(glob) ?? [""];
+    const base = absolute(folder, ups);
+    const matches = unlessThrown(() => globMatcher(`./${glob.slice(ups.length).replace(/^\//, "")}`));
+    return this.paths.filter((path) => matches?.(relative(base, path)));
+  }
+}
+
+function grouped(paths: string[], keysOf: (path: string) => string[]): Map<string, string[]> {
+  const found = new Map<string, string[]>();
+  for (const [key, path] of paths.flatMap((each) => keysOf(each).map((key) => [key, each]))) {
+    const known = found.get(key) ?? [];
+    known.push(path);
+    found.set(key, known);
+  }
+  return found;
+}
+
+/** @returns the path without its ending, and its folder where it is an `index` */
+function endsOf(path: string): string[] {
+  const stem = withoutEnding(path);
+  return basename(stem) === "index" ? [stem, dirname(stem)] : [stem];
+}
+
+const withoutSuffix = (name: string) => name.replace(/[?#].*$/s, "");
+
+/** The names of a file in imports: its path, that of its JavaScript, without its ending, and its folder's. */
+const spellingsOf = (path: string) => [path, compiledPath(path) ?? [], endsOf(path)].flat();
+
+/** @returns texts between which anything may be; nothing where too little is known */
+function patternOf(parts: (string | undefined)[], folder: string): string[] | undefined {
+  const texts = [""];
+  for (const part of parts) {
+    texts.push(part === undefined ? "" : texts.pop() + part);
+  }
+  texts.push(withoutSuffix(String(texts.pop())));
+  const [first, ...others] = texts;
+  if (/^\.{1,2}\//.test(first)) {
+    return [join(folder, first), ...others];
+  }
+  // Of a name that a configuration replaces at its beginning, what follows the first slash is in the path.
+  const rest = first.includes("/") ? first.slice(first.indexOf("/")) : "";
+  const isKnown = [rest, ...others].some((text) => /[\p{L}\p{N}_$]/u.test(withoutEnding(text)));
+  // Of a name with an ending alone a bundler takes the files below the folder.
+  const isEnded = first === "" && isModule(`a${texts[texts.length - 1]}`);
+  const all = [!isKnown && isEnded ? join(folder, "/") : "", rest, ...others];
+  const needed = all.filter((each, at) => each !== "" || at === 0 || at === all.length - 1);
+  return isKnown || isEnded ? needed : undefined;
+}
+
+/** Whether a text has those of a pattern in their order, the first at its beginning and the last at its end. */
+function fits(text: string, [first, ...others]: string[]): boolean {
+  const last = others.pop();
+  if (last === undefined || !text.startsWith(first) || !text.endsWith(last)) {
+    return text === first && last === undefined;
+  }
+  let end = first.length;
+  for (const each of others) {
+    const at = text.indexOf(each, end);
+    if (at < 0) {
+      return false;
+    }
+    end = at + each.length;
+  }
+  return end <= text.length - last.length;
 }

@@ -40,14 +40,14 @@ export function pathOf(name: string, folder: string): string {
 /** `rest` is nothing, or a path that begins with a slash */
 export type PackageName = { name: string, rest: string };
 
-/**
- * The package in which a name is looked for that is no path, no URL, and none of `imports`.
- * @returns nothing where no package can have the name
- */
+/** The package of a name that is no path, no URL, and none of `imports`; nothing where none can have the name. */
 export function packageName(specifier: string): PackageName | undefined {
   const [, name = "", rest = ""] = PACKAGE.exec(specifier) ?? [];
   return name === "" || NO_PACKAGE.test(name) ? undefined : { name, rest };
 }
+
+/** The package that has the types of another one. */
+export const typesOf = (name: string): string => `@types/${name.replace(/^@/, "").replace("/", "__")}`;
 
 /** @returns like `packageName`; nothing for a path, a URL, and a name of `imports` */
 export function packageOf(specifier: string): PackageName | undefined {

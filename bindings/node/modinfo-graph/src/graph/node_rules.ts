@@ -25,15 +25,8 @@ export type Found = { kind: "file" | "outside", path: string }
   | { kind: "url", url: string }
   | Missing;
 
-export interface Missing {
-  kind: "none";
-  /** The path at which nothing is, where the rules lead to one */
-  wanted?: string;
-  /** The folder of the package that was looked in */
-  package?: string;
-  /** Whether other folders of packages don't count */
-  isFinal?: boolean;
-}
+/** Nothing is at the path `wanted`, or in the folder `package`; with `isFinal` other folders don't count. */
+export type Missing = { kind: "none", wanted?: string, package?: string, isFinal?: boolean };
 
 /** What a `require` adds to a name. */
 const ENDINGS = [".js", ".json", ".node"];
@@ -50,7 +43,7 @@ const REQUIRED = /^((?:@[^/\\%]+\/)?[^./\\%][^/\\%]*)(\/.*)?$/s;
 
 const ENCODED_SEPARATOR = /%2f|%5c/i;
 
-const NONE: Missing = { kind: "none" };
+export const NONE: Missing = { kind: "none" };
 
 const TARGETS = { exports: exportsTarget, imports: importsTarget };
 
@@ -72,10 +65,7 @@ export class NodeRules {
     }
     const hasPath = isPath(specifier);
     const url = urlFrom(specifier, hasPath ? pathToFileURL(importer) : undefined);
-    if (url) {
-      return this.atUrl(url);
-    }
-    return hasPath ? NONE : this.named(specifier, folder, "import");
+    return url ? this.atUrl(url) : hasPath ? NONE : this.named(specifier, folder, "import");
   }
 
   /** What `require("specifier")` loads, in the file of a path without links. */
@@ -117,11 +107,9 @@ export class NodeRules {
   }
 
   private atUrl(url: URL): Found {
-    if (url.protocol === "node:") {
-      return isBuiltin(url.href) ? { kind: "builtin" } : NONE;
-    }
-    if (url.protocol !== "file:") {
-      return { kind: "url", url: url.href };
+    const { protocol, href } = url;
+    if (protocol !== "file:") {
+      return protocol !== "node:" ? { kind: "url", url: href } : isBuiltin(href) ? { kind: "builtin" } : NONE;
     }
     const path = pathAt(url);
     return !path || path.endsWith("/") ? NONE : fileAt(absolute(path), this.files);
@@ -147,15 +135,12 @@ export class NodeRules {
       return { kind: "builtin" };
     }
     const named = packageName(specifier);
-    if (!named) {
-      return NONE;
-    }
     const scope = this.manifests.scopeOf(folder);
-    if (scope?.exports !== undefined && scope.name === named.name) {
+    if (named && scope?.exports !== undefined && scope.name === named.name) {
       return this.byMember("exports", `.${named.rest}`, scope, mode);
     }
-    const own = this.packages.nearest(named.name, folder);
-    return own === undefined ? NONE : this.ofPackage(own, named.rest, mode);
+    const own = named && this.packages.nearest(named.name, folder);
+    return own === undefined ? NONE : this.ofPackage(own, named?.rest ?? "", mode);
   }
 
   /** The main module of a package without `exports`, for an import. */

@@ -1,29 +1,30 @@
-/** The package.json of folders, as far as they decide what names lead to. */
+/** The package.json of folders, as far as they decide what names lead to, and the projects of folders. */
 
-import { basename, dirname, extname } from "node:path";
+import { basename, dirname, extname, join } from "node:path";
 
-import { memoized, nearest } from "../files/by_folder.js";
+import { inherited, memoized, nearest } from "../files/by_folder.js";
 import { Notices, firstIn, membersAt } from "./members.js";
+import { isObject } from "./package_targets.js";
 import type { RegularFiles } from "../files/regular_files.js";
 
 export type Format = "import" | "require";
 
-export interface Manifest {
-  /** Without links, where the folder's path has none */
+/** The package.json at a path, with all its members; neither `exports` nor `imports` is null. */
+export interface Manifest extends Partial<Record<"name" | "main" | "type", string>> {
   folder: string;
-  /** Of the file */
   path: string;
-  name?: string;
-  main?: string;
-  type?: string;
-  /** Neither it nor `imports` is null */
   exports?: unknown;
   imports?: unknown;
-  /** All of them */
   members: Record<string, unknown>;
 }
 
 const MAX_NOTICES = 10;
+
+/** The packages in some lists of a package.json. */
+export function packagesIn({ members = {} }: Partial<Manifest> = {}, lists: string[]): string[] {
+  const found = lists.map((list) => (Object.hasOwn(members, list) ? members[list] : undefined));
+  return found.filter(isObject).flatMap((each) => Object.keys(each));
+}
 
 const BY_EXTENSION: Record<string, Format> = {
   ".mjs": "import", ".mts": "import", ".cjs": "require", ".cts": "require",
@@ -66,4 +67,27 @@ export class PackageManifests {
       name: text("name"), main: text("main"), type: text("type"), exports: own("exports"), imports: own("imports"),
     };
   }
+}
+
+/** What the folder of a project may have; that of a repository is never passed. */
+const MARKS = ["package.json", "deno.json", "deno.jsonc", "tsconfig.json", "jsconfig.json", "pnpm-workspace.yaml"];
+const REPOSITORY = [".git", ".hg"];
+const PACKAGES = ["node_modules"];
+
+/** The folder of a project, and whether no more of it may be above that folder */
+export type Project = { project?: string, isWhole: boolean };
+
+/**
+ * The folder of the repository that a folder is in; else the uppermost one with a package.json or a
+ * configuration; else the nearest one with packages, above which more of the project may be.
+ */
+export function projectsOf(files: RegularFiles): (folder: string) => Project {
+  return inherited<Project>((project, above = { isWhole: false }) => {
+    const has = (names: string[]) => names.some((name) => files.at(join(project, name)).kind !== "none");
+    if (has(REPOSITORY)) {
+      return { project, isWhole: true };
+    }
+    const isMarked = !above.isWhole && has(MARKS);
+    return isMarked || (!above.isWhole && has(PACKAGES)) ? { project, isWhole: isMarked } : above;
+  });
 }

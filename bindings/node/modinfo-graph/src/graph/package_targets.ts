@@ -62,26 +62,15 @@ function targetIn(
   return targetOf(target, { match, isImport: member === "imports", depth: 0 }, context) ?? NONE;
 }
 
-/**
- * The files that a key of `exports` leads to, whatever conditions hold, but for types.
- * @param folder of the package, with a slash at the end
- */
-export function allExports(exports: unknown, subpath: string, folder: URL): URL[] {
-  return allOf(bySubpath(exports), subpath, false, folder);
-}
-
-/** Like `allExports`, for a key of `imports`. */
-export function allImports(imports: unknown, name: string, folder: URL): URL[] {
-  return allOf(isObject(imports) ? imports : {}, name, true, folder);
-}
-
 /** @returns targets by `.` and subpaths */
 export function bySubpath(exports: unknown): Record<string, unknown> {
   const isMap = isObject(exports) && Object.keys(exports).some((key) => key.startsWith("."));
   return isMap ? exports : { ".": exports };
 }
 
-function allOf(targets: Record<string, unknown>, name: string, isImport: boolean, folder: URL): URL[] {
+/** The files that a key of `exports` or `imports` leads to, whatever conditions hold, but for types. */
+export function allTargets(member: unknown, name: string, folder: URL, isImport: boolean = false): URL[] {
+  const targets = isImport ? (isObject(member) ? member : {}) : bySubpath(member);
   const { target, match } = chosen(targets, name, true);
   return textsIn(target).flatMap((text) => {
     const found = targetOfText(text, { match, isImport, depth: 0 }, { folder, conditions: new Set() });
@@ -103,9 +92,7 @@ export function textsIn(value: unknown): string[] {
 }
 
 /** The target of a key: of one that is the name itself, else of the longest pattern for it; null for none. */
-function chosen(
-  targets: Record<string, unknown>, name: string, isExact: boolean,
-): { target: unknown, match?: string } {
+function chosen(targets: Record<string, unknown>, name: string, isExact: boolean) {
   const isKey = isExact && Object.hasOwn(targets, name);
   const best = isKey ? { key: name, match: undefined } : longestPattern(Object.keys(targets), name);
   return { target: best ? targets[best.key] : null, match: best?.match };

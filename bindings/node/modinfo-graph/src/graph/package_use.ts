@@ -1,32 +1,30 @@
-/** Packages that modules import and no package.json lists, and packages that one lists and nothing imports. */
+/**
+ * Packages that modules import and no package.json lists, and packages that one lists and nothing imports.
+ * Something else than an import may name these: a search in texts is not exact, and a wrong reason costs a
+ * look, a missing one a package.
+ */
 
-import { dirname, resolve as absolute } from "node:path";
+import { basename, dirname, join, resolve as absolute } from "node:path";
 import { fileURLToPath } from "node:url";
 
 import { memoized } from "../files/by_folder.js";
-import { RegularFiles } from "../files/regular_files.js";
+import { globalFolders } from "../files/file_kinds.js";
+import { RegularFiles, readRegularFile } from "../files/regular_files.js";
 import { urlOfPath } from "../files/urls.js";
-import { packageOf } from "./names.js";
-import { PackageManifests } from "./package_manifests.js";
-import { packageReasons, packagesIn, typesOf } from "./package_reasons.js";
-import { projectsOf } from "./projects.js";
-import type { Ends, Mention, Reference } from "./graph.cjs";
+import { unlessThrown } from "../runtime/faults.js";
+import { packageOf, typesOf } from "./names.js";
+import { PackageFolders } from "./package_folders.js";
+import { type Manifest, PackageManifests, packagesIn, projectsOf } from "./package_manifests.js";
+import { isObject } from "./package_targets.js";
+import type { Ends, GraphModule, Mention, Reference } from "./graph.cjs";
 import type { ModuleGraph } from "./module_graph.js";
-import type { Manifest } from "./package_manifests.js";
-import type { PackageReason } from "./package_reasons.js";
 
 /** `manifest` is the URL of the nearest package.json, `by` has a reference of each file */
-export type Unlisted = { package: string, manifest?: string, by: Mention[] };
+type Unlisted = { package: string, manifest?: string, by: Mention[] };
 
-export type Unused = { package: string, manifest: string, list: string };
+type Unused = { package: string, manifest: string, list: string };
 
-export type MayBeUsed = Unused & { reason: PackageReason };
-
-interface PackageUse {
-  unlisted: Unlisted[];
-  unused: Unused[];
-  mayBeUsed: MayBeUsed[];
-}
+type PackageUse = { unlisted: Unlisted[], unused: Unused[], mayBeUsed: (Unused & { reason: PackageReason })[] };
 
 /** The members of a package.json that list packages which its modules may import; the last are never unused. */
 const LISTS = ["dependencies", "devDependencies", "peerDependencies", "optionalDependencies"];
@@ -34,10 +32,7 @@ const MAY_BE_UNUSED = LISTS.slice(0, 3);
 
 const INSTALLED = /^.*\/node_modules\/((?:@[^/]+\/)?[^/]+)\//s;
 
-/**
- * @param project the paths of files that aren't parsed, and those that were
- *   named: a package.json counts that is in one of them, or is the nearest of a module
- */
+/** A package.json counts that is in one of the named paths, or is the nearest of a module. */
 export function packageUse(graph: ModuleGraph, project: { pages: string[], paths: string[] }): PackageUse {
   const lists = listings();
   const found: PackageUse = { unlisted: unlistedIn(graph, lists), unused: [], mayBeUsed: [] };
@@ -112,10 +107,7 @@ function unlistedIn(graph: ModuleGraph, lists: Listings): Unlisted[] {
   return [...found.values()];
 }
 
-/**
- * The package that a module needs, or the built-in module whose name a package may have.
- * @param path of the module
- */
+/** The package that the module at a path needs, or the built-in module whose name a package may have. */
 function packageNamed({ specifier = "", resolved }: Reference, path: string, lists: Listings): string | undefined {
   const { class: kind, package: installed, file, by } = resolved as Ends;
   const { name: own } = packageOf(specifier) ?? {};
@@ -128,3 +120,129 @@ function packageNamed({ specifier = "", resolved }: Reference, path: string, lis
   const isListed = kind === "missing" && lists.isListed(own ?? "", path);
   return kind === "builtin" || isListed || isWorkspace ? own : undefined;
 }
+
+/** `file` is the URL of the file that has it, `text` the script, or the package whose peer it is. */
+type PackageReason = { kind: "types" | "bin" | "configuration" | "peer" | "text", file: string, text?: string };
+
+/** A file that is searched, by its path. */
+type Text = { file: string, text: string };
+
+/** The members of a package.json that list what its project itself needs. */
+const OWN_LISTS = ["dependencies", "devDependencies"];
+
+/** The most bytes of a configuration that is searched. */
+const MAX_BYTES = 2 ** 20;
+
+/** Files that may configure a tool, files of them that only list packages, and the folders with both. */
+const CONFIGURATION = /^\.|rc$|config|\.(?:jsonc?|ya?ml|toml)$|^(?:Make|Docker|Just|Proc)file/;
+const LOCK = /^(?:package\.json|package-lock\.json|npm-shrinkwrap\.json|pnpm-lock\.yaml|\.package-lock\.json)$/;
+const FOLDERS = ["", ".config", ".github/workflows", ".husky", ".storybook"];
+
+const STYLES = /\.(?:css|scss|sass|less)$/;
+
+/** Members of a package.json that configure no tool. */
+const OTHERS = new Set([
+  "name", "version", "description", "keywords", "license", "author", "files", "scripts", "dependencies",
+  "devDependencies", "peerDependencies", "peerDependenciesMeta", "optionalDependencies", "overrides",
+  "resolutions", "modinfo",
+]);
+
+/** A package that configurations name without its tool, as `eslint-plugin-react` and `@babel/preset-env`. */
+const OF_TOOL = /^(?:(@([^/]+))\/)?(?:([a-z]+)-)?(?:plugin|config|preset)(?:-(.+))?$/;
+
+/** Returns a function that finds why a package may be used. It reads each text once. */
+function packageReasons(
+  files: RegularFiles, manifests: PackageManifests, modules: GraphModule[], pages: string[],
+) {
+  const folders = new PackageFolders(files, globalFolders);
+  const installed = (name: string, { folder }: Manifest) => {
+    const own = folders.required(name, folder);
+    return own === undefined ? undefined : manifests.of(own);
+  };
+  const configurationsOf = memoized((manifest: Manifest) => configurations(manifest, files));
+  let texts: Text[] | undefined;
+  /** Takes the package.json that lists a package, and all packages and built-in modules that are imported. */
+  return (name: string, manifest: Manifest, used: Set<string>): PackageReason | undefined => {
+    const ofText = (kind: PackageReason["kind"], text: string | undefined) => {
+      return text === undefined ? undefined : { kind, file: urlOfPath(manifest.path), text };
+    };
+    const ofFile = (kind: PackageReason["kind"], file: string | undefined) => {
+      return file === undefined ? undefined : { kind, file: urlOfPath(file) };
+    };
+    const needs = (listed: string) => {
+      const own = installed(listed, manifest);
+      return own !== undefined && packagesIn(own, ["peerDependencies"]).includes(name);
+    };
+    // The types of what is used, and those of a tool that is listed.
+    const types = [...used, "node", ...packagesIn(manifest, [...OWN_LISTS, "peerDependencies"])];
+    return ofText("types", types.find((each) => typesOf(each) === name)) ??
+      ofText("bin", scriptCalling(name, manifest, installed(name, manifest)?.members.bin)) ??
+      ofFile("configuration", configurationNaming(name, configurationsOf(manifest))) ??
+      ofText("peer", packagesIn(manifest, OWN_LISTS).find(needs)) ??
+      ofFile("text", textNaming(name, texts ??= textsOf([...new Set([...modules.flatMap(pathsOf), ...pages])])));
+  };
+}
+
+/** The script of a package.json that calls a program of a package, which has its name, or names in its `bin`. */
+function scriptCalling(name: string, { members: { scripts } }: Manifest, bin: unknown): string | undefined {
+  const calls = wordsPattern([name, ...(isObject(bin) ? Object.keys(bin) : [basename(name)])]);
+  const lines = Object.entries(isObject(scripts) ? scripts : {});
+  return lines.find(([, line]) => typeof line === "string" && calls.test(line))?.[0];
+}
+
+/** The path of a configuration that names a package. */
+function configurationNaming(name: string, texts: Text[]): string | undefined {
+  const words = wordsPattern([name]);
+  const [, scope, scopeName, own, rest] = OF_TOOL.exec(name) ?? [];
+  const tool = own ?? scopeName;
+  const short = [scope, rest].filter((each) => each !== undefined).join("/");
+  const shorts = tool === undefined || short === "" ? undefined : wordsPattern([short], "(?:plugin:)?");
+  const isNamed = ({ file, text }: Text) => {
+    return isOfTool(basename(file), name) || words.test(text) ||
+      (shorts?.test(text) && (file + text).includes(tool));
+  };
+  return texts.find(isNamed)?.file;
+}
+
+/** The path of a text that has a package's name as a string. */
+function textNaming(name: string, texts: Text[]): string | undefined {
+  const quoted = new RegExp(`["'\`]~?${escaped(name)}(?:/[^"'\`\\n]*)?["'\`]`);
+  return texts.find(({ text }) => quoted.test(text))?.file;
+}
+
+function configurations({ folder, path, members }: Manifest, files: RegularFiles): Text[] {
+  const own = Object.entries(members).filter(([member]) => !OTHERS.has(member));
+  const named = FOLDERS.map((each) => join(folder, each)).flatMap((each) => {
+    return files.namesIn(each, "file").filter((name) => CONFIGURATION.test(name) && !LOCK.test(name))
+      .map((name) => join(each, name));
+  });
+  return [{ file: path, text: JSON.stringify(Object.fromEntries(own)) }, ...textsOf(named)];
+}
+
+/** The paths of a module, and of the style sheets that it imports. */
+function pathsOf({ specifier, references }: GraphModule): string[] {
+  const assets = references.flatMap(({ resolved }) => (resolved.class === "asset" ? [resolved.file] : []));
+  return [specifier, ...assets.filter((url) => STYLES.test(url))].map((url) => fileURLToPath(url));
+}
+
+/** The texts of files, without those that can't be read. */
+function textsOf(paths: string[]): Text[] {
+  return paths.flatMap((file) => {
+    return unlessThrown(() => ({ file, text: String(readRegularFile(file, MAX_BYTES)) })) ?? [];
+  });
+}
+
+/** Whether a file configures the tool of a package by its name, as tsconfig.json, .eslintrc, jest.config.js. */
+function isOfTool(file: string, name: string) {
+  const [, word] = /^\.?([a-z][a-z-]*?)(?:rc)?(?:\.|$)/.exec(file) ?? [];
+  return word === name || [`@${word}/core`, `@${word}/cli`].includes(name) ||
+    (name === "typescript" && word === "tsconfig");
+}
+
+/** Matches a word that is no part of another one; a path may follow it, and a pattern may be before it. */
+function wordsPattern(words: string[], before: string = ""): RegExp {
+  return new RegExp(`(?<![\\w@./-])${before}(?:${words.map(escaped).join("|")})(?![\\w.-])`);
+}
+
+/** @returns a pattern of the text */
+const escaped = (text: string): string => text.replace(/[\\^$.*+?()[\]{}|/-]/g, "\\$&");

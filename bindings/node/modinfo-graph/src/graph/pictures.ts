@@ -1,6 +1,30 @@
-/** Writes a graph in the languages of programs that draw. */
+/** A graph in the languages of programs that draw, and how each kind of dependencies is drawn. */
 
-import { KINDS } from "./kinds.js";
+
+export type Kind = "static" | "dynamic" | "type" | "require" | "jsdoc" | "pragma";
+
+type DrawnKind = { kind: Kind } & Record<"title" | "syntax" | "light" | "dark" | "dash" | "dot", string>;
+
+/** The members of each kind in the order of the type, and the kinds in that of the legend. */
+const ROWS: [Kind, ...string[]][] = [
+  ["static", "static", "import, export .. from", "#0b5fb4", "#74b5ff", "", "style=solid"],
+  ["dynamic", "dynamic", "import(..)", "#b33f00", "#ff9a5c", "8 4", "style=dashed"],
+  [
+    "type", "type", "import type, export type, types that a comment names", "#0b7150", "#54d3a4", "2 3",
+    "style=dotted",
+  ],
+  ["require", "require", "require(..), import name = require(..)", "#7d5a00", "#e3b94d", "12 3 2 3", "style=bold"],
+  [
+    "jsdoc", "JSDoc", "@import and import(..) in a JSDoc comment", "#a3206f", "#ff8ac8", "5 2 1 2 1 2",
+    'style=dashed, arrowhead="empty"',
+  ],
+  ["pragma", "pragma", "a pragma or a reference in a comment", "#5b4bb0", "#b3a6ff", "", "style=solid"],
+];
+
+/** Pragmas are marked in the text; their edges are those of types. */
+export const KINDS: DrawnKind[] = ROWS.map(([kind, title, syntax, light, dark, dash, dot]) => {
+  return { kind, title, syntax, light, dark, dash, dot };
+});
 
 /** Kinds of edges that are drawn without a name. */
 const PLAIN = new Set(["static", "require"]);
@@ -33,9 +57,7 @@ export function dotText<Key>(keys: Key[], edges: Edge<Key>[], label: (key: Key) 
 }
 
 /** Whether a text begins as those of `dotText` do. */
-export function isDot(text: string): boolean {
-  return text.startsWith(DOT_HEAD.slice(0, DOT_HEAD.indexOf("\n")));
-}
+export const isDot = (text: string): boolean => text.startsWith(DOT_HEAD.slice(0, DOT_HEAD.indexOf("\n")));
 
 /** @returns in the language of Mermaid */
 export function mermaidText<Key>(keys: Key[], edges: Edge<Key>[], label: (key: Key) => string): string {

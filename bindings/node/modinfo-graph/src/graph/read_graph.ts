@@ -5,52 +5,32 @@ import { fileURLToPath } from "node:url";
 
 import { exclusionsOf } from "../files/exclusions.js";
 import { isComponent, isDeclaration, isModule, isPage } from "../files/file_kinds.js";
-import { findFiles } from "../files/find_files.js";
-import { readFiles } from "../files/read_files.js";
-import { readComponent } from "./components.js";
+import { type Found, findFiles } from "../files/find_files.js";
+import { type FileResult, type ReadOptions, readFiles } from "../files/read_files.js";
+import { type KeyOf, canonicalUrls } from "../files/urls.js";
 import { entryPoints } from "./entry_points.js";
 import { ModuleGraph } from "./module_graph.js";
-import { canonicalUrls } from "./reach.js";
-import { counts, referencesOf } from "./references.js";
-import { Resolver } from "./resolver.js";
+import { type Counted, counts, referencesOf } from "./references.js";
+import { Resolver, type ResolverOptions } from "./resolver.js";
+import { readComponent, textReader } from "./scripts.js";
 import type { ModuleInfo } from "modinfo";
-import type { Found } from "../files/find_files.js";
-import type { FileResult, ReadOptions } from "../files/read_files.js";
-import type { Texts } from "../files/texts.js";
+import type { GraphOptions } from "../options.cjs";
 import type { Ends, GraphModule, ResolveHook } from "./graph.cjs";
-import type { KeyOf } from "./reach.js";
-import type { Project } from "./reasons.js";
-import type { Counted } from "./references.js";
-import type { ResolverOptions } from "./resolver.js";
+import type { Project } from "./unreached.js";
 
-export interface ReadFile extends Pick<FileResult, "path" | "isLeft" | "fault"> {
-  /** The file's `ModuleInfo`, in which each object that names a module has `resolved`; none with a fault */
-  info?: ModuleInfo;
-  /** None with a fault */
-  module?: GraphModule;
-  /** What is wrong with a configuration */
-  notices?: string[];
-}
+/** `info` has `resolved` in all that names a module; a file with a fault may have neither it nor `module`. */
+export type ReadFile = Pick<FileResult, "path" | "isLeft" | "fault">
+  & { info?: ModuleInfo, module?: GraphModule, notices?: string[] };
 
-interface ProjectTask extends ReadOptions, Counted {
+type OfOptions = Pick<GraphOptions, "exclude" | "ignore" | "gitignore" | "all" | "resolve">;
+
+/** Options of the package, and others: whether links below no root are followed, and excluded files read. */
+interface ProjectTask extends ReadOptions, Counted, OfOptions, Partial<Record<"links" | "excluded", boolean>> {
   paths: AsyncIterable<string> | Iterable<string>;
   /** Those of the paths that are known before, below which links may lead */
   roots: string[];
-  /** paths */
   entries: string[];
-  /** Globs, as `exclusionsOf` takes them */
-  exclude?: string[];
-  ignore?: string[];
-  gitignore?: boolean;
-  /** Whether links to files below no root are followed */
-  links?: boolean;
-  /** Whether excluded files are read too, for what they lead to */
-  excluded?: boolean;
-  /** Whether what entries lead to in installed packages is read too */
-  all?: boolean;
   resolver: ResolverOptions;
-  /** Is asked first what a name leads to */
-  resolve?: ResolveHook;
   /** Hands the files on, and may look them up ahead */
   ahead?: (files: AsyncIterable<Found>) => AsyncIterable<Found>;
   /** Is called for each file in turn */
@@ -102,8 +82,9 @@ async function readGraph(named: AsyncIterable<Found>, reading: Reading, follow: 
   const modules = new Map<string, GraphModule>();
   const { files, pass } = walk(named, keyOf);
   const seen = new Set<string>();
-  const readOther = (path: string, texts: Texts) => {
-    return isComponent(path) || isPage(path) ? readComponent(path, texts) : undefined;
+  const infoOf = textReader(reading.program);
+  const readOther = (path: string) => {
+    return isComponent(path) || isPage(path) ? readComponent(path, infoOf) : undefined;
   };
   for await (const file of readFiles(ahead(files), { ...reading, readOther })) {
     const module = moduleOf(file, reading);
@@ -174,10 +155,9 @@ function moduleOf(
   const source = json && resolver.sourceOf(real ?? fileURLToPath(specifier));
   const module = { specifier, references, ...(source !== undefined && { source: keyOf(source) }) };
   const known = json && { info: json, module, notices: resolver.takeNotices() };
-  onRead?.({ path, isLeft, fault, ...known }, isExcluded(path));
-  return isLeft ? undefined : {
-    ...module, ...(fault && { fault }), ...(isExcluded(path) && { isExcluded: true as const }),
-  };
+  const isOut = isExcluded(path);
+  onRead?.({ path, isLeft, fault, ...known }, isOut);
+  return isLeft ? undefined : { ...module, ...(fault && { fault }), ...(isOut && { isExcluded: true as const }) };
 }
 
 /** Replaces what the names of a module lead to by what a hook returns: a path, or the URL of a file. */

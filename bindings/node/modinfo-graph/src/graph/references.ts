@@ -1,23 +1,13 @@
 /** The ranges in a module that name other modules, by its `ModuleInfo`, and the edges that they make. */
 
-import type {
-  DependencyDescriptor, DynamicTemplatePart, ModuleInfo, PositionRange, ResolutionMode, SpecifierWithRange,
-} from "modinfo";
+import type { DependencyDescriptor, ModuleInfo, ResolutionMode, SpecifierWithRange } from "modinfo";
 import type { Edge, Ends, Reference, ReferenceKind, Resolution } from "./graph.cjs";
 
 /** An object of a `ModuleInfo` that names a module */
-export interface Named {
+export interface Named extends Omit<Reference, "resolved"> {
   /** The object itself, which gets the member `resolved` */
   node: (DependencyDescriptor | SpecifierWithRange) & { resolved?: Resolution };
-  kind: ReferenceKind;
-  /** Nothing where the text isn't known as a whole */
-  specifier: string | undefined;
-  /** Its parts, where only some are known */
-  argument?: DynamicTemplatePart[];
-  range: PositionRange;
   syntax: Syntax;
-  /** Whether it is an import without names */
-  sideEffect?: true;
   /** What an attribute or a comment asks for */
   mode?: ResolutionMode;
 }
@@ -48,33 +38,22 @@ const PRAGMAS = [
 ] as const;
 
 /** Whether a reference of a kind runs the module that it names. */
-export function isRunKind(kind: string): boolean {
-  return RUN_KINDS.has(kind);
-}
+export const isRunKind = (kind: string): boolean => RUN_KINDS.has(kind);
 
-/** Which references and edges count. */
-export interface Counted {
-  /** Whether those of types, JSDoc and references count */
-  types?: boolean;
-  /** Whether those of `import(..)` count; true where it is missing */
-  dynamic?: boolean;
-}
+/** Whether references of types, JSDoc and comments count, and those of `import(..)`: true where it is missing. */
+export type Counted = { types?: boolean, dynamic?: boolean };
 
 export function counts({ kind }: { kind: string }, { types = false, dynamic = true }: Counted): boolean {
   return isRunKind(kind) ? kind !== "dynamic" || dynamic : types;
 }
 
 /** The kind of a dependency of a `ModuleInfo`: its type, or that it is for types alone, or a `require`. */
-export function kindOf(
-  { type, kind = "import" }: { type: "static" | "dynamic", kind?: string },
-): "static" | "dynamic" | "type" | "require" {
+export function kindOf({ type, kind = "import" }: { type: "static" | "dynamic", kind?: string }) {
   return BY_WORD.get(kind)?.[0] ?? type;
 }
 
 /** The text of an argument: its parts together; nothing where one of them isn't known. */
-export function textOfArgument(
-  argument: string | { type: string, value?: string }[] | undefined,
-): string | undefined {
+export function textOfArgument(argument: string | { type: string, value?: string }[] | undefined) {
   if (!Array.isArray(argument)) {
     return argument;
   }
@@ -153,6 +132,4 @@ function ofComment(
   return { node, kind, syntax, specifier, range, mode: modeOf(resolutionMode) };
 }
 
-function modeOf(word: unknown) {
-  return word === "import" || word === "require" ? word : undefined;
-}
+const modeOf = (word: unknown) => (word === "import" || word === "require" ? word : undefined);

@@ -7,26 +7,20 @@ import { memoized } from "../files/by_folder.js";
 import {
   declarationOf, globalFolders, isAsset, isDeclaration, isInstalled, isTypeScript,
 } from "../files/file_kinds.js";
-import { RegularFiles } from "../files/regular_files.js";
+import { RegularFiles, type System } from "../files/regular_files.js";
 import { urlOfPath } from "../files/urls.js";
-import { Configurations } from "./configurations.js";
+import { Configurations, type Options } from "./configurations.js";
 import { ConfiguredNames } from "./configured_names.js";
 import { ImportMaps } from "./import_maps.js";
 import { packageOf, schemeOf } from "./names.js";
 import { fileAt } from "./node_rules.js";
-import { PackageManifests } from "./package_manifests.js";
-import { isObject } from "./package_targets.js";
-import { projectsOf } from "./projects.js";
-import { namedBy } from "./references.js";
-import { Search } from "./search.js";
+import { type Format as Mode, PackageManifests, packagesIn, projectsOf } from "./package_manifests.js";
+import { type Named, type Syntax, namedBy } from "./references.js";
+import { type Importer, type Name, type Run, Search } from "./search.js";
 import { TypeScriptTypes } from "./typescript_types.js";
 import type { ModuleInfo, PositionRange } from "modinfo";
-import type { System } from "../files/regular_files.js";
-import type { Options } from "./configurations.js";
+import type { ResolveOptions } from "../options.cjs";
 import type { Resolution, Rules } from "./graph.cjs";
-import type { Format as Mode } from "./package_manifests.js";
-import type { Named, Syntax } from "./references.js";
-import type { Importer, Name, Run } from "./search.js";
 
 /** The most characters of a name. */
 const MAX_LENGTH = 4096;
@@ -41,21 +35,13 @@ const LISTS = ["dependencies", "devDependencies", "peerDependencies"];
 /** What a package that isn't installed may be called. */
 const PACKAGE_NAME = /^(?:@[^/!]+\/)?[^.@/!][^/!]*$/;
 
-export interface ResolverOptions {
-  /**
-   * The folders of the project, as paths. What is in none of them, in no `node_modules` above one and
-   * in no folder of `globalFolders` is `outside`. Without it, each module is in the project of its
-   * repository, else of the uppermost folder with a package.json or a configuration; without these,
-   * all that no link leads to is inside, and the nearest folder with a `node_modules`.
-   */
+/** Like those of the package, as paths */
+export interface ResolverOptions extends Pick<ResolveOptions, "conditions" | "types"> {
+  /** Without it and a project, all that no link leads to is inside, and the nearest folder with packages. */
   root?: string | readonly string[];
-  /** Conditions of `exports` and `imports`, besides those that node sets. With `browser` that member counts. */
-  conditions?: readonly string[];
-  /** Whether TypeScript looks for `types`. It is loaded with the first name. */
-  types?: boolean;
   /** Whether `types` is the declaration file beside what runs, without TypeScript: true, where it is missing. */
   declarations?: boolean;
-  /** The absolute path of a configuration for all files, instead of the nearest one of each. */
+  /** absolute */
   tsconfig?: string;
   /** The folders in which a `require` looks last: those of NODE_PATH and node's own, where it is missing. */
   globalFolders?: readonly string[];
@@ -101,11 +87,7 @@ export class Resolver {
     return this.resolution({ specifier, syntax: kind, mode }, this.importer(from, isScript));
   }
 
-  /**
-   * Sets the member `resolved` of each object of the `ModuleInfo` of the module at an absolute path.
-   * @param real the path without links, where a file is known to be there
-   * @returns these objects, and what else is known of each
-   */
+  /** Sets `resolved` in all that names a module, and returns these objects; `real` is the path without links. */
   resolveInfo(info: ModuleInfo, path: string, real?: string): Named[] {
     const importer = this.importer(path, info.script === true, real);
     const all = [...namedBy(info), ...this.jsxOf(info, importer)];
@@ -121,10 +103,7 @@ export class Resolver {
     return file && fileURLToPath(file);
   }
 
-  /**
-   * The absolute paths of files that a name leads to where other conditions hold, in the module at `from`.
-   * @param path of the file that the name leads to
-   */
+  /** The files that a name leads to where other conditions hold; `path` is the file that it leads to else. */
   others(specifier: string, from: string, path?: string): string[] {
     return this.search.others(specifier, this.importer(from, false), path);
   }
@@ -146,8 +125,7 @@ export class Resolver {
 
   /** The names of the packages that the nearest package.json lists, for an absolute path. */
   listedFor(path: string): string[] {
-    const { members = {} } = this.manifests.scopeOfFile(path) ?? {};
-    return LISTS.map((name) => members[name]).filter(isObject).flatMap((list) => Object.keys(list));
+    return packagesIn(this.manifests.scopeOfFile(path), LISTS);
   }
 
   /** What was found wrong with manifests and configurations since the last call. */
@@ -197,11 +175,8 @@ export class Resolver {
 
   private resolution(named: Pick<Named, "specifier" | "syntax" | "mode">, importer: Importer): Resolution {
     const { specifier, syntax, mode } = named;
-    if (specifier === undefined) {
-      return { class: "unknown" };
-    }
-    if (specifier === "" || specifier.length > MAX_LENGTH || specifier.includes("\0")) {
-      return { class: "missing" };
+    if (specifier === undefined || specifier === "" || specifier.length > MAX_LENGTH || specifier.includes("\0")) {
+      return { class: specifier === undefined ? "unknown" : "missing" };
     }
     const key = `${syntax} ${mode} ${specifier}`;
     const known = importer.known.get(key);
@@ -237,10 +212,8 @@ export class Resolver {
   /** What `/// <reference path="..." />` names. */
   private referenced(specifier: string, { path }: Importer): Resolution {
     const found = fileAt(absolute(dirname(path), specifier), this.files);
-    if (found.kind === "outside") {
-      return { class: "outside", target: urlOfPath(found.path) };
-    }
-    return found.kind === "file" ? { class: "file", file: urlOfPath(found.path) } : { class: "missing" };
+    return found.kind === "outside" ? { class: "outside", target: urlOfPath(found.path) }
+      : found.kind === "file" ? { class: "file", file: urlOfPath(found.path) } : { class: "missing" };
   }
 
   /** @param types the path of what has the types */

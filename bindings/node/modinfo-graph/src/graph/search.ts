@@ -9,18 +9,15 @@ import { dirname, join, relative, resolve as absolute } from "node:path";
 
 import { isDeclaration, isTypeScript, withoutEnding } from "../files/file_kinds.js";
 import { pathOfUrl, urlOfFolder } from "../files/urls.js";
-import { BundlerRules, plainNames } from "./bundler_rules.js";
-import { isPath, isRelative, packageOf, pathOf, schemeOf } from "./names.js";
-import { NodeRules } from "./node_rules.js";
-import { PackageFolders } from "./package_folders.js";
-import { allExports, allImports } from "./package_targets.js";
-import { Workspaces } from "./workspaces.js";
+import { BundlerRules, type Source, plainNames } from "./bundler_rules.js";
+import { isPath, isRelative, packageOf, pathOf, schemeOf, typesOf } from "./names.js";
+import { type Found, type Missing, NONE, NodeRules, firstOf } from "./node_rules.js";
+import { PackageFolders, Workspaces } from "./package_folders.js";
+import { allTargets } from "./package_targets.js";
 import type { RegularFiles } from "../files/regular_files.js";
-import type { Source } from "./bundler_rules.js";
 import type { ConfiguredNames } from "./configured_names.js";
 import type { Resolution, Rules } from "./graph.cjs";
 import type { Configured } from "./import_maps.js";
-import type { Found, Missing } from "./node_rules.js";
 import type { Format as Mode, PackageManifests } from "./package_manifests.js";
 import type { Syntax } from "./references.js";
 
@@ -32,13 +29,13 @@ export type Run = { found: Target, by?: Rules };
 /** `mode` is what an attribute or a comment asks for */
 export type Name = { specifier: string, syntax: Syntax, mode?: Mode };
 
-/** `isTypeScript` is false for a declaration file, and for an installed one. */
+/**
+ * The file that has a name, by its path without links. `isTypeScript` is false for a declaration file, and for an
+ * installed one; `isScript` is whether it has no syntax of ES modules, `format` what an `import` in it becomes.
+ */
 export interface Importer extends Source {
-  /** Absolute, without links */
   path: string;
-  /** Whether it has no syntax of ES modules */
   isScript: boolean;
-  /** What an `import` in it becomes */
   format: Mode | undefined;
   /** What names lead to, in all files of the folder that have the same rules */
   known: Map<string, Resolution>;
@@ -56,8 +53,6 @@ const BUNDLER_CONDITIONS = [
 /** The names of folders with what is compiled or bundled. */
 const OUTPUTS = new Set(["dist", "build", "out", "output", "lib", "es", "esm", "cjs", "umd", "types", "typings"]);
 
-const NONE: Found = { kind: "none" };
-
 export class Search {
   private readonly packages;
   private readonly node;
@@ -68,10 +63,7 @@ export class Search {
   private readonly workspaces;
   private readonly isBrowser;
 
-  /**
-   * @param conditions those of `exports` and `imports` besides node's own
-   * @param globalFolders those in which a `require` looks last
-   */
+  /** @param conditions those of `exports` and `imports` besides node's own */
   constructor(
     private readonly files: RegularFiles, private readonly manifests: PackageManifests,
     private readonly names: ConfiguredNames, conditions: readonly string[], globalFolders: string[],
@@ -121,12 +113,10 @@ export class Search {
   others(specifier: string, importer: Importer, path?: string): string[] {
     const scope = this.manifests.scopeOfFile(importer.path);
     const urls = specifier.startsWith("#") && scope
-      ? allImports(scope.imports, specifier, urlOfFolder(scope.folder))
+      ? allTargets(scope.imports, specifier, urlOfFolder(scope.folder), true)
       : this.allExports(specifier, importer);
-    const replaced = this.bundler.replacements(scope, specifier);
-    if (path !== undefined) {
-      replaced.push(...this.bundler.replacements(this.manifests.scopeOfFile(path), path));
-    }
+    const ofFile = path === undefined ? [] : this.bundler.replacements(this.manifests.scopeOfFile(path), path);
+    const replaced = [...this.bundler.replacements(scope, specifier), ...ofFile];
     return [...urls.flatMap((url) => pathOfUrl(url) ?? []), ...this.filesAt(replaced, importer)];
   }
 
@@ -137,26 +127,25 @@ export class Search {
 
   /** The files of a package of the project that a name may lead to. */
   private allExports(specifier: string, { path }: Importer): URL[] {
-    const { name, rest } = packageOf(specifier) ?? {};
+    const { name = "", rest } = packageOf(specifier) ?? {};
     const scope = this.manifests.scopeOfFile(path);
-    const folder = name === undefined
-      ? undefined
-      : scope?.name === name ? scope.folder : this.workspaces.folderOf(name, path);
-    const exports = folder === undefined ? undefined : this.manifests.of(folder)?.exports;
-    return exports && folder !== undefined ? allExports(exports, `.${rest}`, urlOfFolder(folder)) : [];
+    const folder = scope?.name === name ? scope.folder : this.workspaces.folderOf(name, path);
+    const exports = folder && this.manifests.of(folder)?.exports;
+    return folder && exports ? allTargets(exports, `.${rest}`, urlOfFolder(folder)) : [];
   }
 
   /** What the `src` of a page's script leads to: a path from the page, or from the root of a server. */
   private ofPage(specifier: string, importer: Importer): Run {
-    if (schemeOf(specifier) || specifier.startsWith("//")) {
-      return { found: atUrl(specifier.startsWith("//") ? `https:${specifier}` : specifier) };
+    const url = specifier.startsWith("//") ? `https:${specifier}` : specifier;
+    if (schemeOf(url)) {
+      return { found: atUrl(url) };
     }
     const folder = dirname(importer.path);
     const root = this.manifests.scopeOf(folder)?.folder ?? folder;
     const folders = specifier.startsWith("/") ? [folder, root, join(root, "public")] : [folder];
     const names = plainNames(specifier).map((name) => `./${name.replace(/^\/+/, "")}`);
     const paths = names.flatMap((name) => folders.map((each) => pathOf(name, each)));
-    const found = this.bundler.atPaths(paths, importer);
+    const found = firstOf(paths, (path) => this.bundler.atPath(path, importer));
     return found ? { found, by: "bundler" } : { found: NONE };
   }
 
@@ -166,16 +155,12 @@ export class Search {
       .find((each) => each !== path && !isDeclaration(each));
   }
 
-  /**
-   * Where the source of a file in a folder of outputs may be: at the same path below `src`, without an ending.
-   * @param folders in place of `src`
-   * @param isMissing whether the folder of outputs may not be there
-   */
+  /** The paths below `src` at which the source of an output may be, which with `isMissing` isn't made yet. */
   likelySources(path: string, folders: string[] = ["src"], isMissing: boolean = false): string[] {
     const { folder = path } = this.manifests.scopeOfFile(path) ?? {};
     const isBelow = path.startsWith(`${folder}/`);
     const [output, ...names] = isBelow ? withoutEnding(relative(folder, path)).split("/") : [""];
-    const isMeant = OUTPUTS.has(output) && !(isMissing && this.files.in(folder, output).kind !== "none");
+    const isMeant = OUTPUTS.has(output) && !(isMissing && this.files.at(join(folder, output)).kind !== "none");
     return isMeant
       ? names.flatMap((_, at) => folders.map((each) => absolute(folder, each, ...names.slice(at))))
       : [];
@@ -200,11 +185,10 @@ export class Search {
 
   /** What is at the path or the name that `browser` has instead, in the package of a file. */
   private instead(other: string | false, from: string, importer: Importer): Run {
-    if (other === false) {
-      return { found: { kind: "disabled" } };
-    }
-    const found = other.startsWith("/") ? this.bundler.atPath(other, importer) : this.node.import(other, from);
-    return { found, by: "bundler" };
+    return other === false ? { found: { kind: "disabled" } } : {
+      found: other.startsWith("/") ? this.bundler.atPath(other, importer) : this.node.import(other, from),
+      by: "bundler",
+    };
   }
 
   private byRules(named: Name, importer: Importer): Run {
@@ -218,7 +202,7 @@ export class Search {
 
   private byConfiguration(configured: Configured | undefined, importer: Importer): Run | undefined {
     const { by, paths = [], name } = configured ?? {};
-    const found = this.bundler.atPaths(paths, importer);
+    const found = firstOf(paths, (path) => this.bundler.atPath(path, importer));
     if (found || name === undefined) {
       return found && { found, by };
     }
@@ -227,16 +211,11 @@ export class Search {
 
   /** The TypeScript file of a relative name in one. */
   private bySource(specifier: string, importer: Importer): Run | undefined {
-    if (!importer.isTypeScript || !isRelative(specifier)) {
-      return undefined;
-    }
+    const isMeant = importer.isTypeScript && isRelative(specifier);
     const wanted = pathOf(specifier, dirname(importer.path));
-    const [path] = this.filesAt([wanted], importer);
-    if (path === undefined || isDeclaration(path) || !isTypeScript(path)) {
-      return undefined;
-    }
-    const isNode = path === wanted && importer.format === "import";
-    return { found: { kind: "file", path }, by: isNode ? "node" : "bundler" };
+    const [path = ""] = isMeant ? this.filesAt([wanted], importer) : [];
+    const by = path === wanted && importer.format === "import" ? "node" : "bundler";
+    return isTypeScript(path) && !isDeclaration(path) ? { found: { kind: "file", path }, by } : undefined;
   }
 
   private byNodeAndBundlers(named: Name, importer: Importer): Run {
@@ -290,7 +269,7 @@ export class Search {
     if (name !== undefined) {
       yield this.inPackage(this.folderOf(name, path), rest, importer);
       // The types of a package that is compiled away, as one of types alone is.
-      const types = this.packages.required(`@types/${name.replace(/^@/, "").replace("/", "__")}`, dirname(path));
+      const types = this.packages.required(typesOf(name), dirname(path));
       yield types === undefined ? NONE : this.bundler.inPackage(types, rest, importer);
     }
   }

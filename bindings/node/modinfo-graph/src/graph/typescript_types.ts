@@ -4,9 +4,11 @@ import { resolve as absolute } from "node:path";
 
 import { memoized } from "../files/by_folder.js";
 import { isTypeScript } from "../files/file_kinds.js";
-import { loadTypeScript } from "../files/own_files.js";
+import { loadTypeScript } from "../files/program.js";
+import { unlessThrown } from "../runtime/faults.js";
 import { Notices } from "./members.js";
 import { fileAt } from "./node_rules.js";
+import type ts from "typescript";
 import type { RegularFiles } from "../files/regular_files.js";
 import type { Configuration, Configurations } from "./configurations.js";
 import type { Importer, Name } from "./search.js";
@@ -14,47 +16,10 @@ import type { Importer, Name } from "./search.js";
 /** Diagnostics of a file that can't be read, which are reported without TypeScript. */
 const OF_FILES = new Set([5012, 5083, 6053]);
 
-interface CompilerOptions {
-  allowJs?: boolean;
-  module?: number;
-  moduleResolution?: number;
-  paths?: unknown;
-  baseUrl?: string;
-  customConditions?: string[];
-}
-
-/** The name, the importer, the options, the system, and what is left out here. */
-type Resolve<Found> = (
-  name: string, importer: string, options: CompilerOptions, system: System, ...others: unknown[]
-) => Found;
-
-type System = ReturnType<typeof systemOf>;
-
-/** What is used of the module `typescript`. */
-interface Compiler {
-  version: string;
-  ModuleKind: { CommonJS: number, ESNext: number, NodeNext: number };
-  ModuleResolutionKind: { NodeNext: number };
-  resolveModuleName: Resolve<{ resolvedModule?: { resolvedFileName: string } }>;
-  resolveTypeReferenceDirective: Resolve<{ resolvedTypeReferenceDirective?: { resolvedFileName?: string } }>;
-  readConfigFile(path: string, read: System["readFile"]): { config?: object };
-  parseJsonConfigFileContent(
-    config: object, system: System, folder: string, options: undefined, path: string,
-  ): { options: CompilerOptions, errors: { code: number, messageText: unknown }[] };
-  flattenDiagnosticMessageText(text: unknown, newLine: string): string;
-  createModuleResolutionCache(
-    folder: string, canonical: (name: string) => string, options: CompilerOptions,
-  ): object;
-}
-
-interface Settings {
-  options: CompilerOptions;
-  /** TypeScript's `ModuleResolutionCache`. */
-  cache: object;
-}
+type Settings = { options: ts.CompilerOptions, cache: ts.ModuleResolutionCache };
 
 export class TypeScriptTypes {
-  private loaded: Compiler | undefined;
+  private loaded: typeof ts | undefined;
   private readonly system;
   readonly notices = new Notices();
 
@@ -71,19 +36,18 @@ export class TypeScriptTypes {
     const mode = named.mode ?? (syntax === "require" ? "require" : syntax === "dynamic" ? "import" : format);
     const { compiler } = this;
     const { CommonJS, ESNext } = compiler.ModuleKind;
-    const last = [undefined, mode && (mode === "import" ? ESNext : CommonJS)];
+    const kind = mode && (mode === "import" ? ESNext : CommonJS);
     let path: string | undefined;
     for (const { options, cache } of this.allSettingsOf(importer)) {
-      const all = [importer, options, this.system] as const;
+      const all = [importer, options, this.system, undefined] as const;
+      const typed = syntax === "types" && path === undefined
+        ? compiler.resolveTypeReferenceDirective(specifier, ...all, undefined, kind) : undefined;
       const moduleOf = (name: string) => {
-        return compiler.resolveModuleName(name, ...all, cache, ...last).resolvedModule?.resolvedFileName;
+        const found = compiler.resolveModuleName(name, importer, options, this.system, cache, undefined, kind);
+        return found.resolvedModule?.resolvedFileName;
       };
-      const typesOf = (name: string) => {
-        const found = compiler.resolveTypeReferenceDirective(name, ...all, undefined, ...last);
-        return found.resolvedTypeReferenceDirective?.resolvedFileName;
-      };
-      path ??= syntax === "types" ? typesOf(specifier) : undefined;
-      path ??= moduleOf(specifier) ?? this.findByJavaScriptName(specifier, moduleOf);
+      path ??= typed?.resolvedTypeReferenceDirective?.resolvedFileName ??
+        moduleOf(specifier) ?? this.findByJavaScriptName(specifier, moduleOf);
     }
     const found = path === undefined ? undefined : fileAt(absolute(path), this.files);
     return found?.kind === "file" && isTypeScript(found.path) ? found.path : undefined;
@@ -120,12 +84,12 @@ export class TypeScriptTypes {
   });
 
   private get compiler() {
-    this.loaded ??= loadTypeScript() as Compiler;
+    this.loaded ??= loadTypeScript() as typeof ts;
     return this.loaded;
   }
 
   private optionsOf({ path, folder }: Configuration) {
-    const compiler = this.compiler;
+    const { compiler } = this;
     const { config = {} } = compiler.readConfigFile(path, this.system.readFile);
     const { options, errors } = compiler.parseJsonConfigFileContent(config, this.system, folder, undefined, path);
     for (const { code, messageText } of errors.filter(isOfOptions)) {
@@ -134,17 +98,15 @@ export class TypeScriptTypes {
     return options;
   }
 
-  private withCache(options: CompilerOptions): Settings {
-    const customConditions = [...(options.customConditions ?? []), ...this.conditions];
+  private withCache(options: ts.CompilerOptions): Settings {
+    const customConditions = [...(options.customConditions as string[] | undefined) ?? [], ...this.conditions];
     const all = customConditions.length > 0 ? { ...options, customConditions } : options;
     return { options: all, cache: this.compiler.createModuleResolutionCache("/", (name) => name, all) };
   }
 }
 
 /** Whether a diagnostic of a configuration is of its options, and not of its syntax or of files that it names. */
-function isOfOptions({ code }: { code: number }) {
-  return code >= 5000 && code < 18000 && !OF_FILES.has(code);
-}
+const isOfOptions = ({ code }: { code: number }) => code >= 5000 && code < 18000 && !OF_FILES.has(code);
 
 /** What TypeScript looks at files by. No folder is walked: it is known without which files are included. */
 function systemOf(files: RegularFiles) {
@@ -157,12 +119,6 @@ function systemOf(files: RegularFiles) {
     getCurrentDirectory: () => "/",
     getDirectories: () => [],
     readDirectory: () => [],
-    readFile: (path: string) => {
-      try {
-        return files.read(absolute(path));
-      } catch {
-        return undefined;
-      }
-    },
+    readFile: (path: string) => unlessThrown(() => files.read(absolute(path))),
   };
 }

@@ -1,16 +1,12 @@
-/** What the options of the calls have in common. */
+/** What the options of the calls have in common, and what happens once a signal is aborted. */
 
 import os from "node:os";
 
-import { onAbort } from "./abort_signals.js";
 import type { Signal } from "modinfo/internal/types/calls.cjs";
 
 export { checkKnown, readSignal } from "modinfo/internal/core/input.cjs";
 
-/**
- * How many processes run at once: one for each processor, where the number is missing.
- * @throws {TypeError} it is no whole number from 1 on
- */
+/** How many processes run at once: one for each processor, where the number is missing. @throws {TypeError} */
 export function readJobs(jobs: unknown = os.availableParallelism?.() ?? os.cpus().length): number {
   if (!Number.isInteger(jobs) || Number(jobs) < 1) {
     throw new TypeError(`jobs must be a whole number from 1 on, not ${String(jobs)}`);
@@ -18,24 +14,37 @@ export function readJobs(jobs: unknown = os.availableParallelism?.() ?? os.cpus(
   return Number(jobs);
 }
 
-/**
- * The result of a call, unless a signal is aborted before it is there.
- * @param call isn't made where the signal is aborted already
- * @returns rejected with the reason of the signal once that is aborted
- */
+/** The result of a call, which isn't made once a signal is aborted; then rejected with the reason. */
 export async function unlessAborted<T>(signal: Signal | undefined, call: () => Promise<T>): Promise<T> {
-  if (!signal) {
-    return call();
-  }
-  signal.throwIfAborted();
-  const result = call();
+  signal?.throwIfAborted();
   let takeBack = () => {};
-  const aborted: Promise<never> = new Promise((_, reject) => {
-    takeBack = onAbort(signal, () => reject(signal.reason));
+  const aborted = new Promise<never>((_, reject) => {
+    takeBack = onAbort(signal, () => reject(signal?.reason));
   });
-  try {
-    return await Promise.race([result, aborted]);
-  } finally {
-    takeBack();
+  return Promise.race([call(), aborted]).finally(takeBack);
+}
+
+/** By each signal what is called. It has one listener: node warns of many. */
+const calls: WeakMap<Signal, Set<() => void>> = new WeakMap();
+
+/** Calls a function once a signal is aborted. Returns what takes the call back. */
+export function onAbort(signal: Signal | undefined, call: () => void): () => void {
+  if (!signal) {
+    return () => {};
   }
+  const all = calls.get(signal) ?? new Set();
+  if (all.size === 0) {
+    calls.set(signal, all);
+    signal.addEventListener("abort", listener);
+  }
+  all.add(call);
+  return () => {
+    if (all.delete(call) && all.size === 0) {
+      signal.removeEventListener("abort", listener);
+    }
+  };
+}
+
+function listener(event?: { target: unknown }) {
+  [...calls.get(event?.target as Signal) ?? []].forEach((call) => call());
 }

@@ -1,29 +1,21 @@
-/** Why nothing is known of a file. */
+/**
+ * Why nothing is known of a file, and texts as messages show them. The name of a file may have any character
+ * but two, among them those that move a terminal's cursor, begin a line that looks like another message, or
+ * turn the direction of a text.
+ */
 
 import { ModinfoFault, ProgramEnd } from "modinfo/internal/core/errors.cjs";
-import { printable } from "./printable.js";
 
-/** As it is printed */
-export interface Fault {
-  /** One of the names in docs/FORMATS.md or in README.md of this package */
-  fault: string;
-  message: string;
-  /** Of a syntax error, with the column counted from one */
-  line?: number;
-  column?: number;
-}
+/** As it is printed: a name of docs/FORMATS.md or README.md, and where a syntax error is, counted from one. */
+export type Fault = { fault: string, message: string, line?: number, column?: number };
 
 /** A file that can't be read or parsed. */
 export class FileFault extends Error {
-  readonly fault;
-  readonly position;
+  override readonly name = "FileFault";
 
   /** @param position from zero */
-  constructor(fault: string, message: string, position?: [line: number, character: number]) {
+  constructor(readonly fault: string, message: string, readonly position?: [line: number, character: number]) {
     super(message);
-    this.name = "FileFault";
-    this.fault = fault;
-    this.position = position;
   }
 }
 
@@ -35,7 +27,8 @@ export function faultOf(error: unknown): Fault {
     return { fault, message, ...(position && { line: line + 1, column: character + 1 }) };
   }
   if (error instanceof ModinfoFault) {
-    return { fault: error.fault, message: `modinfo reports ${error.fault}` };
+    const { fault, message, line, column } = error;
+    return line === undefined ? { fault, message: `modinfo reports ${fault}` } : { fault, message, line, column };
   }
   if (error instanceof ProgramEnd) {
     return { fault: "Program", message: error.message };
@@ -46,6 +39,15 @@ export function faultOf(error: unknown): Fault {
   throw error;
 }
 
+/** @returns what a call returns; nothing where it throws */
+export function unlessThrown<T>(call: () => T): T | undefined {
+  try {
+    return call();
+  } catch {
+    return undefined;
+  }
+}
+
 /** The message of a system call without the path, which the caller prints: `ENOENT: no such file or directory`. */
 export function systemMessage(error: unknown): string {
   return (error as Error).message.replace(/, [a-z]+(?: '.*')?$/s, "");
@@ -54,4 +56,21 @@ export function systemMessage(error: unknown): string {
 /** A fault or a warning, as `FILE:LINE:COLUMN: MESSAGE`, without characters that a terminal obeys. */
 export function describeFault(file: string, { message, line, column }: Omit<Fault, "fault">): string {
   return `${printable(file)}${line ? `:${line}:${column}` : ""}: ${printable(message)}`;
+}
+
+const UNPRINTABLE = /[\p{Cc}\p{Zl}\p{Zp}\p{Bidi_Control}\p{Surrogate}]/gu;
+const SHORT = new Map([["\n", "\\n"], ["\r", "\\r"], ["\t", "\\t"]]);
+
+/** A text with its control characters escaped, as `\n`, `\x1b` and `\u{202e}`. */
+export function printable(text: string): string {
+  return text.replace(UNPRINTABLE, (character) => SHORT.get(character) ?? escaped(character));
+}
+
+/** Like `printable`, but leaves line feeds and tabs as they are. */
+export const printableLines = (text: string): string => text.replace(/[^\n\t]+/g, printable);
+
+function escaped(character: string) {
+  const code = character.codePointAt(0) ?? 0;
+  const digits = code.toString(16);
+  return code < 0x100 ? `\\x${digits.padStart(2, "0")}` : `\\u{${digits}}`;
 }

@@ -1,5 +1,8 @@
 /** Requests, and the processes or threads that answer them. */
 
+import { spawn } from "node:child_process";
+import type { Socket } from "node:net";
+
 import { ProgramEnd } from "modinfo/internal/core/errors.cjs";
 
 export type Answer = { value: Buffer | string, error?: undefined } | { value?: undefined, error: Error };
@@ -10,7 +13,6 @@ export interface Lane {
   send(text: string | Uint8Array): void;
   /** @param isHeld whether the lane keeps node from ending */
   hold(isHeld: boolean): void;
-  /** Ends the lane at once. */
   kill(): void;
 }
 
@@ -21,8 +23,8 @@ export interface Events {
   onEnd(why: string, isUnstarted?: boolean): void;
 }
 
+/** `name` is how messages begin. */
 export interface Kind {
-  /** As messages begin */
   name: string;
   /** How many characters a lane is handed ahead: a request that waits for more waits in the pool */
   room: number;
@@ -47,19 +49,12 @@ const HINT = "the option program or the environment variable MODINFO names anoth
  * a lane. While nothing is waited for, no lane keeps node from ending.
  */
 export class Pool {
-  #kind;
-  #most;
   #waiting: Request[] = [];
-  /** Requests whose lane ended, which are the next. */
-  #again: Request[] = [];
   #places: Place[] = [];
   #isKilled = false;
 
   /** @param most the most lanes at once */
-  constructor(kind: Kind, most: number) {
-    this.#kind = kind;
-    this.#most = most;
-  }
+  constructor(private readonly kind: Kind, private most: number) {}
 
   /**
    * @returns the value of the answer; rejected with its error, or with a `ProgramEnd` where a lane ends twice over
@@ -87,13 +82,12 @@ export class Pool {
 
   #deal() {
     for (;;) {
-      const queue = this.#again.length > 0 ? this.#again : this.#waiting;
-      const [request] = queue;
+      const [request] = this.#waiting;
       const place = request && this.#placeFor(request);
       if (!place) {
         return;
       }
-      queue.shift();
+      this.#waiting.shift();
       place.held.push(request);
       place.length += request.text.length;
       if (place.held.length === 1) {
@@ -106,15 +100,15 @@ export class Pool {
   /** @returns nothing where the request has to wait, or is rejected */
   #placeFor({ text, isSuspect }: Request): Place | undefined {
     const [freest] = this.#places.filter(({ held: [first], length }) => {
-      return !first || (!isSuspect && !first.isSuspect && length + text.length <= this.#kind.room);
+      return !first || (!isSuspect && !first.isSuspect && length + text.length <= this.kind.room);
     }).sort((one, other) => one.length - other.length);
-    return freest?.length !== 0 && this.#places.length < this.#most ? this.#start() ?? freest : freest;
+    return freest?.length !== 0 && this.#places.length < this.most ? this.#start() ?? freest : freest;
   }
 
   #start(): Place | undefined {
     const place: Place = { held: [], length: 0 };
     try {
-      place.lane = this.#kind.start({
+      place.lane = this.kind.start({
         onAnswer: (answer) => this.#onAnswer(place, answer),
         onEnd: (why, isUnstarted) => this.#onEnd(place, why, isUnstarted),
       });
@@ -149,14 +143,11 @@ export class Pool {
       return;
     }
     this.#places = this.#places.filter((each) => each !== place);
-    for (const request of place.held) {
-      if (request.isSuspect || this.#isKilled) {
-        request.reject(this.#endOf(why));
-      } else {
-        request.isSuspect = !isUnstarted;
-        this.#again.push(request);
-      }
-    }
+    const isLost = (request: Request) => request.isSuspect || this.#isKilled;
+    place.held.filter(isLost).forEach(({ reject }) => reject(this.#endOf(why)));
+    const again = place.held.filter((request) => !isLost(request));
+    // They are the next.
+    this.#waiting.unshift(...again.map((request) => Object.assign(request, { isSuspect: !isUnstarted })));
     if (isUnstarted) {
       this.#onUnstarted(why);
     }
@@ -166,18 +157,83 @@ export class Pool {
   /** Where a lane can't be started, those that there are have to do; without any, nothing can be done. */
   #onUnstarted(why: string) {
     if (this.#places.length > 0) {
-      this.#most = this.#places.length;
+      this.most = this.#places.length;
     } else {
       this.#refuse(`can't be started: ${why} (${HINT})`);
     }
   }
 
-  /** Rejects all that waits. */
   #refuse(why: string) {
-    [...this.#again.splice(0), ...this.#waiting.splice(0)].forEach(({ reject }) => reject(this.#endOf(why)));
+    this.#waiting.splice(0).forEach(({ reject }) => reject(this.#endOf(why)));
   }
 
   #endOf(why: string) {
-    return new ProgramEnd(`${this.#kind.name} ${why}`);
+    return new ProgramEnd(`${this.kind.name} ${why}`);
   }
+}
+
+const ROOM = 1 << 16;
+/** How much of the error output is kept, in characters. */
+const KEPT_ERRORS = 2000;
+const LINE_FEED = 0x0a;
+
+/** `read` returns the answer on a line of the output; nothing where it is none. */
+type Command = { program: string, words: string[], read: (line: Buffer) => Answer | undefined };
+
+export function processesOf(command: Command): Kind {
+  return { name: command.program, room: ROOM, start: (events) => startProcess(command, events) };
+}
+
+function startProcess({ program, words, read }: Command, { onAnswer, onEnd }: Events): Lane {
+  const child = spawn(program, words);
+  const { stdin, stdout, stderr } = child;
+  let errors = "";
+  child.on("error", ({ message }) => child.pid || onEnd(message, true));
+  child.once("close", (status, signal) => {
+    onEnd(`ended ${signal ? `by ${signal}` : `with status ${status}`}${errors.trim() && `: ${errors.trim()}`}`);
+  });
+  if (child.pid) {
+    // The error of a write is less helpful than how the process ends.
+    stdin.on("error", () => {});
+    stderr.setEncoding("utf8").on("data", (text) => {
+      errors = (errors + text).slice(-KEPT_ERRORS);
+    });
+    readLines(stdout, (line) => {
+      const answer = read(line);
+      if (!answer || !onAnswer(answer)) {
+        // Which answer belongs to which request isn't known any more.
+        child.kill("SIGKILL");
+        onEnd(`printed an invalid answer: ${line.toString().slice(0, 100)}`);
+      }
+    });
+  }
+  return {
+    send: (text) => {
+      // What is written in one turn goes into the pipe at once.
+      if (child.pid && stdin.writableCorked === 0) {
+        stdin.cork();
+        setImmediate(() => stdin.uncork());
+      }
+      stdin?.write(text);
+    },
+    hold: (isHeld) => {
+      // The pipes of a process are sockets.
+      const held = child.pid ? [child, ...([stdin, stdout, stderr] as unknown[] as Socket[])] : [];
+      held.forEach((each) => (isHeld ? each.ref() : each.unref()));
+    },
+    kill: () => child.kill("SIGKILL"),
+  };
+}
+
+function readLines(stream: NodeJS.ReadableStream, onLine: (line: Buffer) => void) {
+  let begun: Buffer[] = [];
+  stream.on("data", (bytes: Buffer) => {
+    let from = 0;
+    for (let at = bytes.indexOf(LINE_FEED); at >= 0; at = bytes.indexOf(LINE_FEED, from)) {
+      onLine(Buffer.concat([...begun, bytes.subarray(from, at)]));
+      begun = [];
+      from = at + 1;
+    }
+    begun.push(bytes.subarray(from));
+  });
 }

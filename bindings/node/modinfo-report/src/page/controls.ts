@@ -16,14 +16,10 @@ const NAMES = new Map([
 ]);
 
 /** @returns its parts; a part with a name is one such character */
-export function withControls(text: string): { text: string, name?: string }[] {
-  return partsWith(text, IN_TEXT);
-}
+export const withControls = (text: string): { text: string, name?: string }[] => partsWith(text, IN_TEXT);
 
 /** Like `withControls`, but tabs and line feeds in the name of a file or a folder have names. */
-export function nameParts(name: string): { text: string, name?: string }[] {
-  return partsWith(name, IN_NAME);
-}
+export const nameParts = (name: string): { text: string, name?: string }[] => partsWith(name, IN_NAME);
 
 function partsWith(text: string, controls: RegExp) {
   const parts: { text: string, name?: string }[] = [];

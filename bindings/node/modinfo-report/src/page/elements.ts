@@ -29,11 +29,7 @@ function furnished<Made extends Element>(made: Made, attributes: Attributes, chi
 }
 
 /** Returns the text of the element with an id, which the page has. */
-export function textOf(id: string): string {
-  return document.getElementById(id)?.textContent ?? "";
-}
+export const textOf = (id: string): string => document.getElementById(id)?.textContent ?? "";
 
 /** Returns a promise for the next task, before which the browser can draw and handle keys. */
-export function nextTask(): Promise<void> {
-  return new Promise((resolve) => setTimeout(resolve));
-}
+export const nextTask = (): Promise<void> => new Promise((resolve) => setTimeout(resolve));

@@ -1,8 +1,7 @@
 /** The modules that match the filter. */
 
-import { folderOf, folders } from "./folders.js";
+import { type Folder, folderOf, folders } from "./folders.js";
 import { paths } from "./report.js";
-import type { Folder } from "./folders.js";
 
 export interface Matches {
   /** Whether nothing is filtered */

@@ -43,9 +43,7 @@ function folderAt(byPath: Map<string, Folder>, path: string): Folder {
   return folder;
 }
 
-function compareNames(one: string, other: string) {
-  return one < other ? -1 : Number(one > other);
-}
+const compareNames = (one: string, other: string) => (one < other ? -1 : Number(one > other));
 
 /** Replaces folders that have one folder alone, counts, and sorts. */
 function finish(folder: Folder, parent?: Folder): Folder {

@@ -3,8 +3,7 @@
 import { drawn } from "./elements.js";
 import { kindsText, strongestKind } from "./graph_kinds.js";
 import { kindNamed, report } from "./report.js";
-import type { CycleKind } from "./cycles.js";
-import type { KindCounts } from "./graph_kinds.js";
+import type { DrawnEdge } from "./graph_edges.js";
 import type { Look } from "./graph_tree.js";
 
 export interface Plan {
@@ -30,18 +29,8 @@ export interface PlannedNode {
   modules?: number[];
 }
 
-export interface PlannedEdge {
-  from: string;
-  to: string;
-  path: string;
-  /** The middle of its count */
-  label?: [number, number];
-  count: number;
-  kinds: KindCounts;
-  isMarked?: boolean;
-  /** Of which the edge is a part */
-  cycle?: CycleKind;
-}
+/** `label` is the middle of its count */
+export type PlannedEdge = DrawnEdge & { path: string, label?: [number, number] };
 
 /** @returns the scene is the group that is moved */
 export function draw({ nodes, frames, edges }: Plan): { drawing: SVGElement, scene: SVGElement } {
@@ -78,42 +67,34 @@ function hatch() {
   );
 }
 
+/** The attributes by which what shows an edge is found. */
+function dataOf({ from, to, kinds }: PlannedEdge) {
+  return { "data-from": from, "data-to": to, "data-kinds": [...kinds.keys()].join(" ") };
+}
+
 /** Returns the colour of the cycle of an edge, which is drawn below the edge. */
-function haloOf({ from, to, path, kinds, cycle }: PlannedEdge) {
-  const ends = { "data-from": from, "data-to": to, "data-kinds": [...kinds.keys()].join(" ") };
-  return cycle ? [drawn("path", { d: path, class: `halo in-${cycle}`, ...ends })] : [];
+function haloOf(edge: PlannedEdge) {
+  const { path, cycle } = edge;
+  return cycle ? [drawn("path", { d: path, class: `halo in-${cycle}`, ...dataOf(edge) })] : [];
 }
 
-function edgeView({ from, to, path, kinds, isMarked }: PlannedEdge, names: Map<string, string>) {
-  const title = `${names.get(from)} → ${names.get(to)}: ${kindsText(kinds)}`;
-  const attributes = { "data-from": from, "data-to": to, class: isMarked ? "marked" : undefined };
-  return edgeLine(path, kinds, attributes, drawn("title", {}, title));
-}
-
-/** Makes the line of an edge, with other attributes and its title. */
-function edgeLine(
-  path: string, kinds: KindCounts, { class: name = "", ...more }: Record<string, string | undefined>,
-  title: SVGElement,
-) {
+function edgeView(edge: PlannedEdge, names: Map<string, string>) {
+  const { from, to, path, kinds, isMarked } = edge;
   const kind = strongestKind(kinds);
-  const { dash } = kindNamed(kind);
-  return drawn(
-    "path",
-    {
-      d: path, class: `edge ${kind} ${name}`.trim(), "stroke-dasharray": dash || undefined,
-      "marker-end": `url(#arrow-${kind})`, "data-kinds": [...kinds.keys()].join(" "), ...more,
-    },
-    title,
-  );
+  const attributes = {
+    d: path, class: `edge ${kind}${isMarked ? " marked" : ""}`, "marker-end": `url(#arrow-${kind})`,
+    "stroke-dasharray": kindNamed(kind).dash || undefined, ...dataOf(edge),
+  };
+  const title = `${names.get(from)} → ${names.get(to)}: ${kindsText(kinds)}`;
+  return drawn("path", attributes, drawn("title", {}, title));
 }
 
-function countView({ from, to, label: [x, y] = [0, 0], count, kinds }: PlannedEdge) {
+function countView(edge: PlannedEdge) {
+  const { label: [x, y] = [0, 0], count, kinds } = edge;
   const text = count.toLocaleString("en");
   const width = 8 + 7 * text.length;
-  const ends = { "data-from": from, "data-to": to, "data-kinds": [...kinds.keys()].join(" ") };
   return drawn(
-    "g",
-    { class: `edge-count ${strongestKind(kinds)}`, ...ends },
+    "g", { class: `edge-count ${strongestKind(kinds)}`, ...dataOf(edge) },
     drawn("rect", { x: x - width / 2, y: y - 8, width, height: 16, rx: 8 }),
     drawn("text", { x, y: y + 4 }, text),
   );

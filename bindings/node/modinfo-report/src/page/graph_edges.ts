@@ -3,13 +3,9 @@
  * all edges between their modules.
  */
 
-import { cycleOfEdge, strongerCycle } from "./cycles.js";
-import { countKind } from "./graph_kinds.js";
-import { eachModuleOf } from "./graph_tree.js";
+import { type CycleKind, type KindCounts, countKind, cycleOfEdge, strongerCycle } from "./graph_kinds.js";
+import { type Item, eachModuleOf } from "./graph_tree.js";
 import { eachEdge, report } from "./report.js";
-import type { CycleKind } from "./cycles.js";
-import type { KindCounts } from "./graph_kinds.js";
-import type { Item } from "./graph_tree.js";
 
 export interface DrawnEdge {
   /** The id of an item */

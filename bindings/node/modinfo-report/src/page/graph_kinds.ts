@@ -1,6 +1,6 @@
-/** The kinds of edges in a graph: which one an edge is drawn as, and which are hidden. */
+/** The kinds of edges in a graph, which are hidden, and the cycles in which modules and edges are. */
 
-import { report } from "./report.js";
+import { kindRuns, report } from "./report.js";
 
 /** The kinds, the strongest first: an edge of several kinds is drawn as the strongest of them. */
 const STRENGTH = ["static", "require", "dynamic", "type", "jsdoc", "pragma"];
@@ -28,4 +28,32 @@ export function kindsText(kinds: KindCounts): string {
   const total = [...kinds.values()].reduce((sum, count) => sum + count, 0);
   const text = (kind: string) => (total === 1 ? titles.get(kind) : `${titles.get(kind)} (${kinds.get(kind)})`);
   return STRENGTH.filter((kind) => kinds.has(kind)).map(text).join(", ");
+}
+
+/** A cycle of what runs, or one that types close. */
+export type CycleKind = "run" | "types";
+
+/** For each module the number of its cycle of what runs, and of its cycle that types close. */
+const numbers: Record<CycleKind, Map<number, number>> = { run: new Map(), types: new Map() };
+report.lists.cycles.forEach(({ modules, isRun }, number) => {
+  modules.forEach((module) => numbers[isRun ? "run" : "types"].set(module, number));
+});
+
+/** The cycles of what runs come before those that types close. */
+export const CYCLES: CycleKind[] = ["run", "types"];
+
+/** @returns the cycle in which a module is */
+export function cycleOf(module: number): CycleKind | undefined {
+  return CYCLES.find((each) => numbers[each].has(module));
+}
+
+/** The cycle that an edge is a part of, by the index of the edge's kind. */
+export function cycleOfEdge(from: number, to: number, kind: number): CycleKind | undefined {
+  const isIn = (each: CycleKind) => numbers[each].has(from) && numbers[each].get(from) === numbers[each].get(to);
+  return CYCLES.find((each) => isIn(each) && (each === "types" || kindRuns[kind]));
+}
+
+/** @returns the first of both */
+export function strongerCycle(one: CycleKind | undefined, other: CycleKind | undefined): CycleKind | undefined {
+  return CYCLES.find((each) => each === one || each === other);
 }

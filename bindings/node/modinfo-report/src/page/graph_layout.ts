@@ -12,13 +12,8 @@ export const NODE_HEIGHT = 24;
 /** The longest label, in characters. */
 export const LONGEST = 40;
 
-interface ScriptPolicy {
-  createScriptURL(url: string): string;
-}
-/** Only some browsers have it. */
-interface TrustedTypes {
-  createPolicy(name: string, rules: ScriptPolicy): ScriptPolicy;
-}
+/** Of trusted types, which only some browsers have. */
+type ScriptPolicy = { createScriptURL(url: string): string };
 
 let worker: Worker | undefined;
 
@@ -64,7 +59,9 @@ function startWorker() {
 
 /** Makes the URL of a worker: the page's policy allows no other URL. */
 function trusted(url: string): string {
-  const { trustedTypes } = globalThis as { trustedTypes?: TrustedTypes };
+  const { trustedTypes } = globalThis as {
+    trustedTypes?: { createPolicy(name: string, rules: ScriptPolicy): ScriptPolicy },
+  };
   const policy = trustedTypes?.createPolicy("layout", { createScriptURL: (each) => each });
   return policy ? policy.createScriptURL(url) : url;
 }
@@ -78,9 +75,7 @@ export function widthOf(label: string, weight: number = 400): number {
 }
 
 /** @returns the width and the height of its node */
-export function sizeOfLabel(label: string): [number, number] {
-  return [widthOf(label) + MARGIN, NODE_HEIGHT];
-}
+export const sizeOfLabel = (label: string): [number, number] => [widthOf(label) + MARGIN, NODE_HEIGHT];
 
 /** Shortens a label of more characters than `most` to its start and its end. */
 export function shortLabel(label: string, most: number = LONGEST): string {

@@ -1,15 +1,10 @@
 /** The legend of a graph: its kinds of edges, of which a click hides one, and its states of modules. */
 
-import { CYCLES } from "./cycles.js";
 import { drawn, element } from "./elements.js";
-import { hiddenKinds } from "./graph_kinds.js";
-import { moduleStates, report, stateTitle } from "./report.js";
+import { CYCLES, type CycleKind, hiddenKinds } from "./graph_kinds.js";
+import { STATES, moduleStates, report } from "./report.js";
 import type { ShownKind } from "../page_data.js";
-import type { CycleKind } from "./cycles.js";
 import type { Plan } from "./graph_drawing.js";
-
-/** The states of modules that are drawn, in the order of the legend. */
-const STATES = ["entry", "unreached", "may-be-reached", "by-types", "faulty"];
 
 /** The cycles, and their words. */
 const CYCLE_WORDS: Record<CycleKind, string> = { run: "cycle", types: "cycle of types" };
@@ -41,8 +36,8 @@ export function legend({ kinds, states, cycles }: LegendParts, onHidden: () => v
     "ul", attributes,
     ...report.kinds.filter(({ kind }) => kinds.has(kind)).map((kind) => kindItem(kind, onHidden)),
     ...cycles.map((each) => element("li", {}, element("span", { class: `swatch in-${each}` }), CYCLE_WORDS[each])),
-    ...STATES.filter((state) => states.has(state)).map((state) => {
-      return element("li", {}, element("span", { class: `swatch ${state}` }), stateTitle(state));
+    ...STATES.filter(([state]) => states.has(state) && !state.endsWith("cyclic")).map(([state, title]) => {
+      return element("li", {}, element("span", { class: `swatch ${state}` }), title);
     }),
   );
 }

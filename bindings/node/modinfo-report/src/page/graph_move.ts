@@ -206,13 +206,9 @@ export function fitScale(size: Size, room: Size): number {
 }
 
 /** Returns the height of a drawing in a box, with the space around it. */
-export function heightFor(size: Size, room: Size) {
-  return size.height * fitScale(size, room) + 2 * AROUND;
-}
+export const heightFor = (size: Size, room: Size) => size.height * fitScale(size, room) + 2 * AROUND;
 
-function distance(one: Point, other: Point) {
-  return Math.hypot(one.x - other.x, one.y - other.y);
-}
+const distance = (one: Point, other: Point) => Math.hypot(one.x - other.x, one.y - other.y);
 
 function middlePoint(one: Point, other: Point): Point {
   return { x: (one.x + other.x) / 2, y: (one.y + other.y) / 2 };

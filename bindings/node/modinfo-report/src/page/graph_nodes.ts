@@ -1,12 +1,11 @@
 /** The look of an item of a graph. */
 
-import { cycleOf } from "./cycles.js";
+import { cycleOf } from "./graph_kinds.js";
 import { shortLabel } from "./graph_layout.js";
-import { eachModuleOf } from "./graph_tree.js";
+import { type Item, type Look, eachModuleOf } from "./graph_tree.js";
 import { counted, hashOf, weightText } from "./pieces.js";
 import { moduleStates, paths, report, visible } from "./report.js";
 import type { Folder } from "./folders.js";
-import type { Item, Look } from "./graph_tree.js";
 
 export function lookOf(item: Item): Look {
   if (item.look) {
@@ -70,4 +69,16 @@ export function moreLook(item: Item, href = `#more-${item.folder?.index}`): Look
     classes: `folder-node more ${cyclesIn(item)}`.trim(),
     description: isPlain ? label : `${label} with ${counted(count, "module")}`,
   };
+}
+
+/** Returns the function of labels: paths without the folders that all modules are in. */
+export function labelsOf(modules: number[]): (module: number) => string {
+  const folders = modules.map((module) => paths[module].split("/").slice(0, -1));
+  const [first = []] = folders;
+  let common = 0;
+  while (common < first.length && folders.every((each) => each[common] === first[common])) {
+    common++;
+  }
+  const length = first.slice(0, common).join("/").length;
+  return (module) => paths[module].slice(length > 0 ? length + 1 : 0);
 }

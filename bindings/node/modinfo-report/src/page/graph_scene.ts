@@ -1,10 +1,8 @@
 /** The items and edges of a drawing: of a folder and of its neighbours. */
 
-import { chainOf, root } from "./folders.js";
-import { edgesIn, leavesOf } from "./graph_edges.js";
-import { boxOf, boxWith, eachModuleOf, folderIn, folderItem, itemsIn, moreItem, ownItems } from "./graph_tree.js";
-import type { Folder } from "./folders.js";
-import type { DrawnEdge } from "./graph_edges.js";
+import { type Folder, chainOf, root } from "./folders.js";
+import { type DrawnEdge, edgesIn, leavesOf } from "./graph_edges.js";
+import { boxOf, boxWith, eachModuleOf, folderIn, folderItem, moreItem, ownItems } from "./graph_tree.js";
 import type { Item, Look } from "./graph_tree.js";
 
 /** Bounds that are tried: the most items, and the most modules of one folder. */
@@ -38,7 +36,7 @@ export function boxesOf(scope: Folder): Item[] {
 
 /** Returns the items in a box that aren't boxes. */
 function itemsOf(box: Item): Item[] {
-  return itemsIn(box).flatMap((item) => (item.items ? itemsOf(item) : [item]));
+  return (box.items ?? []).flatMap((item) => (item.items ? itemsOf(item) : [item]));
 }
 
 /** @param box its */
@@ -76,7 +74,7 @@ function withNeighbours(all: Item, box: Item, edges: DrawnEdge[]) {
       counts.set(other, countOf(other) + count);
     }
   }
-  const near = itemsIn(all).filter(({ id }) => counts.has(id));
+  const near = (all.items ?? []).filter(({ id }) => counts.has(id));
   near.sort((one, other) => countOf(other.id) - countOf(one.id));
   const rest = near.slice(MOST_AROUND);
   const folders = rest.filter(({ type }) => type === "folder").map(folderIn);

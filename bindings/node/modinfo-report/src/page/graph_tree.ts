@@ -3,8 +3,7 @@
  * inside, as long as there aren't too many items.
  */
 
-import { eachModuleBelow } from "./folders.js";
-import type { Folder } from "./folders.js";
+import { type Folder, eachModuleBelow } from "./folders.js";
 
 export interface Look {
   href: string;
@@ -50,7 +49,7 @@ interface Detail {
 /** @returns the box of the scope */
 export function boxOf(scope: Folder, detail: Detail): Item {
   const box = openBox(folderItem(scope), detail);
-  const inside = itemsIn(box);
+  const { items: inside = [] } = box;
   const closed = inside.filter(({ type }) => type === "folder");
   const sizeOf = (item: Item) => sizeIn(folderIn(item), detail);
   let count = inside.length;
@@ -61,21 +60,14 @@ export function boxOf(scope: Folder, detail: Detail): Item {
       return box;
     }
     closed.shift();
-    openBox(next, detail);
-    count += itemsIn(next).length;
-    closed.push(...itemsIn(next).filter(({ type }) => type === "folder"));
+    const { items = [] } = openBox(next, detail);
+    count += items.length;
+    closed.push(...items.filter(({ type }) => type === "folder"));
   }
 }
 
-/** Returns the items in a box. */
-export function itemsIn({ items = [] }: Item): Item[] {
-  return items;
-}
-
 /** Returns the folder of an item that has one. */
-export function folderIn({ folder }: Item): Folder {
-  return folder as Folder;
-}
+export const folderIn = ({ folder }: Item): Folder => folder as Folder;
 
 /** Counts the items of a folder; a folder that has only too many modules stays closed. */
 function sizeIn({ folders, modules }: Folder, detail: Detail) {

@@ -1,25 +1,18 @@
 /** The graph of a folder, and functions that all graphs use. */
 
 import { element } from "./elements.js";
-import { fadeGraph } from "./filter.js";
-import { chainOf, root } from "./folders.js";
-import { draw } from "./graph_drawing.js";
-import { followPointer } from "./graph_follow.js";
-import { listenInGraph } from "./graph_keys.js";
+import { type Matches, fadeGraph } from "./filter.js";
+import { type Folder, chainOf, root } from "./folders.js";
+import { type Plan, type PlannedEdge, type PlannedNode, draw } from "./graph_drawing.js";
+import { followPointer, listenInGraph } from "./graph_keys.js";
 import { askLayout, sizeOfLabel, widthOf } from "./graph_layout.js";
 import { hideEdges, legend, partsOfPlan } from "./graph_legend.js";
-import { Mover, fitScale, heightFor } from "./graph_move.js";
+import { Mover, type Size, fitScale, heightFor } from "./graph_move.js";
 import { lookOf } from "./graph_nodes.js";
-import { boxesOf, sceneOf } from "./graph_scene.js";
-import { folderIn, itemsIn } from "./graph_tree.js";
+import { type Scene, boxesOf, sceneOf } from "./graph_scene.js";
+import { type Item, type Look, folderIn } from "./graph_tree.js";
 import { counted, nameText } from "./pieces.js";
 import { report } from "./report.js";
-import type { Matches } from "./filter.js";
-import type { Folder } from "./folders.js";
-import type { Plan, PlannedEdge, PlannedNode } from "./graph_drawing.js";
-import type { Size } from "./graph_move.js";
-import type { Scene } from "./graph_scene.js";
-import type { Item, Look } from "./graph_tree.js";
 import type { Given, Layout } from "./layout_boxes.js";
 
 /** The least scale at which labels can be read: their letters have 12 pixels at the scale 1, and 11 then. */
@@ -101,8 +94,12 @@ export function showMoved({ view, box, bar }: Frame, mover: Mover, listeners: Li
   view.dispatchEvent(new CustomEvent("drawn", { bubbles: true }));
 }
 
-export function showFault({ box }: Frame, { message }: Error) {
-  box.replaceChildren(element("p", { class: "none" }, `There is no graph: ${message}.`));
+/** Draws a figure once its box is in the page. Returns its view, which has the reason where it can't be drawn. */
+export function drawSoon({ view, box }: Frame, drawFigure: () => Promise<void>): HTMLElement {
+  requestAnimationFrame(() => drawFigure().catch(({ message }) => {
+    box.replaceChildren(element("p", { class: "none" }, `There is no graph: ${message}.`));
+  }));
+  return view;
 }
 
 /** @returns the path to a folder, in which each folder is a link */
@@ -118,8 +115,7 @@ export function crumbs(folder: Folder): HTMLElement {
 /** The graph of a folder; if the modules are too many for one drawing, the view that `instead` makes. */
 export function graphView(folder: Folder, instead: (folder: Folder) => HTMLElement): HTMLElement {
   const frame = graphFrame([crumbs(folder)]);
-  requestAnimationFrame(() => drawFolder(frame, folder, instead).catch((error) => showFault(frame, error)));
-  return frame.view;
+  return drawSoon(frame, () => drawFolder(frame, folder, instead));
 }
 
 async function drawFolder(frame: Frame, folder: Folder, instead: (folder: Folder) => HTMLElement) {
@@ -130,22 +126,20 @@ async function drawFolder(frame: Frame, folder: Folder, instead: (folder: Folder
   if (!found || isPoor(found.scene, folder)) {
     frame.view.replaceWith(instead(folder));
   } else {
-    showPlan(frame, planOf(found.scene, found.layout), found.scene);
+    showPlan(frame, found.plan, found.scene);
     frame.bar.append(element("span", { class: "count" }, counted(folder.count, "module")));
   }
 }
 
 /** Returns the layout with most items whose labels are large enough, else the one with fewest items. */
 async function bestLayout(folder: Folder, room: Size) {
-  let best: { scene: Scene, layout: Layout } | undefined;
+  let best: Awaited<ReturnType<typeof planOfScene>> | undefined;
   let failed = 0;
   for (const box of boxesOf(folder)) {
-    const scene = sceneOf(folder, box);
-    const layout = await askLayout(givenOf(scene.top, scene.edges), room, READABLE_SCALE);
-    const isReadable = fitScale(layout, room) >= READABLE_SCALE;
-    failed = isReadable ? 0 : failed + 1;
-    if (isReadable || best === undefined) {
-      best = { scene, layout };
+    const found = await planOfScene(sceneOf(folder, box), room);
+    failed = found.isReadable ? 0 : failed + 1;
+    if (found.isReadable || best === undefined) {
+      best = found;
     }
     if (failed === MOST_FAILED) {
       break;
@@ -156,16 +150,16 @@ async function bestLayout(folder: Folder, room: Size) {
 
 /** Whether the modules of the folder itself, as one item, are most of what is drawn. */
 function isPoor({ top }: Scene, folder: Folder) {
-  const items = itemsIn(folder === root ? top : itemsIn(top)[0]);
+  const { items = [] } = folder === root ? top : top.items?.[0] ?? top;
   const flat = items.find(({ type }) => type === "flat");
   const all = items.reduce((sum, { count }) => sum + count, 0);
   return flat !== undefined && items.length <= 3 && 2 * flat.count >= all;
 }
 
-/** Lays out a scene that isn't of a folder. */
+/** Lays out a scene. */
 export async function planOfScene(scene: Scene, room: Size) {
   const layout = await askLayout(givenOf(scene.top, scene.edges), room, READABLE_SCALE);
-  return { plan: planOf(scene, layout), isReadable: fitScale(layout, room) >= READABLE_SCALE };
+  return { scene, plan: planOf(scene, layout), isReadable: fitScale(layout, room) >= READABLE_SCALE };
 }
 
 /** Returns an item in the form that the layout reads. */
@@ -178,7 +172,7 @@ function givenOf(item: Item, edges: Scene["edges"]): Given {
   return {
     id: item.id,
     title: widthOf(text, TITLE_WEIGHT),
-    items: itemsIn(item).map((each) => givenOf(each, edges)),
+    items: (item.items ?? []).map((each) => givenOf(each, edges)),
     edges: (edges.get(item) ?? []).map((edge) => ({ from: edge.from, to: edge.to, count: edge.count })),
   };
 }

@@ -3,10 +3,8 @@
  * around it.
  */
 
-import { curveOf, placeOfCount, pointsOnCurve } from "./layout_curves.js";
-import { gridOf, shelvesOf } from "./layout_grid.js";
-import type { Point } from "./layout_curves.js";
-import type { Placed } from "./layout_grid.js";
+import { type Point, curveOf, placeOfCount, pointsOnCurve } from "./layout_curves.js";
+import { type Placed, gridOf, shelvesOf } from "./layout_grid.js";
 
 /** An item, or a box */
 export interface Given {

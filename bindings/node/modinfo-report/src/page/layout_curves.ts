@@ -2,13 +2,9 @@
 
 export type Point = { x: number, y: number };
 
-function rounded(length: number) {
-  return Math.round(length * 10) / 10;
-}
+const rounded = (length: number) => Math.round(length * 10) / 10;
 
-function halfway(one: Point, other: Point): Point {
-  return { x: (one.x + other.x) / 2, y: (one.y + other.y) / 2 };
-}
+const halfway = (one: Point, other: Point): Point => ({ x: (one.x + other.x) / 2, y: (one.y + other.y) / 2 });
 
 /** Returns a curve that begins at the first point, ends at the last one, and bends near the others. */
 export function curveOf(points: Point[]): string {

@@ -1,11 +1,11 @@
 /** The lists of modules and dependencies to look at first. */
 
 import { element } from "./elements.js";
-import { CLASSES, outsideItem, outsideItems } from "./outside_view.js";
-import { counted, kindLabel, moduleLink, nameLabel, pathLabel } from "./pieces.js";
+import { counted, kindLabel, moduleLink, nameLabel, nameText, pathLabel, rowLink } from "./pieces.js";
 import { importers, report } from "./report.js";
 import { longList } from "./reveal.js";
 import type { Found, Lists, MayBeReached, ShownCycle } from "../lists.js";
+import type { Classes, Outside } from "../outside.js";
 
 /** The most modules of a cycle in its item. */
 const MOST_STEPS = 8;
@@ -61,13 +61,29 @@ const LISTS: ShownList[] = [
   },
 ];
 
-/** The lists of what is outside the report, without the empty ones. */
-const OUTSIDE: ShownList[] = CLASSES
-  .map((list) => {
-    const items = outsideItems(list.id);
-    return { ...list, count: items.length, view: () => longList(items, outsideItem) };
-  })
-  .filter(({ count }) => count > 0);
+/** Numbers of a user: the module, the row and the line. */
+const USER = 3;
+
+/** The lists of what is outside the report, by class. */
+const CLASSES: (Omit<ShownList, "id" | "count" | "view"> & { id: keyof Classes })[] = [
+  {
+    id: "packages", title: "Packages", one: "package", many: "packages",
+    note: "With the version that is installed, else the one in package.json.",
+  },
+  { id: "builtins", title: "Modules of Node.js", one: "module of Node.js", many: "modules of Node.js" },
+  { id: "assets", title: "Assets", one: "asset", many: "assets", note: "Files that aren't modules." },
+  {
+    id: "files", title: "Other files", one: "other file", many: "other files",
+    note: "Modules that exist, but aren't in this report.",
+  },
+  { id: "urls", title: "URLs", one: "URL", many: "URLs", note: "They aren't loaded." },
+];
+
+/** Those that aren't empty. */
+const OUTSIDE: ShownList[] = CLASSES.filter(({ id }) => report.outside[id].length > 0).map((list) => {
+  const items = report.outside[list.id];
+  return { ...list, count: items.length, view: () => longList(items, outsideItem) };
+});
 
 /** How many items a list of the report has, and the view of all, in which each item has some elements. */
 function viewed<Name extends keyof Lists>(name: Name, contentOf: (item: Lists[Name][number]) => HTMLElement[]) {
@@ -119,9 +135,8 @@ function listView({ id, title, note, count, view }: ShownList) {
 
 function rowItem(found: Found) {
   const { module, row, line, name } = found;
-  const at = element("span", { class: "place" }, `:${line + 1}`);
   const kind = kindLabel({ ...found, word: found.kind });
-  return [nameLabel(name), kind, element("span", {}, moduleLink(module, row), at)];
+  return [nameLabel(name), kind, element("span", {}, ...rowLink(module, row, line))];
 }
 
 function unreachedItem(module: number) {
@@ -171,4 +186,28 @@ function faultItem(module: number) {
     element("span", { class: "kind fault" }, fault),
     element("span", {}, message),
   ];
+}
+
+/** @returns a list item that shows its users when it is opened */
+function outsideItem({ name, version, isAbsent, users }: Outside): HTMLElement {
+  const count = counted(users.length / USER, "place");
+  const summary = element(
+    "summary", {},
+    element("span", { class: "name" }, ...nameText(name)),
+    element("span", { class: "version" }, [version, isAbsent && "not installed"].filter(Boolean).join(", ")),
+    element("span", { class: "count" }, count),
+  );
+  const details = element("details", {}, summary);
+  details.addEventListener("toggle", () => details.append(usersList(users)), { once: true });
+  return element("li", {}, details);
+}
+
+function usersList(users: number[]) {
+  const items: number[][] = [];
+  for (let at = 0; at < users.length; at += USER) {
+    items.push(users.slice(at, at + USER));
+  }
+  return longList(items, ([module, row, line]) => {
+    return element("li", {}, element("span", {}, ...rowLink(module, row, line)));
+  });
 }

@@ -1,23 +1,19 @@
 /** The page: shows what its address names. */
 
-import { cycleView } from "./cycle_view.js";
 import { element, nextTask } from "./elements.js";
-import { folders, root } from "./folders.js";
+import { type Folder, folders, root } from "./folders.js";
 import { showHidden } from "./graph_legend.js";
-import { graphView } from "./graph_view.js";
-import { largeFolderView } from "./large_view.js";
+import { type Figure, graphView } from "./graph_view.js";
 import { listsView, summaryView } from "./lists_view.js";
-import { matrixView } from "./matrix_view.js";
+import { largeFolderView, matrixView } from "./matrix_view.js";
 import { ModuleList } from "./module_list.js";
 import { choose, moduleView } from "./module_view.js";
-import { STEPS, nearView } from "./near_view.js";
+import { STEPS, cycleView, nearView } from "./near_view.js";
 import { counted, hashOf } from "./pieces.js";
 import { paths, report, visible } from "./report.js";
 import { longList } from "./reveal.js";
 import { sizesView } from "./sizes_view.js";
 import type { Matches } from "./filter.js";
-import type { Folder } from "./folders.js";
-import type { Figure } from "./graph_view.js";
 
 /** A number or a name in an address. */
 type Word = number | string;
@@ -77,13 +73,9 @@ const FIGURES: Record<string, (words: Word[]) => HTMLElement> = {
 };
 
 /** Returns the folder of a number in an address, else the root. */
-function folderAtWord(word: Word): Folder {
-  return folders[Number(word)] ?? root;
-}
+const folderAtWord = (word: Word): Folder => folders[Number(word)] ?? root;
 
-function wholeGraph(): HTMLElement {
-  return FIGURES.folder([root.index]);
-}
+const wholeGraph = (): HTMLElement => FIGURES.folder([root.index]);
 
 /** The list of a folder's folders, for a graph that doesn't draw each. */
 function moreView(folder: Folder) {
@@ -208,9 +200,7 @@ function titleOf(module: number | undefined) {
 }
 
 /** Counts the rows of the open module; its table is there when the view is complete. */
-function countRows() {
-  return main.querySelectorAll("table.rows tbody tr").length;
-}
+const countRows = () => main.querySelectorAll("table.rows tbody tr").length;
 
 /** The next row of the open module, or the one before. */
 function step(by: number) {

@@ -3,13 +3,10 @@
  * so that marks on the other side of the diagonal are edges between folders or of cycles.
  */
 
-import { cycleOfEdge, strongerCycle } from "./cycles.js";
 import { eachPair } from "./graph_edges.js";
-import { countKind } from "./graph_kinds.js";
+import { type CycleKind, type KindCounts, countKind, cycleOfEdge, strongerCycle } from "./graph_kinds.js";
 import { report } from "./report.js";
-import type { CycleKind } from "./cycles.js";
 import type { Folder } from "./folders.js";
-import type { KindCounts } from "./graph_kinds.js";
 
 /** An edge from the module of a row to that of a column */
 export interface Mark {

@@ -1,21 +1,17 @@
 /** All edges of a folder of any size, as a matrix: a mark is an edge from its row's module to its column's. */
 
-import { CYCLES } from "./cycles.js";
 import { element } from "./elements.js";
-import { hiddenKinds, kindsText, strongestKind } from "./graph_kinds.js";
+import { CYCLES, type KindCounts, hiddenKinds, kindsText, strongestKind } from "./graph_kinds.js";
 import { shortLabel } from "./graph_layout.js";
 import { legend } from "./graph_legend.js";
-import { Mover } from "./graph_move.js";
-import { crumbs, graphFrame, roomIn, showMoved } from "./graph_view.js";
-import { matrixOf } from "./matrix_order.js";
-import { counted, hashOf } from "./pieces.js";
+import { Mover, type Placing } from "./graph_move.js";
+import { type Frame, crumbs, graphFrame, roomIn, showMoved } from "./graph_view.js";
+import { type Band, type Mark, type Matrix, matrixOf } from "./matrix_order.js";
+import { counted, hashOf, nameText } from "./pieces.js";
 import { eachEdge, paths, report, visible } from "./report.js";
+import { longList } from "./reveal.js";
 import type { Matches } from "./filter.js";
 import type { Folder } from "./folders.js";
-import type { KindCounts } from "./graph_kinds.js";
-import type { Placing } from "./graph_move.js";
-import type { Frame } from "./graph_view.js";
-import type { Band, Mark, Matrix } from "./matrix_order.js";
 
 /** Lengths at the scale 1: of a cell, and of the names before the rows and above the columns. */
 const CELL = 14;
@@ -38,11 +34,7 @@ const MATRIX_HINT = "A mark is an edge from the module of its row to the module 
 type Pen = CanvasRenderingContext2D;
 
 /** Where the matrix is in its box, and what is shown. */
-interface State {
-  at: Placing;
-  matches?: Matches;
-  pointed?: Mark;
-}
+type State = { at: Placing, matches?: Matches, pointed?: Mark };
 
 /** Where and how the matrix is painted on its canvas, in pixels. */
 interface Place {
@@ -71,7 +63,8 @@ export function matrixView(folder: Folder, isOwn: boolean = false): HTMLElement 
 function showMatrix(frame: Frame, matrix: Matrix, hint: HTMLElement) {
   const { modules, marks } = matrix;
   const all = marks.flat();
-  const label = `matrix of ${counted(modules.length, "module")} and ${counted(all.length, "edge")}`;
+  const [size, edges] = [counted(modules.length, "module"), counted(all.length, "edge")];
+  const label = `matrix of ${size} and ${edges}`;
   const canvas = element("canvas", { role: "img", "aria-label": label });
   frame.box.style.height = `${roomIn(frame.box).height}px`;
   frame.box.replaceChildren(canvas);
@@ -79,8 +72,7 @@ function showMatrix(frame: Frame, matrix: Matrix, hint: HTMLElement) {
   const paint = painter(canvas, matrix, state);
   const side = NAME_ROOM + CELL * modules.length;
   const mover = new Mover(frame.box, { width: side, height: side }, (at) => paint({ at }));
-  const size = `${counted(modules.length, "module")}, ${counted(all.length, "edge")}`;
-  frame.bar.append(element("span", { class: "count" }, size));
+  frame.bar.append(element("span", { class: "count" }, `${size}, ${edges}`));
   frame.box.before(legend({
     kinds: new Set(all.flatMap(({ kinds }) => [...kinds.keys()])), states: new Set(),
     cycles: CYCLES.filter((cycle) => all.some((mark) => mark.cycle === cycle)),
@@ -177,9 +169,7 @@ function paintMarks(pen: Pen, { modules, marks }: Matrix, place: Place, matches:
   pen.globalAlpha = 1;
 }
 
-function isHidden(kinds: KindCounts) {
-  return [...kinds.keys()].every((kind) => hiddenKinds.has(kind));
-}
+const isHidden = (kinds: KindCounts) => [...kinds.keys()].every((kind) => hiddenKinds.has(kind));
 
 /** Paints lines through the row and the column of a mark. */
 function paintCross(pen: Pen, { row, column }: Mark, { cell, left, top, width, height, colour }: Place) {
@@ -288,4 +278,33 @@ function rowOfEdge(from: number, to: number) {
     found ??= each === to ? row : undefined;
   });
   return found;
+}
+
+/**
+ * A folder whose modules are too many for one drawing.
+ * @param isOwn whether its folders are left out
+ * @returns the matrix of all, and links to the graph of each module, those with most edges first
+ */
+export function largeFolderView(folder: Folder, isOwn: boolean = false): HTMLElement {
+  const view = matrixView(folder, isOwn);
+  const weight = (module: number) => report.edges[module].length + (report.entries.includes(module) ? 1e9 : 0);
+  const byEdges = [...folder.modules].sort((one, other) => weight(other) - weight(one));
+  const note = `The ${counted(folder.modules.length, "module")} of this folder are too many for one drawing. ` +
+    "Each name below opens the graph of its neighbours.";
+  const inside = (isOwn ? [] : folder.folders).map((each) => {
+    const text = `${visible(each.name)}/ (${each.count.toLocaleString("en")})`;
+    return element("a", { href: `#folder-${each.index}` }, text);
+  });
+  const choices = longList(byEdges, (module) => element("li", {}, nearLink(module)));
+  choices.classList.add("choices");
+  view.append(
+    element("p", { class: "hint inside" }, note),
+    element("p", { class: "hint inside" }, ...inside.flatMap((link) => [link, " "])), choices,
+  );
+  return view;
+}
+
+function nearLink(module: number) {
+  const attributes = { href: `#near-${module}`, title: visible(paths[module]) };
+  return element("a", attributes, ...nameText(shortLabel(report.modules[module])));
 }

@@ -1,12 +1,10 @@
 /** The list of all modules by folder, of which only the visible part is made, and its filter. */
 
 import { element } from "./elements.js";
-import { matchesOf } from "./filter.js";
-import { folders } from "./folders.js";
+import { type Matches, matchesOf } from "./filter.js";
+import { type Folder, folders } from "./folders.js";
 import { counted, hashOf, nameText } from "./pieces.js";
 import { paths, report, visible } from "./report.js";
-import type { Matches } from "./filter.js";
-import type { Folder } from "./folders.js";
 
 /** The height of a row, as in the style, and how many rows are made above and below the visible ones. */
 const ROW = 22;

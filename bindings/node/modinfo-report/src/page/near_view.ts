@@ -1,19 +1,16 @@
-/** The graph of one module: its neighbourhood, of which no edge is left out. */
+/** The graphs of a neighbourhood, of which no edge is left out, and of a cycle, with its lines. */
 
 import { element } from "./elements.js";
 import { folderOf } from "./folders.js";
 import { eachPair } from "./graph_edges.js";
 import { hiddenKinds } from "./graph_kinds.js";
-import { moduleLook, moreLook } from "./graph_nodes.js";
+import { labelsOf, moduleLook, moreLook } from "./graph_nodes.js";
 import { sceneWith } from "./graph_scene.js";
 import { moreItem } from "./graph_tree.js";
-import { crumbs, graphFrame, planOfScene, roomIn, showFault, showPlan } from "./graph_view.js";
-import { labelsOf } from "./labels.js";
-import { counted, hashOf, nameText } from "./pieces.js";
+import { type Frame, crumbs, drawSoon, graphFrame, planOfScene, roomIn, showPlan } from "./graph_view.js";
+import { counted, hashOf, kindLabel, nameLabel, nameText, rowLink } from "./pieces.js";
 import { eachImporter, report } from "./report.js";
-import type { Plan } from "./graph_drawing.js";
-import type { Scene } from "./graph_scene.js";
-import type { Frame } from "./graph_view.js";
+import type { Found } from "../lists.js";
 
 /** The counts of modules of a step that are tried, the most first; all others of a step are one item. */
 const MOST_OF_STEP = [24, 16, 11, 7, 5];
@@ -37,18 +34,14 @@ const MOST_STEPS_AWAY = 9;
 export function nearView(module: number, steps: Steps): HTMLElement {
   const frame = graphFrame([crumbs(folderOf[module]), ...nameText(report.modules[module])]);
   frame.bar.after(element("p", { class: "hint" }, ...stepLinks(module, steps)));
-  requestAnimationFrame(() => drawNear(frame, module, steps).catch((error) => showFault(frame, error)));
-  return frame.view;
+  return drawSoon(frame, () => drawNear(frame, module, steps));
 }
 
 async function drawNear(frame: Frame, module: number, steps: Steps) {
-  let found: { scene: Scene, plan: Plan, isReadable: boolean } | undefined;
+  let found: Awaited<ReturnType<typeof planOfScene>> | undefined;
   for (const most of MOST_OF_STEP) {
     const scene = nearScene(module, { ...steps, most });
-    found = { scene, ...await planOfScene(scene, roomIn(frame.box)) };
-    if (found.isReadable) {
-      break;
-    }
+    found = found?.isReadable ? found : await planOfScene(scene, roomIn(frame.box));
   }
   if (found && frame.view.isConnected) {
     showPlan(frame, found.plan, found.scene);
@@ -117,4 +110,45 @@ function stepLinks(module: number, { into, from }: Steps) {
     link("+", { into: more(into), from }, "one step more of what it leads to"),
     " · ", element("a", { href: hashOf(module), class: "open" }, "open the module"),
   ];
+}
+
+/** What isn't known of some cycles. */
+const OF_TYPES = "It has imports of TypeScript files; a compiler removes those that name types alone, and then " +
+  "it may be no cycle of what runs.";
+
+/** The most modules of a cycle that are drawn; of a larger cycle, the modules of its shortest path. */
+const MOST_DRAWN = 40;
+
+/** @param number of the cycle */
+export function cycleView(number: number): HTMLElement {
+  const cycle = report.lists.cycles[number];
+  const { modules, path, isRun, rows, isOfTypes } = cycle;
+  const frame = graphFrame([`Cycle of ${counted(modules.length, "module")}`]);
+  const ran = isOfTypes ? ` ${OF_TYPES}` : "";
+  const kinds = isRun ? ran : " Types or comments close it: its code doesn't run in a circle.";
+  const note = `The marked edges are a shortest path around it.${kinds}`;
+  frame.bar.after(element("p", { class: "hint" }, note));
+  const steps = element("ol", { class: "steps" }, ...rows.map(rowStep));
+  frame.view.append(element("h3", {}, "Its lines"), steps);
+  const drawn = modules.length > MOST_DRAWN ? path.slice(0, MOST_DRAWN) : modules;
+  return drawSoon(frame, () => drawCycle(frame, drawn, path));
+}
+
+function rowStep({ module, row, line, kind, name }: Found) {
+  const label = kindLabel({ kind, word: kind });
+  return element("li", {}, ...rowLink(module, row, line), " ", label, " ", nameLabel(name));
+}
+
+async function drawCycle(frame: Frame, modules: number[], path: number[]) {
+  const label = labelsOf(modules);
+  const scene = sceneWith(modules, (module) => moduleLook(module, label(module)));
+  const steps = new Set(path.map((module, at) => `m${module} m${path[(at + 1) % path.length]}`));
+  for (const edge of [...scene.edges.values()].flat()) {
+    edge.isMarked = steps.has(`${edge.from} ${edge.to}`);
+  }
+  const { plan } = await planOfScene(scene, roomIn(frame.box));
+  if (frame.view.isConnected) {
+    showPlan(frame, plan, scene);
+    frame.view.mover?.show(frame.box.querySelector(".edge.marked"));
+  }
 }

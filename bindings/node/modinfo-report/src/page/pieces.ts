@@ -3,7 +3,7 @@
 import { nameParts } from "./controls.js";
 import { element } from "./elements.js";
 import { kindNamed, partsOf, paths, report } from "./report.js";
-import { weightOf } from "./weights.js";
+import { weightOf } from "./ways.js";
 import type { DynamicArgument, DynamicTemplatePart } from "modinfo";
 import type { Target } from "../links.js";
 
@@ -30,6 +30,11 @@ export function nameText(text: string): (Node | string)[] {
 /** @returns a link */
 export function moduleLink(module: number, row?: number): HTMLElement {
   return element("a", { href: hashOf(module, row) }, pathLabel(paths[module]));
+}
+
+/** A row of a module, with its line, which is counted from zero. */
+export function rowLink(module: number, row: number, line: number): HTMLElement[] {
+  return [moduleLink(module, row), element("span", { class: "place" }, `:${line + 1}`)];
 }
 
 export function hashOf(module: number, row?: number): string {
@@ -68,9 +73,7 @@ export function targetLabel(target: Target | undefined): HTMLElement | string {
   return element("span", { class: "outside", title: "not a module of this report" }, ...outsideLabel(target));
 }
 
-function outsideLabel(
-  { class: name, file, package: packageName, version = "" }: Target,
-): (HTMLElement | string)[] {
+function outsideLabel({ class: name, file, package: packageName, version = "" }: Target) {
   switch (name) {
     case "builtin": return ["a module of Node.js"];
     case "url": return ["a URL"];

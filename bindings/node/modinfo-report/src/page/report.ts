@@ -15,40 +15,33 @@ export const paths: string[] = report.modules.map((name, module) => {
   return folder === "." ? name : `${folder}/${name}`;
 });
 
-const entries = new Set(report.entries);
-const unreached = new Set(report.lists.unreached);
-const mayBeReached = new Set(report.lists.mayBeReached.map(({ module }) => module));
-const byTypes = new Set(report.lists.byTypes.map(({ module }) => module));
 const modulesOfCycles = (ran: boolean) => {
   return new Set(report.lists.cycles.filter(({ isRun }) => isRun === ran).flatMap(({ modules }) => modules));
 };
-const cyclic = modulesOfCycles(true);
-const typeCyclic = modulesOfCycles(false);
 
 /** The kinds whose edges run code; the others are of types and comments. */
 const RUNS = new Set(["static", "dynamic", "require"]);
 export const kindRuns = report.kinds.map(({ kind }) => RUNS.has(kind));
 
-/** Calls a function with each edge from a module. */
-export function eachEdge(module: number, act: (to: number, kind: number, row: number, line: number) => void) {
-  const flat = report.edges[module];
+/** Is called with the module at the other end of an edge, and the edge's kind, row and line. */
+type Act = (other: number, kind: number, row: number, line: number) => void;
+
+function eachOf(flat: number[], act: Act) {
   for (let at = 0; at < flat.length; at += EDGE) {
     act(flat[at], flat[at + 1], flat[at + 2], flat[at + 3]);
   }
 }
 
+/** Calls a function with each edge from a module. */
+export const eachEdge = (module: number, act: Act) => eachOf(report.edges[module], act);
+
 /** For each module the edges that lead to it. */
 let edgesTo: number[][] | undefined;
 
 /** Calls a function with each edge to a module. */
-export function eachImporter(
-  module: number, act: (from: number, kind: number, row: number, line: number) => void,
-) {
+export function eachImporter(module: number, act: Act) {
   edgesTo ??= turnedEdges();
-  const flat = edgesTo[module];
-  for (let at = 0; at < flat.length; at += EDGE) {
-    act(flat[at], flat[at + 1], flat[at + 2], flat[at + 3]);
-  }
+  eachOf(edgesTo[module], act);
 }
 
 function turnedEdges() {
@@ -60,44 +53,34 @@ function turnedEdges() {
 }
 
 /** The row of a module that leads to another one. */
-export interface Importer {
-  module: number;
-  kind: number;
-  row: number;
-  line: number;
-}
+export type Step = Record<"from" | "kind" | "row" | "line", number>;
 
 /** @returns the rows that lead to it */
-export function importers(module: number): Importer[] {
-  const found: Importer[] = [];
-  eachImporter(module, (from, kind, row, line) => found.push({ module: from, kind, row, line }));
+export function importers(module: number): Step[] {
+  const found: Step[] = [];
+  eachImporter(module, (from, kind, row, line) => found.push({ from, kind, row, line }));
   return found;
 }
 
-/** The states of a module: whether it is an entry, in a class of the unreached, in a cycle, or has a fault. */
+/** The states in which a module may be, with their titles and the modules that are in each. */
+export const STATES: [state: string, title: string, modules: Set<number>][] = [
+  ["entry", "entry", new Set(report.entries)],
+  [
+    "unreached", report.entries.length > 0 ? "unreached" : "imported by no module",
+    new Set(report.lists.unreached),
+  ],
+  ["may-be-reached", "may be reached", new Set(report.lists.mayBeReached.map(({ module }) => module))],
+  ["by-types", "reached by types alone", new Set(report.lists.byTypes.map(({ module }) => module))],
+  ["cyclic", "in a cycle", modulesOfCycles(true)],
+  ["type-cyclic", "in a cycle of types", modulesOfCycles(false)],
+  ["faulty", "not analyzed", new Set(Object.keys(report.faults).map(Number))],
+];
+
 export function moduleStates(module: number): string[] {
-  const states: [boolean, string][] = [
-    [entries.has(module), "entry"],
-    [unreached.has(module), "unreached"],
-    [mayBeReached.has(module), "may-be-reached"],
-    [byTypes.has(module), "by-types"],
-    [cyclic.has(module), "cyclic"],
-    [typeCyclic.has(module), "type-cyclic"],
-    [module in report.faults, "faulty"],
-  ];
-  return states.filter(([has]) => has).map(([, name]) => name);
+  return STATES.filter(([, , modules]) => modules.has(module)).map(([state]) => state);
 }
 
-/** @param state that `moduleStates` returns */
-export function stateTitle(state: string): string {
-  const notReached = report.entries.length > 0 ? "unreached" : "imported by no module";
-  const titles: Record<string, string> = {
-    entry: "entry", unreached: notReached, "may-be-reached": "may be reached",
-    "by-types": "reached by types alone",
-    cyclic: "in a cycle", "type-cyclic": "in a cycle of types", faulty: "not analyzed",
-  };
-  return titles[state];
-}
+export const stateTitle = (state: string): string | undefined => STATES.find(([name]) => name === state)?.[1];
 
 /** Splits a path in the folder with its slash, and the name. */
 export function partsOf(path: string): [string, string] {

@@ -12,9 +12,7 @@ const ADDED = 100;
  * @param view makes a list item
  * @param tag of the list
  */
-export function longList<Item>(
-  items: Item[], view: (item: Item) => HTMLElement, tag: "ul" | "ol" = "ul",
-): HTMLElement {
+export function longList<Item>(items: Item[], view: (item: Item) => HTMLElement, tag: "ul" | "ol" = "ul") {
   const list = element(tag, {}, ...items.slice(0, SHOWN).map(view));
   if (items.length <= SHOWN) {
     return list;

@@ -54,6 +54,4 @@ function segmentsOf(from: number, to: number, marks: MarkDetails[]) {
 }
 
 /** Sorts the longest first. */
-function byLength(one: MarkDetails, other: MarkDetails) {
-  return other[1] - other[0] - (one[1] - one[0]);
-}
+const byLength = (one: MarkDetails, other: MarkDetails) => other[1] - other[0] - (one[1] - one[0]);

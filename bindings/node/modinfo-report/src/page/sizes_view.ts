@@ -1,11 +1,10 @@
 /** The picture of sizes: folders and modules as areas, by their bytes or by their count of modules. */
 
 import { element } from "./elements.js";
-import { root } from "./folders.js";
+import { type Folder, root } from "./folders.js";
 import { crumbs } from "./graph_view.js";
 import { counted, hashOf, sizeText, weightText } from "./pieces.js";
 import { paths, report, visible } from "./report.js";
-import type { Folder } from "./folders.js";
 
 /** The depth of folders in folders that is drawn, and the most areas side by side. */
 const DEPTH = 3;

@@ -4,9 +4,8 @@ import { withControls } from "./controls.js";
 import { element, nextTask } from "./elements.js";
 import { hashOf } from "./pieces.js";
 import { kindNamed } from "./report.js";
-import { lineSegments } from "./segments.js";
+import { type Segment, lineSegments } from "./segments.js";
 import type { Details } from "../page_data.js";
-import type { Segment } from "./segments.js";
 
 /** Count of lines that a browser lays out together, when they are seen. */
 const BLOCK = 200;

@@ -1,13 +1,12 @@
 /** The table of a module's dependencies, and the list of its users. */
 
 import { element } from "./elements.js";
-import { hashOf, kindLabel, moduleLink, nameLabel, targetLabel } from "./pieces.js";
-import { importers, report } from "./report.js";
+import { hashOf, kindLabel, nameLabel, rowLink, targetLabel } from "./pieces.js";
+import { type Step, importers, report } from "./report.js";
 import { longList } from "./reveal.js";
 import type { ImportAttributes } from "modinfo";
 import type { Target } from "../links.js";
 import type { RowDetails } from "../page_data.js";
-import type { Importer } from "./report.js";
 
 /** Names in a `ModuleInfo` that repeat the kind. */
 const PLAIN = new Set(["import", "require", "JSDoc import"]);
@@ -79,10 +78,9 @@ function detail(name: string, ...content: (Node | string | undefined)[]) {
 
 /** @param index of the module */
 export function importersView(index: number): HTMLElement {
-  const item = ({ module, kind, row, line }: Importer) => {
-    const place = element("span", { class: "place" }, `:${line + 1}`);
+  const item = ({ from, kind, row, line }: Step) => {
     const { kind: word } = report.kinds[kind];
-    return element("li", {}, moduleLink(module, row), place, " ", kindLabel({ kind: word, word }));
+    return element("li", {}, ...rowLink(from, row, line), " ", kindLabel({ kind: word, word }));
   };
   const found = importers(index);
   return element(

@@ -2,10 +2,9 @@
 
 import { detailsOf } from "./details.js";
 import { element } from "./elements.js";
-import { kindLabel, moduleLink, nameLabel } from "./pieces.js";
-import { kindRuns, report } from "./report.js";
+import { kindLabel, nameLabel, rowLink } from "./pieces.js";
+import { type Step, kindRuns, report } from "./report.js";
 import { wayTo } from "./ways.js";
-import type { Step } from "./ways.js";
 
 export function wayView(module: number): HTMLElement {
   const way = wayTo(module);
@@ -30,16 +29,11 @@ function contentOf(way: Step[] | undefined) {
   ];
 }
 
-function note(text: string) {
-  return element("p", { class: "none" }, text);
-}
+const note = (text: string) => element("p", { class: "none" }, text);
 
 function stepView({ from, kind, row, line }: Step) {
   const name = element("span", { class: "step-name" });
   detailsOf(from).then(({ rows }) => name.append(nameLabel(rows[row].name)));
-  return element(
-    "li", {},
-    moduleLink(from, row), element("span", { class: "place" }, `:${line + 1}`), " ",
-    kindLabel({ kind: report.kinds[kind].kind, word: report.kinds[kind].syntax }), " ", name,
-  );
+  const { kind: own, syntax: word } = report.kinds[kind];
+  return element("li", {}, ...rowLink(from, row, line), " ", kindLabel({ kind: own, word }), " ", name);
 }

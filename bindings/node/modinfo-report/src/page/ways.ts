@@ -1,14 +1,6 @@
 /** The shortest paths to modules from the entries, or without entries from the modules that none leads to. */
 
-import { eachEdge, kindRuns, report } from "./report.js";
-
-/** An edge of a path. */
-export interface Step {
-  from: number;
-  kind: number;
-  row: number;
-  line: number;
-}
+import { type Step, eachEdge, kindRuns, report } from "./report.js";
 
 /** By modules the last edge of a shortest path to each; undefined where a path begins, and where none ends. */
 let steps: Step[] | undefined;
@@ -44,4 +36,23 @@ function allSteps() {
     }
   }
   return found;
+}
+
+/** Of modules with all that they run. */
+const weights: Map<number, { bytes: number, count: number }> = new Map();
+
+/** The bytes of a module and of all that it runs, and how many modules these are. */
+export function weightOf(module: number): { bytes: number, count: number } {
+  let weight = weights.get(module);
+  if (weight === undefined) {
+    const seen = new Set([module]);
+    let bytes = 0;
+    for (const each of seen) {
+      bytes += report.bytes[each];
+      eachEdge(each, (to, kind) => kindRuns[kind] && seen.add(to));
+    }
+    weight = { bytes, count: seen.size };
+    weights.set(module, weight);
+  }
+  return weight;
 }

@@ -100,11 +100,6 @@ function written(node: Node, inFunction: boolean): object {
   return { type: "Other", ...rangeOf(node), decorators: first, body: relevantBelow(node, inFunction) };
 }
 
-/** The text of a template's part. */
-interface Cooked {
-  cooked?: unknown;
-}
-
 function isNode(value: unknown): value is Node {
   return typeof (value as Node | null | undefined)?.type === "string";
 }
@@ -121,7 +116,8 @@ function valueOf(value: unknown, inFunction: boolean): unknown {
     return typeof value === "bigint" ? null : value;
   }
   // Else the text of a template's part, or a regular expression.
-  return isNode(value) ? written(value, inFunction) : { cooked: valueOf((value as Cooked).cooked, inFunction) };
+  const { cooked } = value as { cooked?: unknown };
+  return isNode(value) ? written(value, inFunction) : { cooked: valueOf(cooked, inFunction) };
 }
 
 function relevantBelow(node: Node, inFunction: boolean): object[] {

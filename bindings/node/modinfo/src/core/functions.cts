@@ -2,10 +2,9 @@
 
 import { readSignal } from "./input.cjs";
 import { Core } from "./instance.cjs";
-import { plans } from "./plans.cjs";
+import { type Plan, plans } from "./plans.cjs";
 import { engine } from "./webassembly.cjs";
 import type { Functions } from "../types/calls.cjs";
-import type { Plan } from "./plans.cjs";
 
 /** Returns the bytes of the module. */
 export type Read = () => Uint8Array;

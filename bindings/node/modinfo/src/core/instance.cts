@@ -1,9 +1,8 @@
 /** Calls of the WebAssembly module, which has the functions of the library for C. */
 
 import { ModinfoFault, ProgramEnd } from "./errors.cjs";
-import { engine } from "./webassembly.cjs";
+import { type Exports, type Instance, engine } from "./webassembly.cjs";
 import type { FaultName } from "../types/calls.cjs";
-import type { Exports, Instance } from "./webassembly.cjs";
 
 /** An instance with more bytes of memory is given up after its call, since no memory shrinks. */
 const MOST_KEPT = 256 * 2 ** 20;

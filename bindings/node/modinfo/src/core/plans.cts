@@ -86,9 +86,7 @@ export const plans = {
 };
 
 /** @throws {TypeError} the media type is no string */
-function sourceOf(
-  text: string, specifier: unknown, mediaType: unknown,
-): { analyze: (core: Core) => Result, check: (core: Core) => Result } {
+function sourceOf(text: string, specifier: unknown, mediaType: unknown): Record<string, Plan<Result>> {
   const url = urlText(text, specifier);
   if (mediaType !== undefined && typeof mediaType !== "string") {
     throw new TypeError(`mediaType must be a string, not ${String(mediaType)}: options follow it`);
@@ -106,7 +104,6 @@ function sourceOf(
   return { analyze: (core) => core.run(analyze, document), check: (core) => core.run(check, document) };
 }
 
-/** @param document an object, or its JSON */
 function documentPlan<Value>(command: string, document: unknown, options?: ReportOptions): Plan<Value> {
   checkKnown(options, ["report", "signal"]);
   const hasReport = options?.report;
@@ -122,10 +119,7 @@ function documentPlan<Value>(command: string, document: unknown, options?: Repor
   };
 }
 
-/**
- * @returns JSON
- * @throws {ModinfoFault}
- */
+/** @throws {ModinfoFault} */
 function answerOf(result: Result): string {
   if (!result.isAnswer) {
     throw ModinfoFault.of(result.text);
@@ -144,18 +138,12 @@ function faultWith(report: Report | undefined, { text }: Result & { isAnswer: fa
   return ModinfoFault.of(report.fault, message, { line: report.at.line + 1, column: report.at.column + 1 });
 }
 
-/**
- * The parser's message of a syntax error or a defect.
- * @param expected of the report on the text
- */
+/** The parser's message of a syntax error or a defect, by what the report on the text expects. */
 export function messageOf(expected: string): string {
   return expected.startsWith(VALID) ? expected.slice(VALID.length) : `expected ${expected}`;
 }
 
-/**
- * A report in one line, for people.
- * @returns one line, as `Tree at /program: expected a member `body``
- */
+/** A report in one line for people, as `Tree at /program: expected a member `body``. */
 function describeReport(report: FaultReport): string {
   return `${report.fault} at ${positionOf(report)}: expected ${report.expected}`;
 }
