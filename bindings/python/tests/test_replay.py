@@ -27,8 +27,8 @@ def test_a_case_that_is_answered(name: str, command: str, document: bytes, statu
     assert answer(command, document) == json.loads(wanted)
 
 
-def test_that_cases_have_each_fault_but_that_of_memory() -> None:
-    assert {case[4].decode() for case in REFUSED} | {"OutOfMemory"} == set(get_args(modinfo.FaultName))
+def test_that_cases_have_each_fault_but_those_of_memory_and_defects() -> None:
+    assert {case[4].decode() for case in REFUSED} | {"OutOfMemory", "Defect"} == set(get_args(modinfo.FaultName))
 
 
 def test_that_the_version_is_the_program_s() -> None:
