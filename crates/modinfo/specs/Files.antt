@@ -23,8 +23,8 @@ use Rattle.modinfo.specs.declared.command_line.Names.{Names}
 use Rattle.modinfo.specs.declared.command_line.Names.TheVariants.{Arguments, Lines, Zeros}
 use Rattle.modinfo.specs.declared.fault.Fault.{Fault}
 
--- The information on a file with a URL: that on a source with the URL, the media type by the URL, and the
--- text that was read. What text a file has is the system's word.
+-- The information on a file with a URL: that on a source with the URL, the media type by the URL, and a text.
+-- That the text is the file's is the system's word, and isn't said.
 pub record IsInfoOfFile (url : Parts) (info : ModuleInfo) : Type 0 where
   pub module_ : ParsedModule
   pub specifier : module_.specifier ≡ url
