@@ -18,7 +18,7 @@ use std::alloc::{AllocError, Global};
 
 /// Returns the comments among the pieces of a text, each filed, in the order of the text; or the offset where
 /// the text isn't pieces side by side by these choices, or isn't that of a tree: a claim is no piece, or a
-/// word that a dependency begins with is lost. The claims and the words of calls are in the order of the text.
+/// word that a dependency begins with is lost. The claims and the marks are in the order of the text.
 /// In a typed text methods may have no body.
 pub fn find(
     alloc: Global,

@@ -41,7 +41,7 @@ HasComments-claimed text is_typed claims marks comments has = record {
   are_filed = has.are_filed;
 }
 
--- The text has the claims and the calls, and its comments are filed.
+-- The text has the claims and the marks, and its comments are filed.
 pub HasClaims-found : (text : List ℕ) (is_typed : Bool) (choices : List Choice) (claims marks : List Piece)
     (filed : List FiledComment) (comments : FiledComments)
     → HasFound text is_typed choices claims marks filed → AreFiled text filed comments

@@ -13,7 +13,7 @@ use Rattle.modinfo_pieces.specs.declared.choice.Choice.{Choice}
 use Rattle.modinfo_pieces.specs.declared.piece.Piece.{Piece}
 use Rattle.modinfo_source.specs.Comments.{AreFiled, AreFrom}
 
--- Comments are those of a text, filed, and the text has these claims and calls.
+-- Comments are those of a text, filed, and the text has these claims and marks.
 pub record HasClaims (text : List ℕ) (is_typed : Bool) (claims marks : List Piece) (comments : FiledComments)
     : Type 0 where
   pub choices : List Choice

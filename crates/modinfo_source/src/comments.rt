@@ -16,7 +16,7 @@ use modinfo_pieces::piece::{Piece, PieceKind};
 use std::alloc::{AllocError, Global};
 
 /// Returns the comments of a text, each filed, by the choices of the parser. `Defect` if the text isn't that
-/// of the tree with these claims and calls.
+/// of the tree with these claims and marks.
 pub(crate) fn comments_of(
     alloc: Global,
     text: &str,

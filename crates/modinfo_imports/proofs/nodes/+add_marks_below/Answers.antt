@@ -1,4 +1,4 @@
--- Each turn adds the calls of one more child.
+-- Each turn adds the marks of one more child.
 use Rattle.std.proofs.Common.{refl, sym, ◌∙◌}
 use Rattle.std.proofs.lemmas.List.{append-nil}
 use Rattle.deno_graph_source.specs.Node.{children_of}

@@ -1,4 +1,4 @@
--- The calls of a node and of the children so far.
+-- The marks of a node and of the children so far.
 use Rattle.std.proofs.Common.{◌≡◌, ◌++◌, take}
 use Rattle.modinfo_imports.proofs.ClaimedNodes.{below}
 use Rattle.modinfo_imports.specs.Nodes.{marks_of}

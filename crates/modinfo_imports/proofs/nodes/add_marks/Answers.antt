@@ -1,4 +1,4 @@
--- Each turn adds the calls of one more node.
+-- Each turn adds the marks of one more node.
 use Rattle.std.proofs.Common.{refl, sym}
 use Rattle.std.proofs.lemmas.List.{append-nil}
 use Rattle.modinfo_imports.proofs.ClaimedNodes.{below-all, below-more}

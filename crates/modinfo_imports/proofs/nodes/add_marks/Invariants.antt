@@ -1,4 +1,4 @@
--- The calls of the nodes so far.
+-- The marks of the nodes so far.
 use Rattle.std.proofs.Common.{◌≡◌, ◌++◌, take}
 use Rattle.modinfo_imports.proofs.ClaimedNodes.{below}
 use Rattle.modinfo_imports.specs.Nodes.{marks_of}
