@@ -105,7 +105,7 @@ test("a document with a fault", { skip }, async () => {
       ? modinfo.moduleInfo(document.source, document.specifier) : modinfo[command](document);
     await assert.rejects(call, { name: "ModinfoFault", fault: wanted.fault });
   }
-  // No text is known to be read wrongly.
+  // But the one for texts that show a defect of modinfo.
   const names = readSchema("report").$defs.documentFault.enum.filter((name) => name !== "Defect");
   assert.deepEqual([...new Set(reports.map((report) => report.fault))].sort(), names.sort());
   const { expected } = asFault(await modinfo.check({ ...SIDE_EFFECT_IMPORT, source: "" }));
