@@ -77,9 +77,9 @@ where
     }
 }
 
-/// Returns the names in the arguments of a process: the bytes after the program's name and `files`, each name
-/// ended by a zero byte. `None` for other arguments. Names that aren't UTF-8 are no words of `serve_files`, but
-/// the input of `files --null` may have them.
+/// Returns the names in the arguments of a process: the bytes after the program's name and `files`, each
+/// name ended by a zero byte. `None` for other arguments. Names that aren't UTF-8 are no words of
+/// `serve_files`, but the input of `files --null` may have them.
 pub fn names_in(alloc: Global, arguments: &[u8]) -> Result<Option<&[u8]>, AllocError> {
     let Some(names) = after_zero(arguments).and_then(|words| words.strip_prefix(b"files\0")) else {
         return Ok(None);
@@ -95,8 +95,8 @@ fn after_zero(bytes: &[u8]) -> Option<&[u8]> {
     bytes.get(at + 1..)
 }
 
-/// Prints a line for each file. Returns whether each has information. After a fault of the run, too, the lines
-/// before it are printed.
+/// Prints a line for each file. Returns whether each has information. After a fault of the run, too, the
+/// lines before it are printed.
 fn run_files<R: Files + Env + AllocGlobal, I: Read, W: Write>(
     rt: &R,
     names: Names,
@@ -173,8 +173,8 @@ fn print_named<R: Files + AllocGlobal, W: Write>(
     Ok(is_whole)
 }
 
-/// Prints a line for each of the files whose names are in the input, each ended by a byte. Returns whether each
-/// has information. Writes before each read that may wait for input.
+/// Prints a line for each of the files whose names are in the input, each ended by a byte. Returns whether
+/// each has information. Writes before each read that may wait for input.
 fn print_listed<R: Files + AllocGlobal, I: Read, W: Write>(
     rt: &R,
     folder: Option<&str>,
@@ -214,8 +214,8 @@ where
     Err(Fault::Input)
 }
 
-/// Reads a name, and appends the line of its file. Returns whether the file has information, `None` at the end
-/// of the input. A fault appends nothing.
+/// Reads a name, and appends the line of its file. Returns whether the file has information, `None` at the
+/// end of the input. A fault appends nothing.
 fn put_next<R: Files + AllocGlobal, I: Read>(
     rt: &R,
     reader: &mut FileReader,

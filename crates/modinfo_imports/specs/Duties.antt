@@ -20,7 +20,7 @@ use Rattle.modinfo_pieces.specs.declared.piece.PieceKind.TheVariants as kinds
 abbrev pub operators : List (List ℕ)
 operators = codes "infer" ∷ codes "keyof" ∷ codes "readonly" ∷ codes "super" ∷ codes "unique" ∷ []
 
--- Words that are told apart.
+-- The words that a rule names.
 unfoldable pub name_of : List ℕ → Name
 name_of word =
     (if bytes_eq word (codes "from") then names.From

@@ -125,7 +125,7 @@ is_type_only kind = false
 abbrev pub type_mark : List ℕ → ℕ → Kind → Option Piece
 type_mark text at kind = (if is_type_only kind then begin_claim text at kind else None)
 
--- The marks of a node: its pieces that may stand in few places alone.
+-- The marks of a node: its pieces that few places may have.
 abbrev pub marks_of : List ℕ → Node → List Piece
 marks_of text node =
     option_to_list (call_words text (range_of node) (children_of node) (kind_of node))
