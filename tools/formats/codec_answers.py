@@ -28,6 +28,7 @@ def answers(codec: Codec, whole: str) -> Iterator[tuple[str, str]]:
     from_json = f"{codec.type}FromJson{of_whole}/from_json"
     if codec.variants:
         yield from_json, of_union(codec)
+        yield f"read_{codec.word}", of_unknown(codec)
     elif codec.record:
         if len(codec.record.read) >= READS:
             path = from_json if codec.is_value else f"read_{codec.word}"
@@ -42,8 +43,23 @@ def of_union(codec: Codec) -> str:
         f"pub returns : goal.returns\nunfolding reads_{word}\nreturns c =\n"
         "    object_on _ _ (readable c.in_ok-object.object) _ c.in_ok-object.ensures\n"
         f"    (member_on _ _ _ _ _ _ c.in_ok-{word}_type.ensures\n"
-        f"    (c.read_{word}.ensures c.in_ok-{word}_type.ensures))\n"
+        f"    (c.read_{word}.ensures.read c.in_ok-{word}_type.ensures))\n"
     )
+
+
+def of_unknown(codec: Codec) -> str:
+    word, goal = codec.word, "returns-in_default-clause-read"
+    given, members = f"c.args.{word}_type.now", "readable c.args.object.now"
+    lines = ["-- The type is none in the list.", f"pub {goal} : goal.{goal}", f"unfolding {word}_of_type"]
+    lines += [f"{goal} c = λ here."]
+    lines += [f"    let none : {word}_of_type {given} ({members}) ≡ None = search rules in"]
+    for each in codec.variants:
+        lines += [f'    let no_{each.tag} : bytes_eq {given} (codes "{each.tag}") ≡ false = search rules in']
+    differs = ", (".join(f"no_{each.tag}" for each in codec.variants)
+    lines += ["    read_error (value_of c.args.object.now) _ c.member_error.result none"]
+    ends = ")" * (len(codec.variants) - 1)
+    lines += [f"    (c.member_error.ensures.place (string {given}) here ({differs}, tt)){ends}"]
+    return "\n".join([*lines, ""])
 
 
 def in_rows(terms: list[str]) -> str:

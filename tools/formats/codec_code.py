@@ -18,6 +18,15 @@ def code(codec: Codec, module: str, whole: str) -> str:
     return union_code(codec, module, whole) if codec.variants else record_code(codec, module, whole)
 
 
+def list_of(codec: Codec) -> str:
+    """The list of the names of a type, or of its variants."""
+    return camel(codec.word) + ("s" if codec.names else "Types")
+
+
+def expected(codec: Codec) -> str:
+    return f"Expected::NameIn(NameList::{list_of(codec)})"
+
+
 def put(value: str, member: Field) -> str:
     key = f'"{member.key}"'
     return {
@@ -103,10 +112,8 @@ def record_code(codec: Codec, module: str, whole: str) -> str:
 
 def names_code(codec: Codec, module: str, whole: str) -> str:
     word, name = codec.word, codec.type
-    expected = f"EXPECTED_{word.upper()}"
     made = {each: f"{name}::{camel(each)}" for each in codec.names}
     names = "".join(f'            {made[each]} => "{each}",\n' for each in codec.names)
-    forms = "".join(f'        Form::Name("{each}"),\n' for each in codec.names)
     values = "".join(f'        "{each}" => Ok({made[each]}),\n' for each in codec.names)
     body = f"        let name = read_str(alloc, value)?;\n        {word}_named(alloc, name)\n"
     of_name = f"""impl {name} {{
@@ -127,19 +134,14 @@ impl ToJson for {name} {{
     }}
 }}
 """
-    named = f"""const {expected}: Expected = Expected::OneOf(
-    "{codec.schema['x-expected']}",
-    &[
-{forms}    ],
-);
-
-/// Returns the value with this name in JSON.
+    named = f"""/// Returns the value with this name in JSON.
 {tactic(module, f"{word}_named", f"reads_{word}", reads_members=False)}
 fn {word}_named(alloc: Global, name: &str) -> Result<{name}, ReadError>
-    ensures {{ IsReadResult (string name.now) ({word}_named name.now) result }}
+    ensures read {{ IsReadResult (string name.now) ({word}_named name.now) result }}
+    ensures expected {{ IfErr result (Expects (NameIn {list_of(codec)})) }}
 {{
     match name {{
-{values}        _ => Err(ReadError::expected(alloc, {expected})),
+{values}        _ => Err(ReadError::expected(alloc, {expected(codec)})),
     }}
 }}
 """
@@ -179,16 +181,17 @@ def union_code(codec: Codec, module: str, whole: str) -> str:
     found = f"{word}_type"
     lines = f"        let object = ObjectReader::<{whole}>::new(alloc, value)?;\n"
     lines += f'        let {found} = object.read_str("type")?;\n        read_{word}({found}, &object)\n'
-    first, second = (each.tag for each in codec.variants)
     parts += [
         from_json(codec, tactic(module, f"reads_{word}"), whole, lines),
         f"/// Reads a `{name}` of the type `{found}`.\n"
         + tactic(module, f"{word}_of_type", reads_members=False)
         + f"\nfn read_{word}({found}: &str, object: &ObjectReader<{whole}>) -> Result<{name}, ReadError>\n"
-        f'    ensures {{ get_member (codes "type") (readable object.now) ≡ Some (string {found}.now)\n'
+        f'    ensures read {{ get_member (codes "type") (readable object.now) ≡ Some (string {found}.now)\n'
         f"        → IsReadResult (value_of object.now) ({word}_of_type {found}.now (readable object.now)) result }}\n"
+        f"    ensures expected {{ IsNoNameIn {list_of(codec)} (string {found}.now)\n"
+        f"        → IfErr result (Expects (NameIn {list_of(codec)})) }}\n"
         f"{{\n    match {found} {{\n{arms}"
-        f'        _ => Err(object.member_error("type", Expected::Either("{first}", "{second}"))),\n    }}\n}}\n',
+        f'        _ => Err(object.member_error("type", {expected(codec)})),\n    }}\n}}\n',
         *readers,
     ]
     return "\n".join(parts)

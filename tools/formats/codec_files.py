@@ -16,7 +16,7 @@ from formats.rattle_imports import antt_file, code_file, defined
 from formats.schema import Format
 
 CODE = {
-    "deno_graph_json": "Element Expected Form FromJson JsonWriter ObjectReader ReadError ToJson ToObject",
+    "deno_graph_json": "Element Expected FromJson JsonWriter NameList ObjectReader ReadError ToJson ToObject",
     "deno_graph_json::read": "read_str",
     "std::alloc": "AllocError Global",
 }

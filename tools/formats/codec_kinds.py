@@ -15,6 +15,7 @@ CRATE = "crates/modinfo_document"
 MODULE = "Rattle.modinfo_document"
 DECLARED = "Rattle.deno_graph_source.specs.declared.tree"
 READING = "using(deno_graph_json::proofs::Reading::reading)"
+LISTS = "Rattle.deno_graph_json.specs.declared.names.NameList.TheVariants"
 # The number of reads that the prover follows without an answer, and of members that are looked for one by one.
 READS = 4
 FEW = 3
@@ -38,7 +39,7 @@ KNOWN = {
 }
 CODE = {
     "crate::document": "Document",
-    "deno_graph_json": "Element Expected FromJson ObjectReader ReadError",
+    "deno_graph_json": "Element Expected FromJson NameList ObjectReader ReadError",
     "deno_graph_json::read": "read_str",
     "deno_graph_source::tree": "BinaryOp Callee CommentKind ImportPhase Kind MediaType",
     "std::alloc": "Global",
@@ -211,7 +212,7 @@ class Kinds:
                 yield f"{CRATE}/{path}/Answers.antt", text
         known |= dict.fromkeys(("comment_kinds",), f"{MODULE}.specs.Kind")
         yield f"{CRATE}/src/kind.rt", code_file(
-            source, "Reading the kind of a node.", self.code(), known, self.imports()
+            source, "Reading the kind of a node.", self.code(), {**known, "Kinds": LISTS}, self.imports()
         )
         about = "Reading values by their names."
         yield f"{CRATE}/src/named.rt", code_file(source, about, self.names_code(), known, self.imports())
@@ -328,17 +329,12 @@ class Kinds:
         return f"pub returns : goal.returns\nunfolding {kind.reads}\nreturns c =\n    {chain}"
 
     def code(self) -> str:
-        names = "".join(f'    "{kind.name}",\n' for kind in self.kinds)
         arms = ""
         for kind in self.looked_for:
             arms += f'        "{kind.name}" => ' + (
                 f"read_{snake(kind.name)}(object),\n" if kind.parts else f"Ok({kind.made}),\n"
             )
-        head = f"""/// The names of the kinds.
-pub const KINDS: &[&str] = &[
-{names}];
-
-/// Reads the kind of a node from the members of the node. `found` is the member `kind`.
+        head = f"""/// Reads the kind of a node from the members of the node. `found` is the member `kind`.
 #[tactic(auto, {READING}, unfolding(crate::specs::Kind::reads_kind))]
 pub fn read_kind(object: &ObjectReader<Document>, found: Option<Element<'_>>) -> Result<Kind, ReadError>
     requires {{ option_map data_of found ≡ get_member (codes "kind") (readable object.now) }}
@@ -352,10 +348,12 @@ pub fn read_kind(object: &ObjectReader<Document>, found: Option<Element<'_>>) ->
 #[tactic(auto, {READING}, unfolding(crate::specs::Kind::reads_kind_named, crate::specs::Named::named))]
 fn read_kind_named(object: &ObjectReader<Document>, name: &str) -> Result<Kind, ReadError>
     requires {{ get_member (codes "kind") (readable object.now) ≡ Some (string name.now) }}
-    ensures {{ IsReadResult (value_of object.now) (reads_kind_named (readable object.now) name.now) result }}
+    ensures read {{ IsReadResult (value_of object.now) (reads_kind_named (readable object.now) name.now) result }}
+    ensures expected {{ named (kinds (readable object.now)) name.now ≡ None
+        → IfErr result (Expects (NameIn Kinds)) }}
 {{
     match name {{
-{arms}        _ => Err(object.member_error("kind", Expected::Names(KINDS))),
+{arms}        _ => Err(object.member_error("kind", Expected::NameIn(NameList::Kinds))),
     }}
 }}
 """
@@ -389,8 +387,7 @@ fn read_kind_named(object: &ObjectReader<Document>, name: &str) -> Result<Kind, 
 
     @staticmethod
     def names_reader(names: Names) -> str:
-        constant, named = names.table.upper(), f"{snake(names.type)}_named"
-        values = "".join(f'    "{value}",\n' for value in names.values)
+        named = f"{snake(names.type)}_named"
         arms = "".join(f'        "{value}" => Ok({names.made(value, in_code=True)}),\n' for value in names.values)
         return f"""/// Reads a value by its name.
 impl FromJson<Document> for {names.type} {{
@@ -403,9 +400,6 @@ impl FromJson<Document> for {names.type} {{
     }}
 }}
 
-const {constant}: &[&str] = &[
-{values}];
-
 /// Returns the value of this name.
 #[tactic(auto, unfolding(crate::specs::Named::named))]
 fn {named}(alloc: Global, name: &str) -> Result<{names.type}, ReadError>
@@ -413,7 +407,7 @@ fn {named}(alloc: Global, name: &str) -> Result<{names.type}, ReadError>
     ensures expected {{ IfErr result (ExpectsNameIn {names.table}) }}
 {{
     match name {{
-{arms}        _ => Err(ReadError::expected(alloc, Expected::Names({constant}))),
+{arms}        _ => Err(ReadError::expected(alloc, Expected::NameIn(NameList::{camel(names.table)}))),
     }}
 }}
 """

@@ -2,30 +2,45 @@
 endings of their names, and of `data:` URLs by MIME types."""
 
 import json
+import re
 from collections.abc import Iterator
 
 from sources import ROOT
 
 from formats.blocks import Block
+from formats.language import GENERATED
 from formats.pages import PAGE, table
 from formats.schema import Format
 
 CRATE = "crates/deno_graph_source/src/tree/media_type"
 RUST = "bindings/rust/src/media_type.rs"
-GRAPH = "bindings/node/modinfo-graph/src/files/file_kinds.ts"
+GRAPH = "bindings/node/modinfo-graph/src/files/media_types.ts"
 
 
 def blocks(_: Format, __: Format, ___: Format) -> Iterator[Block]:
-    tables: dict[str, dict[str, str]] = json.loads((ROOT / "docs/media-types.json").read_text())
-    endings, declarations, mime_types = (tables[name] for name in ("endings", "declarations", "mimeTypes"))
+    endings, declarations, mime_types = (tables()[name] for name in ("endings", "declarations", "mimeTypes"))
     yield f"{CRATE}/file_name.rt", f"ENDINGS: [(&str, MediaType); {len(endings)}] =", in_rattle(endings)
     yield f"{CRATE}/data_url.rt", f"MIME_TYPES: [(&str, MediaType); {len(mime_types)}] =", in_rattle(mime_types)
     for name, found in ("endings", endings), ("declarations", declarations), ("MIME types", mime_types):
-        of_code = [f'  ["{key}", "{found[key]}"],' for key in found if found[key] != "Json"]
-        yield GRAPH, name, of_code
         yield RUST, name, [f"    ({rust_key(key, name)}, MediaType::{found[key]})," for key in found]
     rows = [[f"`{key}`", f"`{endings[key]}`", *declared(endings[key], declarations)] for key in endings]
     yield PAGE, "endings", table("Ending | Media type | Of declarations", rows)
+
+
+def files() -> dict[str, str]:
+    """The tables of code alone in TypeScript."""
+    first = f"/** {GENERATED}: the tables of docs/media-types.json. */"
+    lines = [first, "", 'import type { MediaType } from "modinfo";']
+    for name, found in tables().items():
+        constant = re.sub("(?=[A-Z])", "_", name).upper()
+        lines += ["", f"export const {constant} = new Map<string, MediaType>(["]
+        lines += [*(f'  ["{key}", "{found[key]}"],' for key in found if found[key] != "Json"), "]);"]
+    return {GRAPH: "".join(f"{line}\n" for line in lines)}
+
+
+def tables() -> dict[str, dict[str, str]]:
+    found: dict[str, dict[str, str]] = json.loads((ROOT / "docs/media-types.json").read_text())
+    return found
 
 
 def rust_key(key: str, name: str) -> str:

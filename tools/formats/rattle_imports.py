@@ -17,6 +17,11 @@ MODULES = {
     "Rattle.deno_graph_json.specs.JsonWriter": "Output with_member",
     "Rattle.deno_graph_json.specs.Object": "Entry object_of array_of if_true if_any unless put_entries with_present",
     "Rattle.deno_graph_json.specs.ObjectReader": "readable value_of",
+    "Rattle.deno_graph_json.specs.Read.Error": "Expects",
+    "Rattle.deno_graph_json.specs.Read.Expected": "IsNoNameIn",
+    "Rattle.deno_graph_json.specs.declared.expected.Expected.TheVariants": "NameIn",
+    "Rattle.deno_graph_json.specs.declared.names.NameList.TheVariants": "StaticKinds DynamicKinds PartTypes"
+    " DependencyTypes ReferenceTypes",
     "Rattle.deno_graph_json.specs.Read.Partial": "◌>>=◌ member_at member_or reads_array reads_optional read_or",
     "Rattle.deno_graph_json.specs.Read.Result": "IsReadResult",
     "Rattle.deno_graph_json.specs.Json.Position": "json_of_range reads_range IsHeldRange",
@@ -26,12 +31,12 @@ MODULES = {
     "Rattle.deno_graph_json.proofs.Objects": "has_distinct_keys entry_at",
     "Rattle.deno_graph_json.proofs.ReadBack": "member_at-table reads_at reads_or range_back list_back flag_back"
     " mode_back",
-    "Rattle.deno_graph_json.proofs.Reading": "goes_on exits member_on object_on",
+    "Rattle.deno_graph_json.proofs.Reading": "goes_on exits member_on object_on read_error",
     "Rattle.std.proofs.lemmas.Result": "on_ok_weaker",
 }
 PRELUDE = (
     "◌≡◌ ℕ List [] ◌∷◌ codes true false bytes_eq option_map Option Some None All IfSome IfErr"
-    " unwrap_or if◌then◌else◌ refl ap ◌∙◌"
+    " unwrap_or if◌then◌else◌ refl ap ◌∙◌ rules"
 )
 LIBRARIES = {name: module for module, names in MODULES.items() for name in names.split()}
 GHOST = re.compile(r"(?:ghost \w+ =|ensures \w*|requires) ?\{(.*?)\}(?=;|\n(?:    )?(?:\{|ensures))", re.DOTALL)

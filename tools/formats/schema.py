@@ -3,7 +3,6 @@
 - `title` names a type. `x-typescript`, `x-python` and `x-rust` are its name in one language, or null without
   a type there. `x-rattle` is in module-info.schema.json the word from which its definitions in Rattle are
   named; in document.schema.json its `ObjectKind`, or the type of an enum, of which `x-names` is the table.
-- `x-expected` is what a report says of a value that is none of an enum.
 - `x-name` names a part of a tuple, `x-variants` the variants of an enum in Rust, `x-none` that of a missing
   member, and `x-rust` in a member without a title its field. An object repeats the members of `x-extends`.
 - `x-values` says what each value of an `enum` means.

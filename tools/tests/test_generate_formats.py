@@ -19,7 +19,8 @@ def formats(repository: Repository) -> Repository:
     sources = ["README.md", *node]
     sources += [".gitattributes", "bindings/python/src", "bindings/python/README.md", "bindings/rust"]
     names = {path.partition("/")[0] for paths in TABLES.values() for path in paths}
-    crates = [*(f"crates/{name}/src" for name in names), "crates/deno_graph_info", "crates/modinfo_document"]
+    whole = [f"crates/{name}" for name in ("deno_graph_info", "deno_graph_json", "modinfo_document")]
+    crates = [*(f"crates/{name}/src" for name in names), *whole]
     copy_tracked(repository, "docs", "include", "packaging", "tools", "VERSION", *sources, *crates, *SCRIPTS)
     return repository
 

@@ -24,3 +24,4 @@ pub mod Texts
 pub mod ValueTokens
 pub mod Values
 pub mod WritingItems
+pub mod Possible

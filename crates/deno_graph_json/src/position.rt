@@ -1,7 +1,7 @@
 ghost use Rattle.deno_graph_json.specs.Json.Position.{json_of_position, json_of_range, reads_position, reads_range, IsHeldPosition, IsHeldRange};
 
 use crate::read::read_pair;
-use crate::{Element, FromJson, JsonWriter, ReadError, ToJson};
+use crate::{Element, FromJson, JsonWriter, Pair, ReadError, ToJson};
 use deno_graph_base::text::{Position, PositionRange};
 use std::alloc::{AllocError, Global};
 
@@ -21,11 +21,7 @@ impl<Whole> FromJson<Whole> for Position {
 
     #[tactic(auto, using(crate::proofs::Reading::reading), unfolding(crate::specs::Json::Position::reads_position))]
     fn from_json(alloc: Global, value: Element<'_>) -> Result<Position, ReadError> {
-        let (line, character) = read_pair::<Whole, _>(
-            alloc,
-            value,
-            "two whole numbers, [line,character]",
-        )?;
+        let (line, character) = read_pair::<Whole, _>(alloc, value, Pair::Position)?;
         Ok(Position { line, character })
     }
 }
@@ -46,7 +42,7 @@ impl<Whole> FromJson<Whole> for PositionRange {
 
     #[tactic(auto, using(crate::proofs::Reading::reading), unfolding(crate::specs::Json::Position::reads_range))]
     fn from_json(alloc: Global, value: Element<'_>) -> Result<PositionRange, ReadError> {
-        let (start, end) = read_pair::<Whole, _>(alloc, value, "two positions, [start,end]")?;
+        let (start, end) = read_pair::<Whole, _>(alloc, value, Pair::PositionRange)?;
         Ok(PositionRange { start, end })
     }
 }

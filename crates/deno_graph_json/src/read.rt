@@ -8,7 +8,7 @@ ghost use Rattle.deno_graph_json.specs.Read.Result.{IsReadResult, IsReadResultSe
 ghost use Rattle.deno_graph_json.specs.Read.Partial.{as_usize, reads_optional, reads_array, reads_items, reads_map, reads_members, reads_pair, pair_in};
 
 use crate::error::ReadError;
-use crate::expected::Expected;
+use crate::expected::{Expected, Pair};
 use crate::flat::{Element, Elements, Members, View};
 use deno_graph_base::values::{Items, Text, TextMap};
 use std::alloc::Global;
@@ -191,12 +191,12 @@ pub fn read_object<'a>(alloc: Global, value: Element<'a>) -> Result<Members<'a>,
     }
 }
 
-/// Returns the items of an array of two. `items` describes them in words, for the error. Allocates
+/// Returns the items of an array of two. `items` is what they are, for the error. Allocates
 /// nothing.
 fn read_two<'a>(
     alloc: Global,
     value: Element<'a>,
-    items: &'static str,
+    items: Pair,
 ) -> Result<(Element<'a>, Element<'a>), ReadError>
     ensures pair { IsReadResultSeen (λ two. (data_of two.0, data_of two.1)) (data_of value.entry)
         (pair_in (data_of value.entry)) result }
@@ -214,12 +214,12 @@ fn read_two<'a>(
     }
 }
 
-/// Reads both items of an array of two. `items` describes them in words, for the error.
+/// Reads both items of an array of two. `items` is what they are, for the error.
 #[tactic(auto, using(crate::proofs::Reading::reading), unfolding(crate::specs::Read::Partial::reads_pair))]
 pub fn read_pair<Whole, T: FromJson<Whole> + Drop>(
     alloc: Global,
     value: Element<'_>,
-    items: &'static str,
+    items: Pair,
 ) -> Result<(T, T), ReadError>
     ensures { IsReadResult (data_of value.entry) (reads_pair T.reads (data_of value.entry)) result }
 {

@@ -1,11 +1,14 @@
-ghost use Rattle.std.specs.Prelude.{◌≡◌};
+ghost use Rattle.std.specs.Prelude.{◌≡◌, IfErr};
 ghost use Rattle.serde_json.specs.Data.{string};
 ghost use Rattle.deno_graph_base.specs.ResolutionMode.{mode_named};
+ghost use Rattle.deno_graph_json.specs.Read.Error.{Expects};
 ghost use Rattle.deno_graph_json.specs.Read.Result.{IsReadResult};
+ghost use Rattle.deno_graph_json.specs.declared.expected.Expected.TheVariants.{NameIn};
+ghost use Rattle.deno_graph_json.specs.declared.names.NameList.TheVariants.{ResolutionModes};
 ghost use Rattle.deno_graph_json.specs.Json.ResolutionMode.{json_of_mode, mode_name, reads_mode};
 
 use crate::read::read_str;
-use crate::{Element, Expected, FromJson, JsonWriter, ReadError, ToJson};
+use crate::{Element, Expected, FromJson, JsonWriter, NameList, ReadError, ToJson};
 use deno_graph_base::values::TypeScriptTypesResolutionMode;
 use std::alloc::{AllocError, Global};
 
@@ -42,10 +45,11 @@ impl<Whole> FromJson<Whole> for TypeScriptTypesResolutionMode {
 
 /// Returns the mode with this name in JSON.
 fn mode_named(alloc: Global, name: &str) -> Result<TypeScriptTypesResolutionMode, ReadError>
-    ensures { IsReadResult (string name.now) (mode_named name.now) result }
+    ensures read { IsReadResult (string name.now) (mode_named name.now) result }
+    ensures expected { IfErr result (Expects (NameIn ResolutionModes)) }
 {
     match TypeScriptTypesResolutionMode::from_str(name) {
         Some(mode) => Ok(mode),
-        None => Err(ReadError::expected(alloc, Expected::Either("import", "require"))),
+        None => Err(ReadError::expected(alloc, Expected::NameIn(NameList::ResolutionModes))),
     }
 }

@@ -1,9 +1,9 @@
 -- Reading the information on modules, one after the other.
-use Rattle.std.proofs.Common.{◌≡◌, ◌∙◌, ℕ, List, ◌∷◌, Bool, true, false, Option, Some, None, codes, inl, inr}
-use Rattle.std.proofs.Common.{refl, sym, subst, ap, Result, Ok, Err, MatchResult}
+use Rattle.std.proofs.Common.{◌≡◌, ◌∙◌, ℕ, List, ◌∷◌, false, Option, Some, None, codes, inl, inr, refl, sym}
+use Rattle.std.proofs.Common.{subst, ap, Result, Ok, Err, MatchResult}
 use Rattle.std.proofs.lemmas.Option.{none-some}
 use Rattle.serde_json.specs.Data.{Data, null, boolean, number, string, array, object, Members}
-use Rattle.serde_json.specs.Find.{as_object, as_str, get_member}
+use Rattle.serde_json.specs.Find.{as_object, as_str, get, get_member}
 use Rattle.serde_json.specs.Written.{has_float}
 use Rattle.deno_graph_json.proofs.Floats.{float_found}
 use Rattle.deno_graph_json.proofs.ObjectMembers.{Entry}
@@ -21,8 +21,9 @@ use Rattle.deno_graph_info.specs.Json.ModuleInfo.{reads_info}
 use Rattle.deno_graph_info.specs.declared.analysis.fault.InfoFault.{InfoFault}
 use Rattle.deno_graph_info.specs.declared.analysis.fault.InfoFault.TheVariants as info
 use Rattle.deno_graph_info.specs.declared.analysis.module_info.ModuleInfo.{ModuleInfo}
-use Rattle.modinfo.specs.Reach.{IsFirstFault, IsQuestionFault, Question, reads_question, reads_stored}
-use Rattle.modinfo.specs.internal.Reach.{IsErrorIn, IsModulesFault, shape_error}
+use Rattle.modinfo.specs.Reach.{IsFirstFault, IsQuestionFault, Question, modules_alone, reads_question}
+use Rattle.modinfo.specs.Reach.{reads_stored}
+use Rattle.modinfo.specs.internal.Reach.{IsErrorIn, IsFloatRead, IsModulesFault, shape_error}
 use Rattle.modinfo.specs.declared.reach.QuestionError.{QuestionError}
 
 pub stored_info : (d : Data) (m : ModuleInfo) → has_float d ≡ false → reads_info d ≡ Some m
@@ -84,6 +85,10 @@ error_around IsFault IsOuter outer inner fault old new same place expects is h f
     let error = h (same found) in
     (error.0, is error.1, place error.2, λ float. expects Integer (error.3 float))
 
+-- An error that is no float.
+pub no_float_read : (d : Data) (found : ReadError) → IsFloatRead d (shape_error found)
+no_float_read d found is same = absurd (cc (same))
+
 -- ---- The modules
 
 pub no_modules : (d : Data) (found : ReadError) → as_object d ≡ None → IsIn d found
@@ -122,6 +127,21 @@ lacks_object (object ms) none = absurd (none-some ms (sym none))
 pub no_question : (d : Data) (found : ReadError) → reads_question d ≡ None → IsIn d found
     → IsErrorIn (IsQuestionFault d) d (shape_error found)
 no_question d found none place = shape_in (IsQuestionFault d) d found (rw none refl) place
+
+-- The modules alone have what the object has at `modules`.
+modules_there : (ms : Members) (d : Data) → get_member (codes "modules") ms ≡ Some d
+    → get (codes "modules") (modules_alone (object ms)) ≡ Some d
+modules_there ms d found = rw found refl
+
+-- A float in the modules of an object is one in the modules alone.
+pub float_around : (ms : Members) (d : Data) (old new : QuestionError) → new.fault ≡ old.fault
+    → (IsMismatch new.error → IsMismatch old.error)
+    → (get (codes "modules") (modules_alone (object ms)) ≡ Some d → IsIn d old.error
+    → IsIn (modules_alone (object ms)) new.error)
+    → get_member (codes "modules") ms ≡ Some d → IsErrorIn (IsModulesFault d) d old
+    → IsFloatRead (object ms) new
+float_around ms d old new fault mismatch place found error is same =
+    place (modules_there ms d found) (error (mismatch is)).2
 
 module _ (ms : Members) where
   lacks_root : member_at as_str (codes "root") ms ≡ None → reads_question (object ms) ≡ None

@@ -1,10 +1,15 @@
 -- Dependencies of stored information whose types end beyond the largest column.
-use Rattle.std.proofs.Common.{◌≡◌, ◌↔◌, Option, Some, None, Result, Ok, Err, IfOk, false, IsSome, inl, inr}
-use Rattle.std.proofs.Common.{⊎_elim}
-use Rattle.serde_json.specs.Data.{Data, Items, no_items, item}
+use Rattle.std.proofs.Common.{◌≡◌, ◌↔◌, codes, Option, Some, None, MatchOption, Result, Ok, Err, IfOk, false}
+use Rattle.std.proofs.Common.{IsSome, inl, inr, ⊎_elim, refl}
+use Rattle.serde_json.specs.Data.{Data, null, boolean, number, string, array, object, Items, no_items, item}
+use Rattle.serde_json.specs.Find.{as_array, get_member}
 use Rattle.serde_json.specs.Written.{has_float}
 use Rattle.deno_graph_info.specs.Conversion.{AnyOverflows, DependencyOverflows, IsConvertFault, Overflows}
-use Rattle.deno_graph_info.specs.Conversion.{dependencies_in}
+use Rattle.deno_graph_info.specs.Comment.{reads_stored_comment}
+use Rattle.deno_graph_info.specs.Conversion.{comments_in, dependencies_in}
+use Rattle.deno_graph_info.specs.Types.{HasNoColumn}
+use Rattle.deno_graph_json.specs.Read.Partial.{◌>>=◌, member_at, reads_array}
+use Rattle.modinfo.specs.Check.{array_in}
 use Rattle.deno_graph_info.specs.declared.conversion.fault.ConvertFault.TheVariants as convert
 
 -- All items have an overflow exactly where those that are left have one.
@@ -43,6 +48,30 @@ left_all all left is = rw is ((λ h. h), (λ h. h))
 -- No item is left.
 pub left_none : (all left : Items) → IsLeft all left → left ≡ no_items → AnyOverflows all → ⊥
 left_none all left is none over = rw none at (is.0 over)
+
+-- A dependency that overflows has an array of comments.
+abbrev pub HasComments : Data → Type 0
+HasComments d = (comments : Items) × (array_in (codes "leadingComments") d ≡ Some comments)
+
+array_found : (found : Option Data) → MatchOption (found >>= reads_array reads_stored_comment) ⊥ HasNoColumn
+    → (comments : Items) × ((found >>= as_array) ≡ Some comments)
+unfolding reads_array
+array_found None over = absurd over
+array_found (Some null) over = absurd over
+array_found (Some (boolean b)) over = absurd over
+array_found (Some (number n)) over = absurd over
+array_found (Some (string s)) over = absurd over
+array_found (Some (array ds)) over = (ds, refl)
+array_found (Some (object ms)) over = absurd over
+
+pub has_comments : (d : Data) → DependencyOverflows d → HasComments d
+unfolding comments_in member_at
+has_comments null over = absurd over
+has_comments (boolean b) over = absurd over
+has_comments (number n) over = absurd over
+has_comments (string s) over = absurd over
+has_comments (array ds) over = absurd over
+has_comments (object ms) over = array_found (get_member (codes "leadingComments") ms) over
 
 -- A report on the dependencies is one on the value.
 pub same_report : {A E : Type 0} {P Q : Type 0} (answer : Result (Option A) E) → P ↔ Q

@@ -1,17 +1,25 @@
 -- When a report on a document of `convert`, of `reach` or of `analyze --source` is right.
-use Rattle.std.specs.Prelude.{◌≡◌, ◌≢◌, ◌⊎◌, ◌++◌, ℕ, List, codes, IsSomeAnd, MatchOption, None, Some, false}
+use Rattle.std.specs.Prelude.{◌≡◌, ◌≢◌, ◌⊎◌, ◌++◌, ℕ, ◌-◌, List, [], ◌∷◌, codes, IsSomeAnd, MatchOption}
+use Rattle.std.specs.Prelude.{Option, None, Some, false}
 use Rattle.std.specs.Str.{IsValidUpTo}
 use Rattle.std.specs.String.{string_bytes}
-use Rattle.serde_json.specs.Data.{Data}
+use Rattle.serde_json.specs.Data.{Data, Items}
+use Rattle.serde_json.specs.Events.{items_len}
+use Rattle.serde_json.specs.Find.{as_array, get, get_item}
 use Rattle.serde_json.specs.Read.{read as read_text}
 use Rattle.serde_json.specs.Written.{has_float}
 use Rattle.deno_graph_base.specs.Position.{IsAt}
 use Rattle.deno_graph_base.specs.TextMap.{value_at}
 use Rattle.deno_graph_json.specs.Read.Error.{IsIn}
+use Rattle.deno_graph_json.specs.Read.Expected.{words}
+use Rattle.deno_graph_json.specs.Read.Partial.{◌>>=◌}
 use Rattle.deno_graph_json.specs.declared.error.Mismatch.{Mismatch}
 use Rattle.deno_graph_json.specs.declared.error.ReadError.TheVariants as read
-use Rattle.deno_graph_json.specs.declared.expected.Expected.TheVariants.{Integer}
-use Rattle.deno_graph_info.specs.Conversion.{IsConverted, IsConvertFault}
+use Rattle.deno_graph_json.specs.declared.error.Step.{Step}
+use Rattle.deno_graph_json.specs.declared.error.Step.TheVariants.{Item, Member}
+use Rattle.deno_graph_json.specs.declared.expected.Expected.TheVariants.{Column, Integer}
+use Rattle.deno_graph_info.specs.Conversion.{DependencyOverflows, IsConverted, IsConvertFault}
+use Rattle.deno_graph_info.specs.Conversion.{dependencies_in}
 use Rattle.deno_graph_info.specs.FaultName.{convert_fault_name, info_fault_name}
 use Rattle.deno_graph_info.specs.declared.analysis.fault.InfoFault.{InfoFault}
 use Rattle.deno_graph_info.specs.declared.analysis.fault.InfoFault.TheVariants.{Float}
@@ -20,7 +28,7 @@ use Rattle.deno_graph_info.specs.declared.analysis.module_info.ModuleInfo.{Modul
 use Rattle.deno_graph_info.specs.declared.conversion.fault.ConvertFault.{ConvertFault}
 use Rattle.deno_graph_info.specs.declared.conversion.fault.ConvertFault.TheVariants as convert
 use Rattle.modinfo_document.specs.ExpectedJson.{HasJsonPlace}
-use Rattle.modinfo_document.specs.Place.{specifier_path}
+use Rattle.modinfo_document.specs.Place.{range_in, specifier_path}
 use Rattle.modinfo_document.specs.Report.{HasNone, HasOnly, HasPath, HasTextPlace, IsNamed, PointsInto}
 use Rattle.modinfo_document.specs.Report.{Reports}
 use Rattle.modinfo_document.specs.declared.report.FaultReport.{FaultReport}
@@ -30,7 +38,7 @@ use Rattle.modinfo_document.specs.declared.report.warning.Warning.{Warning}
 use Rattle.modinfo_document.specs.declared.report.warning.WarningKind.TheVariants.{UnknownRoot}
 use Rattle.modinfo_document.specs.declared.report.warning.Warnings.{Warnings}
 use Rattle.modinfo.specs.Fault.{name_of_fault}
-use Rattle.modinfo.specs.Reach.{Asks, IsQuestionFault}
+use Rattle.modinfo.specs.Reach.{Asks, IsQuestionFault, modules_alone}
 use Rattle.modinfo.specs.Source.{CanBeParsed, IsNoInfoOfText, reads_text}
 use Rattle.modinfo.specs.declared.fault.Fault.{Fault}
 use Rattle.modinfo.specs.declared.fault.Fault.TheVariants.{Defect, OutOfMemory, Specifier, Syntax}
@@ -66,14 +74,37 @@ abbrev pub PointsToFloat : Data → FaultReport → Type 0
 PointsToFloat value report = (mismatch : Mismatch) × IsIn value (read.Mismatch mismatch)
     × (mismatch.expected ≡ Integer) × Reports mismatch report
 
--- The value has a fault as stored information, and the report has the fault's name; for a float also its
--- path.
+-- The member of this name, an array.
+abbrev pub array_in : List ℕ → Data → Option Items
+array_in name d = get name d >>= as_array
+
+-- The path of the column at which a comment of a dependency begins, by the indices of both.
+abbrev pub column_path : ℕ → ℕ → List Step
+column_path number comment = Item 1 ∷ Item 0 ∷ range_in (Item comment ∷ Member (codes "leadingComments")
+    ∷ Item number ∷ Member (codes "dependencies") ∷ [])
+
+-- The report has the path of the column at which the last comment of a dependency begins, and the types that
+-- the comment names end beyond the largest column.
+pub record PointsToColumn (dependencies : Items) (report : FaultReport) : Type 0 where
+  pub number : ℕ
+  pub dependency : Data
+  pub comments : Items
+  pub is_dependency : get_item number dependencies ≡ Some dependency
+  pub overflows : DependencyOverflows dependency
+  pub are_comments : array_in (codes "leadingComments") dependency ≡ Some comments
+  pub path : HasPath (column_path number (items_len comments - 1)) report
+  pub expected : string_bytes report.expected ≡ words Column
+
+-- The value has a fault as stored information, and the report has the fault's name, and the path of the float
+-- or of the column.
 pub record ReportsStored (value : Data) (report : FaultReport) : Type 0 where
   pub fault : ConvertFault
   pub no_memory : fault ≢ convert.OutOfMemory
   pub has_fault : IsConvertFault value fault
   pub name : IsNamed (convert_fault_name fault) report
   pub place : fault ≡ convert.Float → PointsToFloat value report
+  pub column : fault ≡ convert.ColumnOverflow
+      → IsSomeAnd (dependencies_in value) (λ dependencies. PointsToColumn dependencies report)
 
 -- The text isn't JSON, or its value has a fault; and the report says which.
 abbrev pub IsStoredFaultReport : List ℕ → FaultReport → Type 0
@@ -93,14 +124,14 @@ abbrev pub IsQuestionText : List ℕ → Type 0
 IsQuestionText text = (value : Data) × (read_text text ≡ Some value) × AsksSome value
 
 -- The value has a fault as a document of `reach`. The report has the fault's name, and the path of a value
--- that isn't what the report expects there: of a float where that is the fault.
+-- that isn't what the report expects there: of a float in the modules where that is the fault.
 pub record ReportsQuestion (value : Data) (report : FaultReport) : Type 0 where
   pub fault : InfoFault
   pub no_memory : fault ≢ NoMemory
   pub has_fault : IsQuestionFault value fault
   pub name : IsNamed (info_fault_name fault) report
   pub place : PointsInto value report
-  pub float : fault ≡ Float → PointsToFloat value report
+  pub float : fault ≡ Float → PointsToFloat (modules_alone value) report
 
 -- The text isn't JSON, or its value has a fault; and the report says which.
 abbrev pub IsQuestionFaultReport : List ℕ → FaultReport → Type 0

@@ -1,6 +1,7 @@
 -- Documents of `reach`, and the answer to one.
 use Rattle.std.specs.Prelude.{◌≡◌, ◌≢◌, ◌⊎◌, ℕ, List, codes, Option, Some, None, MatchOption, if◌then◌else◌}
-use Rattle.serde_json.specs.Data.{Data, string, Members, no_members, member}
+use Rattle.std.specs.Prelude.{option_map, unwrap_or}
+use Rattle.serde_json.specs.Data.{Data, object, string, Members, no_members, member}
 use Rattle.serde_json.specs.Find.{as_object, as_str, get}
 use Rattle.serde_json.specs.Read.{read as read_text}
 use Rattle.serde_json.specs.Written.{compact_text, has_float}
@@ -25,6 +26,12 @@ modules_in d = get (codes "modules") d >>= as_object
 -- The member `root`, a string.
 abbrev pub root_in : Data → Option (List ℕ)
 root_in d = get (codes "root") d >>= as_str
+
+-- An object with the member `modules` alone, if there is one.
+abbrev pub modules_alone : Data → Data
+modules_alone d = object (unwrap_or
+    (option_map (λ modules. member (codes "modules") modules no_members) (get (codes "modules") d))
+    no_members)
 
 -- The two members of an object. Other members are ignored.
 unfoldable pub reads_question : Data → Option Question

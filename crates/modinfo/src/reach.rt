@@ -1,6 +1,6 @@
 //! Documents of `reach`: a root, and the information on modules by their keys.
 
-ghost use Rattle.std.specs.Prelude.{◌≡◌, ℕ, map, IfOk, List, MatchResult, Some};
+ghost use Rattle.std.specs.Prelude.{◌≡◌, ℕ, map, IfErr, IfOk, List, MatchResult, Some};
 ghost use Rattle.std.specs.String.{string_bytes};
 ghost use Rattle.serde_json.specs.Data.{Data, object, string};
 ghost use Rattle.serde_json.specs.Find.{get};
@@ -14,7 +14,7 @@ ghost use Rattle.deno_graph_json.specs.declared.expected.Expected.{Expected};
 ghost use Rattle.deno_graph_info.specs.InfoFault.{IsInfoFault};
 ghost use Rattle.modinfo.specs.Answer.{IsNoReach};
 ghost use Rattle.modinfo.specs.Reach.{Asks, IsFirstFault, IsQuestionFault, IsReachText, reads_stored};
-ghost use Rattle.modinfo.specs.internal.Reach.{IsErrorIn, IsModulesFault, IsQuestionOf};
+ghost use Rattle.modinfo.specs.internal.Reach.{IsErrorIn, IsFloatRead, IsModulesFault, IsQuestionOf};
 
 use crate::fault::Fault;
 use deno_graph_info::analysis::{InfoFault, ModuleInfo};
@@ -120,9 +120,10 @@ impl<T: Drop> From<AllocFailed<T>> for QuestionError {
 /// Reads the value of a document: first the root, then the modules in the order of their keys. The error is
 /// the first fault, with the value that isn't as expected, or `OutOfMemory` if an allocation fails.
 pub fn read_question(alloc: Global, document: Element<'_>) -> Result<Question, QuestionError>
-    ensures { MatchResult result
+    ensures read { MatchResult result
         (λ question. Asks (data_of document.entry) (entries_of question.infos) question.root)
         (IsErrorIn (IsQuestionFault (data_of document.entry)) (data_of document.entry)) }
+    ensures float { IfErr result (IsFloatRead (data_of document.entry)) }
 {
     let object = ObjectReader::<Question>::new(alloc, document)?;
     let root = object.read("root")?;

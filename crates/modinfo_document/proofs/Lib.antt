@@ -15,3 +15,4 @@ pub mod Urls
 pub mod NodeKinds
 pub mod KindPaths
 pub mod Warned
+pub mod NoKeys

@@ -1,6 +1,6 @@
 -- What is added to the warnings of a document.
-use Rattle.std.proofs.Common.{◌≡◌, ℕ, ◌+◌, ◌-◌, ◌^◌, ◌<◌, ◌≤◌, ◌⊎◌, inl, inr, List, [], ◌∷◌, ◌++◌, length}
-use Rattle.std.proofs.Common.{if◌then◌else◌, min, All, take, refl, sym, ap, ◌∙◌, subst, arith, Global, Vec}
+use Rattle.std.proofs.Common.{◌≡◌, ℕ, ◌-◌, ◌<◌, ◌≤◌, inl, inr, List, [], ◌∷◌, ◌++◌, length, if◌then◌else◌}
+use Rattle.std.proofs.Common.{All, take, refl, sym, ap, ◌∙◌, subst, arith, Global, Vec}
 use Rattle.std.proofs.lemmas.Grind.{common_steps}
 use Rattle.std.proofs.lemmas.List.{append-nil, append_assoc, length-append, length-take, length_push}
 use Rattle.std.proofs.lemmas.List.{nil_from_length, take-append-le, take_all}
@@ -12,8 +12,8 @@ use Rattle.deno_graph_source.specs.declared.tree.node.Kind.{Kind}
 use Rattle.modinfo_document.proofs.NodeKinds.{body_passes}
 use Rattle.modinfo_document.specs.NodeKinds.{KindAt, kinds_of_body}
 use Rattle.modinfo_document.specs.Report.{Adds, AreSame, HasNone, Keeps}
-use Rattle.modinfo_document.specs.Spelling.{AreAbout, AreSpelled, HasOnlyValues, IsDeserved, IsLiteralSpelled}
-use Rattle.modinfo_document.specs.Spelling.{IsOfValue, WarnsOfEach, kinds_of_code}
+use Rattle.modinfo_document.specs.Spelling.{AreAbout, AreSpelled, HasOnlyValues, IsLiteralSpelled, IsOfValue}
+use Rattle.modinfo_document.specs.Spelling.{WarnsOfEach, kinds_of_code}
 use Rattle.modinfo_document.specs.declared.document.Document.{Document}
 use Rattle.modinfo_document.specs.declared.report.warning.Warning.{Warning}
 use Rattle.modinfo_document.specs.declared.report.warning.Warnings.{Warnings}

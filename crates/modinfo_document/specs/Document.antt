@@ -91,6 +91,14 @@ pub record IsSourceOf (document : Document) (module_ : ParsedModule) : Type 0 wh
   pub scope_analysis : module_.scope_analysis ≡ false
   pub valid : IsValid (rc_str_bytes document.source) document.program document.comments
 
+-- Why the document has no URL: its specifier is none, or an allocation failed.
+abbrev pub IsNoUrl : Document → DocumentError → Type 0
+IsNoUrl document Specifier = (error : ParseError) × (parse_url None document.specifier ≡ Err error)
+IsNoUrl document OutOfMemory = Unit {0}
+IsNoUrl document (Json _) = ⊥
+IsNoUrl document (Tree _) = ⊥
+IsNoUrl document (Source _) = ⊥
+
 -- Why the document has no source: its specifier is no URL, or the tree or the comments don't fit the source;
 -- or an allocation failed.
 abbrev pub IsNoSource : Document → DocumentError → Type 0

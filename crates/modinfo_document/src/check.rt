@@ -65,7 +65,10 @@ fn check_parts(alloc: Global, root: Element<'_>, document: &Document) -> Result<
     match document.url(alloc) {
         Ok(_) => check_source(alloc, root, document),
         Err(DocumentError::Specifier) => Ok(Report::Invalid(specifier_report(alloc)?)),
-        Err(_) => Err(AllocError),
+        Err(DocumentError::OutOfMemory) => Err(AllocError),
+        Err(DocumentError::Json { .. } | DocumentError::Tree(_) | DocumentError::Source(_)) => {
+            unreachable!()
+        }
     }
 }
 

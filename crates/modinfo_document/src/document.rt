@@ -4,8 +4,8 @@ ghost use Rattle.std.specs.Prelude.{◌≡◌, MatchResult, None, Ok};
 ghost use Rattle.url.specs.Parser.{parse_url};
 ghost use Rattle.deno_graph_json.specs.Data.{data_of};
 ghost use Rattle.deno_graph_json.specs.ObjectReader.{readable, value_of};
-ghost use Rattle.modinfo_document.specs.Document.{Has, IsDocumentOf, IsNoDocument, IsNoSource, IsSourceOf};
-ghost use Rattle.modinfo_document.specs.Document.{reads_document};
+ghost use Rattle.modinfo_document.specs.Document.{Has, IsDocumentOf, IsNoDocument, IsNoSource, IsNoUrl};
+ghost use Rattle.modinfo_document.specs.Document.{IsSourceOf, reads_document};
 ghost use Rattle.modinfo_document.specs.Result.{IsReadResultBy};
 ghost use Rattle.modinfo_document.specs.internal.Document.{reads_tree};
 ghost use Rattle.modinfo_document.specs.Comments.{HasTree};
@@ -79,7 +79,7 @@ impl Document {
     /// URL would take 4 GB.
     pub fn url(&self, alloc: Global) -> Result<Url, DocumentError>
         ensures { MatchResult result (λ url. parse_url None self.now.specifier ≡ Ok url)
-            (IsNoSource self.now) }
+            (IsNoUrl self.now) }
     {
         Ok(Url::parse(alloc, self.specifier.as_str())?)
     }

@@ -5,17 +5,9 @@ ghost use Rattle.deno_graph_json.specs.Read.Result.{IsReadResult};
 ghost use Rattle.modinfo_document.specs.KindParts.{reads_key, reads_static_key};
 
 use crate::document::Document;
-use deno_graph_json::{Element, Expected, Form, FromJson, ObjectReader, ReadError, View};
+use deno_graph_json::{Element, Expected, FromJson, ObjectReader, ReadError, View};
 use deno_graph_source::tree::PropKey;
 use std::alloc::Global;
-
-const EXPECTED_KEY: Expected = Expected::OneOf(
-    "\"other\", or an object with either `str` or `ident`",
-    &[
-        Form::Name("other"),
-        Form::ObjectWithOneOf(&["str", "ident"]),
-    ],
-);
 
 /// Reads the key of a property: `{"str":STRING}`, `{"ident":TEXT}` or `"other"`.
 impl FromJson<Document> for PropKey {
@@ -29,7 +21,7 @@ impl FromJson<Document> for PropKey {
                 alloc,
                 &ObjectReader::of_members(alloc, members),
             ),
-            _ => Err(ReadError::expected(alloc, EXPECTED_KEY)),
+            _ => Err(ReadError::expected(alloc, Expected::Key)),
         }
     }
 }
@@ -48,6 +40,6 @@ fn read_static_key(alloc: Global, object: &ObjectReader<Document>) -> Result<Pro
             let name = object.read_found("ident", name)?;
             Ok(PropKey::Ident(name))
         }
-        (None, None) | (Some(_), Some(_)) => Err(ReadError::expected(alloc, EXPECTED_KEY)),
+        (None, None) | (Some(_), Some(_)) => Err(ReadError::expected(alloc, Expected::Key)),
     }
 }

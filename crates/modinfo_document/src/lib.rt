@@ -18,8 +18,8 @@ mod node;
 pub mod report;
 
 pub use check::{check_document, fault_place};
+pub use deno_graph_json::names::KINDS;
 pub use document::{Document, parse_document, read_document};
 pub use error::DocumentError;
-pub use kind::KINDS;
 pub use literal::read_string;
 pub use names::{ObjectKind, member_names};

@@ -8,7 +8,7 @@ ghost use Rattle.modinfo_document.specs.Literal.{reads_units};
 
 use crate::document::Document;
 use deno_graph_json::read::read_items;
-use deno_graph_json::{Element, Elements, Expected, Form, FromJson, ObjectReader, ReadError, View};
+use deno_graph_json::{Element, Elements, Expected, FromJson, ObjectReader, ReadError, View};
 use deno_graph_source::text::{JsString, SourceRange};
 use deno_graph_source::tree::StrLit;
 use deno_graph_source::values::Items;
@@ -24,10 +24,7 @@ impl FromJson<Document> for SourceRange {
                 start: start as usize,
                 end: end as usize,
             }),
-            None => Err(ReadError::expected(
-                alloc,
-                Expected::WholePair("two whole numbers, [start,end]"),
-            )),
+            None => Err(ReadError::expected(alloc, Expected::Offsets)),
         }
     }
 }
@@ -57,11 +54,6 @@ impl FromJson<Document> for JsString {
     }
 }
 
-const EXPECTED_STRING: Expected = Expected::OneOf(
-    "a string or an array of units of UTF-16",
-    &[Form::String, Form::Array],
-);
-
 /// Reads a JavaScript string: a string, or an array of UTF-16 code units.
 #[tactic(auto, unfolding(crate::specs::Literal::reads_string))]
 pub fn read_string(alloc: Global, value: Element<'_>) -> Result<JsString, ReadError>
@@ -70,7 +62,7 @@ pub fn read_string(alloc: Global, value: Element<'_>) -> Result<JsString, ReadEr
     match value.view() {
         View::String(text) => Ok(JsString::from_str(alloc, text)?),
         View::Array(values) => read_units(alloc, values),
-        _ => Err(ReadError::expected(alloc, EXPECTED_STRING)),
+        _ => Err(ReadError::expected(alloc, Expected::JsString)),
     }
 }
 
@@ -92,7 +84,7 @@ impl FromJson<Document> for u16 {
     fn from_json(alloc: Global, value: Element<'_>) -> Result<u16, ReadError> {
         match value.view() {
             View::Whole(unit) if unit < 65536 => Ok(unit as u16),
-            _ => Err(ReadError::expected(alloc, Expected::Below(65536))),
+            _ => Err(ReadError::expected(alloc, Expected::Unit)),
         }
     }
 }

@@ -9,7 +9,7 @@ ghost use Rattle.modinfo_document.specs.Kind.{media_types, phases, callees, oper
 
 use crate::document::Document;
 use deno_graph_json::read::read_str;
-use deno_graph_json::{Element, Expected, FromJson, ReadError};
+use deno_graph_json::{Element, Expected, FromJson, NameList, ReadError};
 use deno_graph_source::tree::{BinaryOp, Callee, CommentKind, ImportPhase, MediaType};
 use std::alloc::Global;
 
@@ -23,22 +23,6 @@ impl FromJson<Document> for MediaType {
         media_type_named(alloc, name)
     }
 }
-
-const MEDIA_TYPES: &[&str] = &[
-    "JavaScript",
-    "Jsx",
-    "Mjs",
-    "Cjs",
-    "TypeScript",
-    "Mts",
-    "Cts",
-    "Dts",
-    "Dmts",
-    "Dcts",
-    "Tsx",
-    "Json",
-    "Other",
-];
 
 /// Returns the value of this name.
 #[tactic(auto, unfolding(crate::specs::Named::named))]
@@ -60,7 +44,7 @@ fn media_type_named(alloc: Global, name: &str) -> Result<MediaType, ReadError>
         "Tsx" => Ok(MediaType::Tsx),
         "Json" => Ok(MediaType::Json),
         "Other" => Ok(MediaType::Other),
-        _ => Err(ReadError::expected(alloc, Expected::Names(MEDIA_TYPES))),
+        _ => Err(ReadError::expected(alloc, Expected::NameIn(NameList::MediaTypes))),
     }
 }
 
@@ -75,8 +59,6 @@ impl FromJson<Document> for ImportPhase {
     }
 }
 
-const PHASES: &[&str] = &["evaluation", "source", "defer"];
-
 /// Returns the value of this name.
 #[tactic(auto, unfolding(crate::specs::Named::named))]
 fn import_phase_named(alloc: Global, name: &str) -> Result<ImportPhase, ReadError>
@@ -87,7 +69,7 @@ fn import_phase_named(alloc: Global, name: &str) -> Result<ImportPhase, ReadErro
         "evaluation" => Ok(ImportPhase::Evaluation),
         "source" => Ok(ImportPhase::Source),
         "defer" => Ok(ImportPhase::Defer),
-        _ => Err(ReadError::expected(alloc, Expected::Names(PHASES))),
+        _ => Err(ReadError::expected(alloc, Expected::NameIn(NameList::Phases))),
     }
 }
 
@@ -102,8 +84,6 @@ impl FromJson<Document> for Callee {
     }
 }
 
-const CALLEES: &[&str] = &["import", "importSource", "importDefer", "expr", "super"];
-
 /// Returns the value of this name.
 #[tactic(auto, unfolding(crate::specs::Named::named))]
 fn callee_named(alloc: Global, name: &str) -> Result<Callee, ReadError>
@@ -116,7 +96,7 @@ fn callee_named(alloc: Global, name: &str) -> Result<Callee, ReadError>
         "importDefer" => Ok(Callee::Import(ImportPhase::Defer)),
         "expr" => Ok(Callee::Expr),
         "super" => Ok(Callee::Super),
-        _ => Err(ReadError::expected(alloc, Expected::Names(CALLEES))),
+        _ => Err(ReadError::expected(alloc, Expected::NameIn(NameList::Callees))),
     }
 }
 
@@ -131,8 +111,6 @@ impl FromJson<Document> for BinaryOp {
     }
 }
 
-const OPERATORS: &[&str] = &["add", "other"];
-
 /// Returns the value of this name.
 #[tactic(auto, unfolding(crate::specs::Named::named))]
 fn binary_op_named(alloc: Global, name: &str) -> Result<BinaryOp, ReadError>
@@ -142,7 +120,7 @@ fn binary_op_named(alloc: Global, name: &str) -> Result<BinaryOp, ReadError>
     match name {
         "add" => Ok(BinaryOp::Add),
         "other" => Ok(BinaryOp::Other),
-        _ => Err(ReadError::expected(alloc, Expected::Names(OPERATORS))),
+        _ => Err(ReadError::expected(alloc, Expected::NameIn(NameList::Operators))),
     }
 }
 
@@ -157,8 +135,6 @@ impl FromJson<Document> for CommentKind {
     }
 }
 
-const COMMENT_KINDS: &[&str] = &["line", "block"];
-
 /// Returns the value of this name.
 #[tactic(auto, unfolding(crate::specs::Named::named))]
 fn comment_kind_named(alloc: Global, name: &str) -> Result<CommentKind, ReadError>
@@ -168,6 +144,6 @@ fn comment_kind_named(alloc: Global, name: &str) -> Result<CommentKind, ReadErro
     match name {
         "line" => Ok(CommentKind::Line),
         "block" => Ok(CommentKind::Block),
-        _ => Err(ReadError::expected(alloc, Expected::Names(COMMENT_KINDS))),
+        _ => Err(ReadError::expected(alloc, Expected::NameIn(NameList::CommentKinds))),
     }
 }

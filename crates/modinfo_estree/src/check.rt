@@ -59,7 +59,10 @@ fn check_parts(alloc: Global, document: &Document) -> Result<Report, AllocError>
     match document.url(alloc) {
         Ok(_) => check_source(alloc, document),
         Err(DocumentError::Specifier) => Ok(Report::Invalid(specifier_report(alloc)?)),
-        Err(_) => Err(AllocError),
+        Err(DocumentError::OutOfMemory) => Err(AllocError),
+        Err(DocumentError::Json { .. } | DocumentError::Tree(_) | DocumentError::Source(_)) => {
+            unreachable!()
+        }
     }
 }
 

@@ -22,7 +22,7 @@ use crate::source::{NodeMembers, Source};
 use crate::tokens::Tokens;
 use crate::value_ends::ValueEnds;
 use deno_graph_json::read::{read_object, read_str};
-use deno_graph_json::{Element, Expected, FromJson, ObjectReader, ReadError, Tape};
+use deno_graph_json::{Element, Expected, FromJson, NameList, ObjectReader, ReadError, Tape};
 use deno_graph_source::text::SourceRange;
 use deno_graph_source::tree::{Comments, MediaType, Node, Program};
 use deno_graph_source::values::{Items, Text};
@@ -162,8 +162,6 @@ impl FromJson<Document> for OffsetUnit {
     }
 }
 
-const UNITS: &[&str] = &["utf16", "utf8"];
-
 /// Returns the unit of this name.
 #[tactic(auto, unfolding(modinfo_document::specs::Named::named))]
 fn unit_named(alloc: Global, name: &str) -> Result<OffsetUnit, ReadError>
@@ -173,6 +171,6 @@ fn unit_named(alloc: Global, name: &str) -> Result<OffsetUnit, ReadError>
     match name {
         "utf16" => Ok(OffsetUnit::Utf16),
         "utf8" => Ok(OffsetUnit::Utf8),
-        _ => Err(ReadError::expected(alloc, Expected::Names(UNITS))),
+        _ => Err(ReadError::expected(alloc, Expected::NameIn(NameList::OffsetUnits))),
     }
 }

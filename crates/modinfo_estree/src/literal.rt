@@ -20,11 +20,6 @@ use deno_graph_source::tree::StrLit;
 use modinfo_literals::spells;
 use std::alloc::{AllocError, Global};
 
-const EXPECTED: Expected = Expected::OneOf(
-    "the value that the source spells at the literal's range",
-    &[],
-);
-
 /// Reads a string literal, whose member `value` is its value.
 impl<'t> ReadWith<Offsets<'t>> for StrLit {
     ghost reads = { spec.reads_literal };
@@ -60,7 +55,7 @@ pub fn if_spelled(
     if is_spelled {
         Ok(value)
     } else {
-        Err(members.member_error("value", EXPECTED))
+        Err(members.member_error("value", Expected::SpelledValue))
     }
 }
 

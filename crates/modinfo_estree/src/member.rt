@@ -137,7 +137,7 @@ pub fn read_found_range(
     match range {
         Some(value) => match value.as_pair() {
             Some((start, end)) => Ok(range_between(offsets, start as usize, end as usize)),
-            None => Err(members.member_error("range", EXPECTED_RANGE)),
+            None => Err(members.member_error("range", Expected::Offsets)),
         },
         None => read_start_and_end(offsets, members, start, end),
     }
@@ -167,5 +167,3 @@ fn range_between(offsets: &Offsets<'_>, start: usize, end: usize) -> SourceRange
 {
     SourceRange::new(offsets.byte_offset(start), offsets.byte_offset(end))
 }
-
-const EXPECTED_RANGE: Expected = Expected::WholePair("two whole numbers, [start,end]");

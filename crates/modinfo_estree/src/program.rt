@@ -17,7 +17,7 @@ ghost use Rattle.modinfo_estree.specs.declared.role.Role.TheVariants.{Other};
 use crate::required::{in_member, read_at, required};
 use crate::source::{Estree, NodeMembers, Source};
 use deno_graph_json::read::read_str;
-use deno_graph_json::{Element, Expected, FromJson, ReadError};
+use deno_graph_json::{Element, Expected, FromJson, NameList, ReadError};
 use deno_graph_source::tree::Node;
 use deno_graph_source::values::Items;
 use std::alloc::Global;
@@ -29,8 +29,6 @@ pub enum Outermost {
     /// Babel's node around a program.
     File,
 }
-
-const OUTERMOST: &[&str] = &["Program", "File"];
 
 /// Reads the type of the outermost node.
 impl FromJson<Estree> for Outermost {
@@ -52,7 +50,7 @@ fn outermost_named(alloc: Global, name: &str) -> Result<Outermost, ReadError>
     match name {
         "Program" => Ok(Outermost::Program),
         "File" => Ok(Outermost::File),
-        _ => Err(ReadError::expected(alloc, Expected::Names(OUTERMOST))),
+        _ => Err(ReadError::expected(alloc, Expected::NameIn(NameList::OutermostTypes))),
     }
 }
 
@@ -61,8 +59,6 @@ fn outermost_named(alloc: Global, name: &str) -> Result<Outermost, ReadError>
 pub enum ProgramType {
     Program,
 }
-
-const PROGRAM: &[&str] = &["Program"];
 
 /// Reads the type of a program.
 impl FromJson<Estree> for ProgramType {
@@ -83,7 +79,7 @@ fn program_named(alloc: Global, name: &str) -> Result<ProgramType, ReadError>
 {
     match name {
         "Program" => Ok(ProgramType::Program),
-        _ => Err(ReadError::expected(alloc, Expected::Names(PROGRAM))),
+        _ => Err(ReadError::expected(alloc, Expected::NameIn(NameList::ProgramTypes))),
     }
 }
 

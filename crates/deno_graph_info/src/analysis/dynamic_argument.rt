@@ -5,7 +5,7 @@ ghost use Rattle.deno_graph_info.specs.Json.DynamicArgument.{json_of_argument, r
 use crate::analysis::module_info::ModuleInfo;
 use deno_graph_base::values::{Items, Text, TryClone};
 use deno_graph_json::read::read_items;
-use deno_graph_json::{Element, Expected, Form, FromJson, JsonWriter, ReadError, ToJson, View};
+use deno_graph_json::{Element, Expected, FromJson, JsonWriter, ReadError, ToJson, View};
 use std::alloc::{AllocError, Global};
 
 /// The first argument of a dynamic dependency, as far as it is known.
@@ -63,12 +63,6 @@ impl ToJson for DynamicArgument {
     }
 }
 
-/// What is expected of an argument.
-const EXPECTED_ARGUMENT: Expected = Expected::OneOf(
-    "a string, an array of parts or null",
-    &[Form::String, Form::Array, Form::Null],
-);
-
 impl FromJson<ModuleInfo> for DynamicArgument {
     ghost reads = { reads_argument };
 
@@ -81,7 +75,7 @@ impl FromJson<ModuleInfo> for DynamicArgument {
                 let parts = read_items(alloc, values)?;
                 Ok(DynamicArgument::Template(parts))
             }
-            _ => Err(ReadError::expected(alloc, EXPECTED_ARGUMENT)),
+            _ => Err(ReadError::expected(alloc, Expected::Argument)),
         }
     }
 }

@@ -9,7 +9,7 @@ ghost use Rattle.deno_graph_json.specs.Read.Result.{IsReadResult};
 use crate::analysis::module_info::ModuleInfo;
 use deno_graph_base::values::{Text, TextMap, TryClone};
 use deno_graph_json::{
-    Element, Expected, Form, FromJson, JsonWriter, ObjectReader, ReadError, ToJson, ToObject, View,
+    Element, Expected, FromJson, JsonWriter, ObjectReader, ReadError, ToJson, ToObject, View,
 };
 use std::alloc::{AllocError, Global};
 
@@ -42,12 +42,6 @@ impl ToJson for ImportAttribute {
     }
 }
 
-/// What is expected of the value of an attribute.
-const EXPECTED_ATTRIBUTE: Expected = Expected::OneOf(
-    "a string or null",
-    &[Form::String, Form::Null],
-);
-
 impl FromJson<ModuleInfo> for ImportAttribute {
     ghost reads = { reads_attribute };
 
@@ -56,7 +50,7 @@ impl FromJson<ModuleInfo> for ImportAttribute {
         match value.view() {
             View::Null => Ok(ImportAttribute::Unknown),
             View::String(text) => Ok(ImportAttribute::Known(Text::from_str(alloc, text)?)),
-            _ => Err(ReadError::expected(alloc, EXPECTED_ATTRIBUTE)),
+            _ => Err(ReadError::expected(alloc, Expected::Attribute)),
         }
     }
 }
@@ -156,12 +150,6 @@ impl ToObject for KnownAttributes<'_> {
     }
 }
 
-/// What is expected of import attributes.
-const EXPECTED_ATTRIBUTES: Expected = Expected::OneOf(
-    "none, unknown, or an object with the one member known",
-    &[Form::Name("none"), Form::Name("unknown"), Form::ObjectOfOne],
-);
-
 impl FromJson<ModuleInfo> for ImportAttributes {
     ghost reads = { reads_attributes };
 
@@ -170,7 +158,7 @@ impl FromJson<ModuleInfo> for ImportAttributes {
         match value.view() {
             View::String(text) => read_name(alloc, text),
             View::Object(members) => read_known(alloc, &ObjectReader::of_members(alloc, members)),
-            _ => Err(ReadError::expected(alloc, EXPECTED_ATTRIBUTES)),
+            _ => Err(ReadError::expected(alloc, Expected::Attributes)),
         }
     }
 }
@@ -183,7 +171,7 @@ fn read_name(alloc: Global, name: &str) -> Result<ImportAttributes, ReadError>
     match name {
         "none" => Ok(ImportAttributes::None),
         "unknown" => Ok(ImportAttributes::Unknown),
-        _ => Err(ReadError::expected(alloc, EXPECTED_ATTRIBUTES)),
+        _ => Err(ReadError::expected(alloc, Expected::Attributes)),
     }
 }
 
@@ -199,6 +187,6 @@ fn read_known(
         let known = object.read("known")?;
         Ok(ImportAttributes::Known(known))
     } else {
-        Err(ReadError::expected(alloc, EXPECTED_ATTRIBUTES))
+        Err(ReadError::expected(alloc, Expected::Attributes))
     }
 }

@@ -9,7 +9,7 @@ use Rattle.deno_graph_json.specs.declared.error.ReadError.{ReadError}
 use Rattle.deno_graph_json.specs.declared.expected.Expected.TheVariants.{Integer}
 use Rattle.deno_graph_info.specs.declared.analysis.fault.InfoFault.{InfoFault}
 use Rattle.deno_graph_info.specs.declared.analysis.fault.InfoFault.TheVariants as info
-use Rattle.modinfo.specs.Reach.{Asks, IsFirstFault}
+use Rattle.modinfo.specs.Reach.{Asks, IsFirstFault, modules_alone}
 use Rattle.modinfo.specs.declared.reach.Question.{Question}
 use Rattle.modinfo.specs.declared.reach.QuestionError.{QuestionError}
 
@@ -31,3 +31,8 @@ IsModulesFault d fault = MatchOption (as_object d) (fault ≡ info.Shape) (λ ms
 abbrev pub IsErrorIn : (InfoFault → Type 0) → Data → QuestionError → Type 0
 IsErrorIn IsFault value error = IsMismatch error.error → (error.fault ≢ info.OutOfMemory)
     × IsFault error.fault × IsIn value error.error × (error.fault ≡ info.Float → Expects Integer error.error)
+
+-- If the fault is a float, the error leads to one that is read: it is in the modules.
+abbrev pub IsFloatRead : Data → QuestionError → Type 0
+IsFloatRead value error = IsMismatch error.error → error.fault ≡ info.Float
+    → IsIn (modules_alone value) error.error

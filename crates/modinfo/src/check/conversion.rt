@@ -1,15 +1,22 @@
 //! Reports on stored information that can't be converted.
 
-ghost use Rattle.std.specs.Prelude.{◌≡◌, ◌↔◌, IfOk, IfSome, IsSome, IsTrue, codes, false, option_map};
+ghost use Rattle.std.specs.Prelude.{◌≡◌, ◌↔◌, ◌-◌, IfOk, IfSome, IsSome, IsSomeAnd, IsTrue, Some, codes};
+ghost use Rattle.std.specs.Prelude.{false, option_map};
+ghost use Rattle.std.specs.String.{string_bytes};
+ghost use Rattle.serde_json.specs.Data.{Items};
+ghost use Rattle.serde_json.specs.Events.{items_len};
+ghost use Rattle.serde_json.specs.Find.{get_item};
 ghost use Rattle.serde_json.specs.Written.{has_float};
 ghost use Rattle.deno_graph_json.specs.Data.{data_of, elements_data};
-ghost use Rattle.deno_graph_info.specs.Conversion.{AnyOverflows, DependencyOverflows, Overflows};
+ghost use Rattle.deno_graph_info.specs.Conversion.{AnyOverflows, DependencyOverflows, Overflows, dependencies_in};
+ghost use Rattle.modinfo_document.specs.Pointer.{pointer_text};
 ghost use Rattle.modinfo_document.specs.Report.{HasNoWarnings, IsNamed, Reports};
-ghost use Rattle.modinfo.specs.internal.Check.{ReportsOnValue, array_in};
+ghost use Rattle.modinfo.specs.Check.{PointsToColumn, array_in, column_path};
+ghost use Rattle.modinfo.specs.internal.Check.{ReportsOnValue};
 
 use deno_graph_info::analysis::{ConvertFault, laws};
 use deno_graph_info::conversion::change_of;
-use deno_graph_json::{Element, Elements, Mismatch};
+use deno_graph_json::{Element, Elements, Expected, Mismatch, ReferenceToken, push_token};
 use modinfo_document::report::{FaultReport, Report, Warnings};
 use std::alloc::{AllocError, Global};
 
@@ -39,6 +46,8 @@ pub fn report_columns(alloc: Global, value: Element<'_>) -> Result<Report, Alloc
 fn column_report(alloc: Global, value: Element<'_>) -> Result<Option<FaultReport>, AllocError>
     ensures fault { IfOk result (λ report. IsSome report ↔ Overflows (data_of value.entry)) }
     ensures name { IfOk result (λ report. IfSome report (IsNamed (codes "ColumnOverflow"))) }
+    ensures column { IfOk result (λ report. IfSome report (λ found.
+        IsSomeAnd (dependencies_in (data_of value.entry)) (λ items. PointsToColumn items found))) }
 {
     match array_at(value, "dependencies") {
         Some(dependencies) => first_overflow(alloc, dependencies),
@@ -54,13 +63,15 @@ fn first_overflow(
 ) -> Result<Option<FaultReport>, AllocError>
     ensures fault { IfOk result (λ report. IsSome report ↔ AnyOverflows (elements_data dependencies.entry)) }
     ensures name { IfOk result (λ report. IfSome report (IsNamed (codes "ColumnOverflow"))) }
+    ensures column { IfOk result (λ report.
+        IfSome report (PointsToColumn (elements_data dependencies.entry))) }
 {
     let mut number = 0usize;
     for dependency in dependencies {
         if overflows(alloc, dependency)? {
             return Ok(Some(overflow_report(alloc, dependency, number)?));
         }
-        number = number.saturating_add(1);
+        number += 1;
     }
     Ok(None)
 }
@@ -73,7 +84,8 @@ fn overflows(alloc: Global, dependency: Element<'_>) -> Result<bool, AllocError>
     match change_of(alloc, dependency) {
         Ok(_change) => Ok(false),
         Err(ConvertFault::ColumnOverflow) => Ok(true),
-        Err(_fault) => Err(AllocError),
+        Err(ConvertFault::OutOfMemory) => Err(AllocError),
+        Err(ConvertFault::Float) => unreachable!(),
     }
 }
 
@@ -84,14 +96,41 @@ fn overflow_report(
     dependency: Element<'_>,
     number: usize,
 ) -> Result<FaultReport, AllocError>
-    ensures { IfOk result (IsNamed (codes "ColumnOverflow")) }
+    ensures name { IfOk result (IsNamed (codes "ColumnOverflow")) }
+    ensures column { (dependencies : Items) → get_item number dependencies ≡ Some (data_of dependency.entry)
+        → DependencyOverflows (data_of dependency.entry) → IfOk result (PointsToColumn dependencies) }
 {
     let name = String::from_str(alloc, ConvertFault::ColumnOverflow.name())?;
-    let count = array_at(dependency, "leadingComments").map_or(0, |comments| comments.len());
-    let last = count.saturating_sub(1);
-    let pointer = format!(in alloc; "/dependencies/{number}/leadingComments/{last}/range/0/1")?;
-    let expected = String::from_str(alloc, "a column from which the types end below 2^64")?;
+    let pointer = column_pointer(alloc, number, last_comment(dependency))?;
+    let expected = Expected::Column.to_words(alloc)?;
     Ok(FaultReport::of_value(name, pointer, expected))
+}
+
+/// Returns the JSON Pointer of the column at which a comment of a dependency begins, by the indices of both.
+fn column_pointer(alloc: Global, number: usize, comment: usize) -> Result<String, AllocError>
+    ensures { IfOk result (λ pointer. string_bytes pointer ≡ pointer_text (column_path number comment)) }
+{
+    let mut pointer = String::new(alloc);
+    push_token(&mut pointer, ReferenceToken::Name("dependencies"))?;
+    push_token(&mut pointer, ReferenceToken::Index(number))?;
+    push_token(&mut pointer, ReferenceToken::Name("leadingComments"))?;
+    push_token(&mut pointer, ReferenceToken::Index(comment))?;
+    push_token(&mut pointer, ReferenceToken::Name("range"))?;
+    push_token(&mut pointer, ReferenceToken::Index(0))?;
+    push_token(&mut pointer, ReferenceToken::Index(1))?;
+    Ok(pointer)
+}
+
+/// Returns the index of the last leading comment of a dependency, 0 if there is none.
+fn last_comment(dependency: Element<'_>) -> usize
+    ensures { (comments : Items)
+        → array_in (codes "leadingComments") (data_of dependency.entry) ≡ Some comments
+        → result ≡ items_len comments - 1 }
+{
+    match array_at(dependency, "leadingComments") {
+        Some(comments) => comments.len().saturating_sub(1),
+        None => 0,
+    }
 }
 
 /// The elements of the member of this name, an array.

@@ -7,7 +7,7 @@ ghost use Rattle.deno_graph_json.specs.Data.{data_of};
 ghost use Rattle.modinfo.specs.Check.{AsksSome, OfReport, ReportsOnQuestion, ReportsQuestion};
 ghost use Rattle.modinfo.specs.Check.{WarnsOfModules, WarnsOfQuestion, WarnsOfRoot};
 ghost use Rattle.modinfo.specs.Reach.{IsQuestionFault};
-ghost use Rattle.modinfo.specs.internal.Reach.{IsErrorIn};
+ghost use Rattle.modinfo.specs.internal.Reach.{IsErrorIn, IsFloatRead};
 
 use crate::reach::{Question, QuestionError, read_question};
 use deno_graph_json::{Element, ReadError, Tape, TapeError};
@@ -67,11 +67,13 @@ fn root_warnings(alloc: Global, question: Question) -> Result<Warnings, AllocErr
 /// The report on a document with this error. The only error is a failed allocation.
 fn fault_report(alloc: Global, error: &QuestionError) -> Result<FaultReport, AllocError>
     ensures { (value : Data) → IsErrorIn (IsQuestionFault value) value error.now
-        → IfOk result (ReportsQuestion value) }
+        → IsFloatRead value error.now → IfOk result (ReportsQuestion value) }
 {
-    let ReadError::Mismatch(mismatch) = &error.error else {
-        return Err(AllocError);
-    };
-    let name = String::from_str(alloc, error.fault.name())?;
-    FaultReport::of_mismatch(alloc, name, mismatch)
+    match &error.error {
+        ReadError::Mismatch(mismatch) => {
+            let name = String::from_str(alloc, error.fault.name())?;
+            FaultReport::of_mismatch(alloc, name, mismatch)
+        }
+        ReadError::OutOfMemory => Err(AllocError),
+    }
 }

@@ -17,12 +17,12 @@ returns-in_err-read_question c =
     let is = err_from_is_err_and c.from_residual-in_err-read_question.result
     c.from_residual-in_err-read_question.ensures.1 in
     rw (is.1, is.2) (asks_nothing c.args.text.now (data_of c.root.result) c.in_err-read_question.field-0.0
-    (c.in_ok-tape.ensures.json ∙ ap Some (sym c.root.ensures.json)) c.in_err-read_question.ensures)
+    (c.in_ok-tape.ensures.json ∙ ap Some (sym c.root.ensures.json)) c.in_err-read_question.ensures.read)
 
 -- The question is that of the text's value.
 pub returns : goal.returns
 returns c = (
   data_of c.root.result,
   c.in_ok-tape.ensures.json ∙ ap Some (sym c.root.ensures.json),
-  c.in_ok-read_question.ensures,
+  c.in_ok-read_question.ensures.read,
 )

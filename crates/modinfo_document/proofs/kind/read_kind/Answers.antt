@@ -4,4 +4,4 @@ use Rattle.modinfo_document.proofs.kind.read_kind.Goals as goal
 
 pub returns : goal.returns
 unfolding reads_kind
-returns c = member_on _ _ _ _ _ _ c.in_ok-name.ensures c.read_kind_named.ensures
+returns c = member_on _ _ _ _ _ _ c.in_ok-name.ensures c.read_kind_named.ensures.read

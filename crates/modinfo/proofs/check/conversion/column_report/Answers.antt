@@ -12,6 +12,13 @@ returns-in-Some-clause-fault c =
     let is : dependencies_in d ≡ Some old = dependencies_named d ∙ sym c.in-Some.ensures in
     same_report c.first_overflow.result (overflows_of d old is) c.first_overflow.ensures.fault
 
+pub returns-in-Some-clause-column : goal.returns-in-Some-clause-column
+returns-in-Some-clause-column c =
+    let d = data_of c.args.value in
+    let old = elements_data c.in-Some.dependencies in
+    let is : dependencies_in d ≡ Some old = dependencies_named d ∙ sym c.in-Some.ensures in
+    rw is c.first_overflow.ensures.column
+
 pub returns-in-None-clause-fault : goal.returns-in-None-clause-fault
 returns-in-None-clause-fault c =
     let d = data_of c.args.value in

@@ -14,6 +14,7 @@ returns-in-Some-clause-report c =
           (c.in_ok-report.ensures.fault.0 (ap is_some c.in-Some.is));
       name = rw c.in-Some.is at c.in_ok-report.ensures.name;
       place = λ same. absurd (apart same);
+      column = λ _. rw c.in-Some.is at c.in_ok-report.ensures.column;
     }
 
 pub returns-in-None-clause-report : goal.returns-in-None-clause-report

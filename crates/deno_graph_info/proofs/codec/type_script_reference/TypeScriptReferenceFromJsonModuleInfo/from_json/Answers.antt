@@ -9,4 +9,4 @@ unfolding reads_reference
 returns c =
     object_on _ _ (readable c.in_ok-object.object) _ c.in_ok-object.ensures
     (member_on _ _ _ _ _ _ c.in_ok-reference_type.ensures
-    (c.read_reference.ensures c.in_ok-reference_type.ensures))
+    (c.read_reference.ensures.read c.in_ok-reference_type.ensures))
