@@ -5,12 +5,13 @@ use Rattle.std.proofs.Common.{get_or, if◌then◌else◌, true≢false, unwrap_
 use Rattle.std.specs.List.{All, Contains}
 use Rattle.std.proofs.lemmas.Bool.{and_parts, eqb-true}
 use Rattle.std.proofs.lemmas.List.Elements.{Contains-append_left, Contains-get_or, Contains-push}
-use Rattle.modinfo_imports.specs.Claims.{claims_after, is_same, is_same_kind}
+use Rattle.modinfo_imports.specs.Claims.{claims_after, form_of, is_same, is_same_kind}
 use Rattle.modinfo_imports.specs.Duties.{met_duty, sight_of}
 use Rattle.modinfo_pieces.specs.Places.{Place, context_of}
-use Rattle.modinfo_imports.specs.Watches.{IsWatchEnd, Watch, Watches, is_gap, is_specifier, watch_after}
+use Rattle.modinfo_imports.specs.Watches.{IsWatchEnd, Watch, Watches, is_gap, specifier_of, watch_after}
 use Rattle.modinfo_imports.specs.Watches.{watch_met, watch_start}
 use Rattle.modinfo_imports.specs.Watches.Watches.{more, none}
+use Rattle.modinfo_imports.specs.declared.claims.Mark.{Mark}
 use Rattle.modinfo_imports.specs.declared.duty.Duty.{Duty}
 use Rattle.modinfo_pieces.specs.declared.piece.Piece.{Piece}
 use Rattle.modinfo_pieces.specs.declared.piece.PieceKind.{PieceKind}
@@ -65,7 +66,8 @@ after_claims : (text : List ℕ) (is_typed : Bool) (context : Context) (piece : 
 after_claims text is_typed context piece watch after is =
     let sight = sight_of text piece piece.kind in
     step_claims (is_gap piece.kind)
-    (met_duty (is_specifier piece watch.marks) watch.duty sight context.is_after_line_end is_typed) watch
+    (met_duty (specifier_of piece.kind (form_of piece watch.marks)) watch.duty sight
+    context.is_after_line_end is_typed) watch
     after
     (watch_met text is_typed context piece watch sight) (claims_after piece watch.claims) (λ duty. refl) is
 
@@ -87,7 +89,8 @@ met text is_typed from start pieces place watch (more {pieces = before} {place =
 no_claim : (claim : Piece) → Contains [] claim → ⊥
 no_claim claim at = omega arith
 
-claim_is_piece : (text : List ℕ) (is_typed : Bool) (from : Place) (claims marks pieces : List Piece)
+claim_is_piece : (text : List ℕ) (is_typed : Bool) (from : Place) (claims : List Piece) (marks : List Mark)
+    (pieces : List Piece)
     (place : Place) (watch : Watch)
     → Watches text is_typed from (watch_start claims marks) pieces place watch → IsWatchEnd watch
     → (claim : Piece) → Contains claims claim → Contains pieces claim
@@ -97,7 +100,8 @@ claim_is_piece text is_typed from claims marks pieces place watch watched end cl
     (met text is_typed from (watch_start claims marks) pieces place watch watched claim at)
 
 -- at the end of the text each claim is a piece
-pub claims-are_pieces : (text : List ℕ) (is_typed : Bool) (from : Place) (claims marks pieces : List Piece)
+pub claims-are_pieces : (text : List ℕ) (is_typed : Bool) (from : Place) (claims : List Piece)
+    (marks : List Mark) (pieces : List Piece)
     (place : Place) (watch : Watch) → Watches text is_typed from (watch_start claims marks) pieces place watch
     → IsWatchEnd watch → All (Contains pieces) claims
 claims-are_pieces text is_typed from claims marks pieces place watch watched end k d below =

@@ -4,11 +4,11 @@ use Rattle.std.specs.Prelude.{ℕ, ◌==◌, Bool, true, false, not, ◌&&◌, �
 use Rattle.std.specs.Prelude.{codes, if◌then◌else◌, slice_index, slice_range}
 use Rattle.std.specs.List.{list_any}
 use Rattle.std.specs.Str.{bytes_eq}
-use Rattle.modinfo_imports.specs.Claims.{is_claimed}
 use Rattle.modinfo_imports.specs.declared.duty.Duty.{Duty}
 use Rattle.modinfo_imports.specs.declared.duty.Duty.TheVariants as duties
 use Rattle.modinfo_imports.specs.declared.duty.Name.{Name}
 use Rattle.modinfo_imports.specs.declared.duty.Name.TheVariants as names
+use Rattle.modinfo_imports.specs.declared.duty.Phase.TheVariants as phases
 use Rattle.modinfo_imports.specs.declared.duty.Sight.{Sight}
 use Rattle.modinfo_imports.specs.declared.duty.Sight.TheVariants.{Byte, Other, String, Word}
 use Rattle.modinfo_pieces.specs.WordClasses.{is_among}
@@ -26,7 +26,9 @@ name_of word =
     (if bytes_eq word (codes "from") then names.From
     else (if bytes_eq word (codes "as") then names.As
     else (if bytes_eq word (codes "type") then names.Type
-    else (if is_among operators word then names.Operator else names.Other))))
+    else (if bytes_eq word (codes "source") then names.Source
+    else (if bytes_eq word (codes "defer") then names.Defer
+    else (if is_among operators word then names.Operator else names.Other))))))
 
 -- A token, as far as duties tell tokens apart.
 unfoldable pub sight_of : List ℕ → Piece → PieceKind → Sight
@@ -79,18 +81,40 @@ after_require may_be_method after is_typed byte =
     else Some (if ((byte == 60) && is_typed) && not (may_be_method || after) then duties.TypeName
     else duties.Nothing))
 
--- Between `import` and the specifier, or the `=` of an alias; whether the specifier may be next.
-abbrev pub after_names : Bool → Sight → Option Duty
-after_names true String = None
-after_names _ (Word names.From) = Some (duties.Names true)
-after_names _ sight =
-    Some (if is_name sight || is_byte (codes "{,}*") sight then duties.Names false
-    else (if is_byte (codes "=") sight then duties.NoCall else duties.Nothing))
+-- Between `import` and the specifier, or the `=` of an alias: whether the specifier may be next, after
+-- `from`, and whether something is named. A `from` that no specifier follows is a name.
+abbrev pub after_names : Bool → Bool → Sight → Option Duty
+after_names true _ String = None
+after_names is_next is_named (Word names.From) = Some (duties.Names true (is_named || is_next))
+after_names is_next is_named sight =
+    Some (if is_name sight || is_byte (codes "*") sight then duties.Names false true
+    else (if is_byte (codes "{,}") sight then duties.Names false (is_named || is_next)
+    else (if is_byte (codes "=") sight then duties.NoCall else duties.Nothing)))
 
--- The word `from`.
-abbrev pub is_from : Sight → Bool
-is_from (Word names.From) = true
-is_from sight = false
+-- After an `import` at which a node begins, where no `type`, `source` or `defer` is more than a name.
+abbrev pub after_start : Sight → Option Duty
+after_start String = None
+after_start (Word names.Type) = Some duties.TypeWord
+after_start (Word name) = Some duties.Name
+after_start sight = after_names false false sight
+
+-- After `import type`, where that is a name: `import type from "a"`, `import type, { b } from "a"`, or where
+-- an alias is of types.
+abbrev pub after_type : Sight → Option Duty
+after_type (Word names.From) = Some duties.TypeFrom
+after_type (Word name) = Some duties.Alias
+after_type sight = after_names false true sight
+
+-- After the name that an import begins with: `import a from "a"`, `import a, { b } from "a"`, `import a = b`.
+abbrev pub after_name : Sight → Option Duty
+after_name (Word names.From) = Some (duties.Names true true)
+after_name sight = (if is_byte (codes ",=") sight then after_names false true sight else None)
+
+-- After `type`, `source` or `defer`: `import type A from "a"`, `import source from from "a"`,
+-- `import defer * as a from "a"`.
+abbrev pub after_phase : Sight → Option Duty
+after_phase (Word name) = Some (duties.Names false true)
+after_phase sight = only (is_byte (codes "{*") sight) (duties.Names false (is_byte (codes "*") sight))
 
 -- The duty after a token that meets this duty, if the token meets it, and whether the token is on another
 -- line than the one before. By rows:
@@ -107,9 +131,9 @@ is_from sight = false
 --   comparison, `require<(x) => y>(c)` a call.
 -- * `import` at which a node begins: names up to the specifier, which follows `from` or the `import`, as in
 --   `import a, { "b" as c } from "d"`, `import "a"`; or up to the `=` of `import type a = require("a")`. A
---   declaration is of types exactly where `type` and more than a name follow: `import type A from "a"`,
---   `import type { A } from "a"`, `import type from from "a"`, but `import type from "a"`,
---   `import type, { b } from "a"`.
+--   declaration is of types, or in the phase `source` or `defer`, exactly where that word and more than a
+--   name follow: `import type A from "a"`, `import type { A } from "a"`, `import source from from "a"`, but
+--   `import type from "a"`, `import defer, { b } from "a"`.
 -- * `new`, `function`: `function *require() {}`.
 -- * `export`: `export type { a } from "a"`, `export { a } from "a"`, `export * from "a"`,
 --   `export * as a from "a"`. It is of types exactly where `type` follows.
@@ -133,17 +157,16 @@ met_by duties.TypeEnd sight _ _ =
     Some (if is_byte (codes ",|&") sight then duties.TypeName
     else (if is_byte (codes ">") sight then duties.NoParenthesis else duties.Nothing))
 met_by duties.NoParenthesis sight after _ = only (after || not (is_byte (codes "(") sight)) duties.Nothing
-met_by (duties.Start of_types) (Word names.Type) _ _ = Some (duties.TypeWord of_types)
-met_by (duties.Start true) _ _ _ = None
-met_by (duties.Start false) sight _ _ = after_names true sight
-met_by (duties.Names is_next) sight _ _ = after_names is_next sight
-met_by (duties.TypeWord of_types) (Word names.From) _ _ = Some (duties.TypeFrom of_types)
-met_by (duties.TypeWord true) sight _ _ =
-    only (is_name sight || is_byte (codes "{*") sight) (duties.Names false)
-met_by (duties.TypeWord false) (Word name) _ _ = Some duties.Alias
-met_by (duties.TypeWord false) sight _ _ = only (is_byte (codes ",=") sight) (duties.Names false)
-met_by (duties.TypeFrom true) sight _ _ = only (is_from sight) (duties.Names true)
-met_by (duties.TypeFrom false) sight _ _ = only (is_byte (codes "=") sight) duties.NoCall
+met_by (duties.Start phases.Plain) sight _ _ = after_start sight
+met_by (duties.Start phases.Types) (Word names.Type) _ _ = Some duties.Phase
+met_by (duties.Start phases.Source) (Word names.Source) _ _ = Some duties.Phase
+met_by (duties.Start phases.Defer) (Word names.Defer) _ _ = Some duties.Phase
+met_by (duties.Start _) _ _ _ = None
+met_by duties.Phase sight _ _ = after_phase sight
+met_by duties.Name sight _ _ = after_name sight
+met_by (duties.Names is_next is_named) sight _ _ = after_names is_next is_named sight
+met_by duties.TypeWord sight _ _ = after_type sight
+met_by duties.TypeFrom sight _ _ = only (is_byte (codes "=") sight) duties.NoCall
 met_by duties.Alias sight _ _ = only (is_byte (codes "=") sight) duties.NoCall
 met_by duties.NoCall sight _ _ = Some (if is_byte (codes "*") sight then duties.NoCall else duties.Nothing)
 met_by (duties.Export true _ _) (Word name) true _ = Some duties.Nothing
@@ -164,16 +187,16 @@ met_by duties.Module String false _ = None
 met_by _ _ _ _ = Some duties.Nothing
 
 -- A specifier of the tree is right after `import`, after the `from` of a declaration, or after `module`, and
--- nowhere else.
-abbrev pub takes_specifier : Duty → Bool
-takes_specifier (duties.Start false) = true
-takes_specifier (duties.Names true) = true
-takes_specifier (duties.TypeFrom false) = true
-takes_specifier duties.From = true
-takes_specifier duties.Module = true
-takes_specifier duty = false
+-- nowhere else; whether the declaration names something: not in `import "a"`, `import {} from "a"`.
+abbrev pub takes_specifier : Bool → Duty → Bool
+takes_specifier has_names (duties.Start phases.Plain) = not has_names
+takes_specifier has_names (duties.Names true is_named) = (if has_names then is_named else not is_named)
+takes_specifier has_names duties.TypeFrom = has_names
+takes_specifier has_names duties.From = true
+takes_specifier has_names duties.Module = true
+takes_specifier has_names duty = false
 
 -- The duty after a token that is a specifier of the tree, or another.
-unfoldable pub met_duty : Bool → Duty → Sight → Bool → Bool → Option Duty
-met_duty true duty sight after is_typed = only (takes_specifier duty) duties.Nothing
-met_duty false duty sight after is_typed = met_by duty sight after is_typed
+unfoldable pub met_duty : Option Bool → Duty → Sight → Bool → Bool → Option Duty
+met_duty (Some has_names) duty sight after is_typed = only (takes_specifier has_names duty) duties.Nothing
+met_duty None duty sight after is_typed = met_by duty sight after is_typed

@@ -1,10 +1,10 @@
--- Words that dependencies begin with, and `new` and `function`, after which a name isn't called.
+-- Words that dependencies begin with, `new` and `function`, after which a name isn't called, and `typeof`.
 use Rattle.std.specs.Prelude.{ℕ, ◌==◌, Bool, ◌&&◌, ◌||◌, List, codes, if◌then◌else◌, slice_index}
 use Rattle.std.specs.List.{list_any}
 use Rattle.std.specs.Str.{bytes_eq}
 use Rattle.modinfo_imports.specs.declared.keyword.Keyword.{Keyword}
 use Rattle.modinfo_imports.specs.declared.keyword.Keyword.TheVariants.{Export, Import, Module, New, Other}
-use Rattle.modinfo_imports.specs.declared.keyword.Keyword.TheVariants.{Require}
+use Rattle.modinfo_imports.specs.declared.keyword.Keyword.TheVariants.{Require, TypeOf}
 
 -- A name may have escapes (ECMA-262, 12.7 Names and Keywords): `requ\u0069re` is `require`.
 abbrev pub has_escape : List ℕ → Bool
@@ -22,4 +22,5 @@ keyword_of word =
     else (if bytes_eq word (codes "import") then Import
     else (if bytes_eq word (codes "export") then Export
     else (if bytes_eq word (codes "module") then Module
-    else (if bytes_eq word (codes "function") || bytes_eq word (codes "new") then New else Other)))))
+    else (if bytes_eq word (codes "typeof") then TypeOf
+    else (if bytes_eq word (codes "function") || bytes_eq word (codes "new") then New else Other))))))

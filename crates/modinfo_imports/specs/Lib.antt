@@ -5,3 +5,4 @@ pub mod Watches
 pub mod Sights
 pub mod Found
 pub mod Nodes
+pub mod internal

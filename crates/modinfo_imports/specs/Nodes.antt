@@ -1,7 +1,7 @@
 -- The pieces of a text that the nodes of its tree have: the word that each node begins with which may report
 -- a dependency, and each string, name and template of the tree.
 use Rattle.std.specs.Prelude.{ℕ, ◌+◌, ◌-◌, ◌==◌, Bool, true, false, ◌&&◌, ◌||◌, List, [], ◌∷◌, ◌++◌, Option}
-use Rattle.std.specs.Prelude.{Some, None, codes, if◌then◌else◌, length, nat_le, nat_lt, not, option_map}
+use Rattle.std.specs.Prelude.{Some, None, codes, if◌then◌else◌, length, map, nat_le, nat_lt, not, option_map}
 use Rattle.std.specs.Prelude.{slice_index, slice_range}
 use Rattle.std.specs.List.{flat_map}
 use Rattle.std.specs.List.Sorted.{IsPermutation}
@@ -15,6 +15,11 @@ use Rattle.deno_graph_source.specs.declared.tree.node.Kind.TheVariants as kinds
 use Rattle.deno_graph_source.specs.declared.tree.node.Node.{Node}
 use Rattle.deno_graph_source.specs.declared.tree.node.Program.{Program}
 use Rattle.deno_graph_source.specs.declared.tree.node.StrLit.{StrLit}
+use Rattle.deno_graph_source.specs.declared.tree.node.ImportPhase.{ImportPhase}
+use Rattle.deno_graph_source.specs.declared.tree.node.ImportPhase.TheVariants as phases
+use Rattle.modinfo_imports.specs.declared.claims.Form.{Form}
+use Rattle.modinfo_imports.specs.declared.claims.Form.TheVariants as forms
+use Rattle.modinfo_imports.specs.declared.claims.Mark.{Mark}
 use Rattle.modinfo_imports.specs.Keywords.{has_escape, may_be_require}
 use Rattle.modinfo_pieces.specs.Comments.{has_bytes}
 use Rattle.modinfo_pieces.specs.declared.piece.Piece.{Piece}
@@ -81,31 +86,59 @@ name_claim text range name =
     (if bytes_eq word (codes "import") || not (has_escape word || bytes_eq word name)
     then no_piece range.start else piece_at Word range)
 
--- What a value is: the string "a", the name `require`, the template `a` without expressions.
-abbrev pub value_claim : List ℕ → SourceRange → List Node → Kind → Option Piece
-value_claim text range children (kinds.Str value) = Some (piece_at String range)
-value_claim text range children (kinds.Ident name) = Some (name_claim text range name)
-value_claim text range [] (kinds.Template values) = Some (piece_at Template range)
-value_claim text range children _ = None
+-- What a value is: the string "a", the name `require`.
+abbrev pub value_claim : List ℕ → SourceRange → Kind → Option Piece
+value_claim text range (kinds.Str value) = Some (piece_at String range)
+value_claim text range (kinds.Ident name) = Some (name_claim text range name)
+value_claim text range _ = None
+
+-- A part of a template, with the marks around it: the backtick or `}` before, the backtick or `${` after.
+abbrev pub part_claim : List ℕ → SourceRange → Piece
+part_claim text part =
+    let end_mark = (if slice_index text part.end == 96 then 1 else 2) in
+    (if nat_lt part.end (length text)
+    then record { kind = Template; start = part.start - 1; end = part.end + end_mark }
+    else no_piece part.start)
 
 -- The pieces that a node has.
 abbrev pub claims_of : List ℕ → Node → List Piece
 claims_of text node =
     option_to_list (begin_claim text (range_of node).start (kind_of node))
     ++ (option_to_list (option_map (literal_claim (range_of node)) (literal_of (kind_of node)))
-    ++ option_to_list (value_claim text (range_of node) (children_of node) (kind_of node)))
+    ++ option_to_list (value_claim text (range_of node) (kind_of node)))
 
--- The word at a range that a call of a callee begins with, if it is a name that may be `require`.
-abbrev pub call_word : List ℕ → SourceRange → Kind → Option Piece
-call_word text range (kinds.Ident _) =
-    (if may_be_require (bytes_at text range) then Some (piece_at Word range) else None)
-call_word text range _ = None
+-- What a tree says of the token at an offset, if it says something.
+abbrev pub mark_at : ℕ → Option Form → List Mark
+mark_at at None = []
+mark_at at (Some form) = record { start = at; form = form } ∷ []
 
--- The word of a call: `require` of `require("a")`.
-abbrev pub call_words : List ℕ → SourceRange → List Node → Kind → Option Piece
-call_words text range (callee ∷ _) (kinds.Call callees.Expr _) =
-    call_word text (record { start = range.start; end = (range_of callee).end }) (kind_of callee)
-call_words text range children _ = None
+-- The word at a range that a call of a callee begins with is a call's, if it is a name that may be `require`.
+abbrev pub call_form : List ℕ → SourceRange → Kind → Option Form
+call_form text range (kinds.Ident _) =
+    (if may_be_require (bytes_at text range) then Some forms.Call else None)
+call_form text range _ = None
+
+abbrev pub phase_form : ImportPhase → Option Form
+phase_form phases.Evaluation = None
+phase_form phases.Source = Some forms.Source
+phase_form phases.Defer = Some forms.Defer
+
+-- What a node says of the token that it begins with: of the `require` of `require("a")`, of the first word of
+-- a declaration of types alone, `import type A from "a"`, `export type * from "a"`, and of an import in
+-- another phase, `import source a from "b"`, `import defer * as a from "b"`.
+abbrev pub begin_form : List ℕ → SourceRange → List Node → Kind → Option Form
+begin_form text range (callee ∷ _) (kinds.Call callees.Expr _) =
+    call_form text (record { start = range.start; end = (range_of callee).end }) (kind_of callee)
+begin_form text range _ (kinds.ImportDecl true _ _ _ _) = Some forms.Types
+begin_form text range _ (kinds.ImportDecl false phase _ _ _) = phase_form phase
+begin_form text range _ (kinds.NamedExport true _ _) = Some forms.Types
+begin_form text range _ (kinds.ExportAll true _ _) = Some forms.Types
+begin_form text range children _ = None
+
+-- An import that names something: not `import "a"` and `import {} from "a"`.
+abbrev pub has_names : Kind → Bool
+has_names (kinds.ImportDecl _ _ _ has_specifiers _) = has_specifiers
+has_names _ = true
 
 -- The specifier of a declaration: the string of `import a from "a"`, `export * from "a"`,
 -- `declare module "a" {}`.
@@ -114,28 +147,21 @@ specifier_of (kinds.ImportEquals _ _ _) = None
 specifier_of (kinds.ImportType _ _) = None
 specifier_of kind = literal_of kind
 
--- A declaration is of types alone: `import type A from "a"`, `export type * from "a"`.
-abbrev pub is_type_only : Kind → Bool
-is_type_only (kinds.ImportDecl type_only _ _ _ _) = type_only
-is_type_only (kinds.NamedExport type_only _ _) = type_only
-is_type_only (kinds.ExportAll type_only _ _) = type_only
-is_type_only kind = false
+abbrev pub specifier_mark : Bool → Option StrLit → List Mark
+specifier_mark has_names None = []
+specifier_mark has_names (Some literal) = mark_at literal.range.start (Some (forms.Specifier has_names))
 
--- The word that a declaration of types alone begins with.
-abbrev pub type_mark : List ℕ → ℕ → Kind → Option Piece
-type_mark text at kind = (if is_type_only kind then begin_claim text at kind else None)
-
--- The marks of a node: its pieces that few places may have.
-abbrev pub marks_of : List ℕ → Node → List Piece
+-- The marks of a node.
+abbrev pub marks_of : List ℕ → Node → List Mark
 marks_of text node =
-    option_to_list (call_words text (range_of node) (children_of node) (kind_of node))
-    ++ (option_to_list (option_map (literal_claim (range_of node)) (specifier_of (kind_of node)))
-    ++ option_to_list (type_mark text (range_of node).start (kind_of node)))
+    mark_at (range_of node).start (begin_form text (range_of node) (children_of node) (kind_of node))
+    ++ specifier_mark (has_names (kind_of node)) (specifier_of (kind_of node))
 
--- The claims of a tree are those of its nodes, in the order of the text.
-abbrev pub AreClaims : List ℕ → Program → List Piece → Type 0
-AreClaims text program claims = IsPermutation (flat_map (claims_of text) (nodes_of program)) claims
+-- The claims of a tree are those of its nodes, and the parts of its templates, in the order of the text.
+abbrev pub AreClaims : List ℕ → Program → List SourceRange → List Piece → Type 0
+AreClaims text program parts claims =
+    IsPermutation (map (part_claim text) parts ++ flat_map (claims_of text) (nodes_of program)) claims
 
 -- The marks of a tree, likewise.
-abbrev pub AreMarks : List ℕ → Program → List Piece → Type 0
+abbrev pub AreMarks : List ℕ → Program → List Mark → Type 0
 AreMarks text program marks = IsPermutation (flat_map (marks_of text) (nodes_of program)) marks

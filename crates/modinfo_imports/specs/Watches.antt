@@ -1,16 +1,21 @@
 -- A watch over the tokens of a text: no word that a dependency begins with is lost. A node of the tree begins
 -- there, or what is around the word shows that no dependency does. ⏎ is a line end.
 use Rattle.std.specs.Prelude.{◌≡◌, ℕ, ◌-◌, ◌==◌, Bool, true, false, not, ◌&&◌, ◌||◌, List, [], ◌∷◌, ◌++◌}
-use Rattle.std.specs.Prelude.{Option, Some, codes, drop, if◌then◌else◌, is_some, option_map, slice_index}
-use Rattle.std.specs.Prelude.{slice_range}
-use Rattle.modinfo_imports.specs.Claims.{claims_after, is_claimed}
+use Rattle.std.specs.Prelude.{Option, Some, None, codes, drop, if◌then◌else◌, is_some, option_map}
+use Rattle.std.specs.Prelude.{slice_index, slice_range}
+use Rattle.modinfo_imports.specs.Claims.{claims_after, form_of, is_claimed, marks_after}
 use Rattle.modinfo_imports.specs.Duties.{is_byte, is_one_of, met_by, met_duty, sight_of}
 use Rattle.modinfo_imports.specs.Keywords.{keyword_of}
 use Rattle.modinfo_pieces.specs.Openings.{is_brace}
 use Rattle.modinfo_pieces.specs.Places.{IsNext, Place, context_of}
 use Rattle.modinfo_pieces.specs.Tiles.{is_comment_kind}
 use Rattle.modinfo_pieces.specs.Words.{is_word_byte}
+use Rattle.modinfo_imports.specs.declared.claims.Form.{Form}
+use Rattle.modinfo_imports.specs.declared.claims.Form.TheVariants as forms
+use Rattle.modinfo_imports.specs.declared.claims.Mark.{Mark}
 use Rattle.modinfo_imports.specs.declared.duty.Duty.{Duty}
+use Rattle.modinfo_imports.specs.declared.duty.Phase.{Phase}
+use Rattle.modinfo_imports.specs.declared.duty.Phase.TheVariants as phases
 use Rattle.modinfo_imports.specs.declared.duty.Duty.TheVariants as duties
 use Rattle.modinfo_imports.specs.declared.duty.Sight.{Sight}
 use Rattle.modinfo_imports.specs.declared.duty.Sight.TheVariants.{Other}
@@ -34,10 +39,10 @@ pub record Watch : Type 0 where
   pub parentheses : List Duty
   pub last : ℕ
   pub claims : List Piece
-  pub marks : List Piece
+  pub marks : List Mark
 
 -- At the start of a text.
-abbrev pub watch_start : List Piece → List Piece → Watch
+abbrev pub watch_start : List Piece → List Mark → Watch
 watch_start claims marks =
     record { duty = duties.Nothing; parentheses = []; last = 0; claims = claims; marks = marks }
 
@@ -99,26 +104,40 @@ abbrev pub is_listed : Duty → Bool
 is_listed duties.AsName = true
 is_listed duties.ExportNames = true
 is_listed duties.ExportEnd = true
-is_listed (duties.Names _) = true
+is_listed (duties.Names _ _) = true
+is_listed duties.Name = true
 is_listed duties.Alias = true
 is_listed _ = false
 
--- The duty after a word: whether the word is the first of the claims, of the marks, is in braces, and may
--- name a method, the duty before, and the duty that the word has met. The `import` of
--- `export import a = B.C` is that of a node. A name isn't called in `new require("a")`,
--- `function require() {}`, `import a = require("a")`.
-unfoldable pub duty_after_word : Keyword → Bool → Bool → Bool → Bool → Duty → Duty → Duty
-duty_after_word keywords.Import true marked _ _ _ _ = duties.Start marked
-duty_after_word keywords.Import _ _ _ _ duties.Claimed _ = duties.Names true
-duty_after_word keywords.Import _ _ _ _ (duties.Export _ true _) _ = duties.Names true
+-- What the tree says of an import by its first word.
+abbrev pub phase_of : Option Form → Phase
+phase_of (Some forms.Types) = phases.Types
+phase_of (Some forms.Source) = phases.Source
+phase_of (Some forms.Defer) = phases.Defer
+phase_of _ = phases.Plain
+
+abbrev pub is_of_types : Option Form → Bool
+is_of_types (Some forms.Types) = true
+is_of_types _ = false
+
+-- The duty after a word: whether the word is the first of the claims, what the tree says of the word, whether
+-- it is in braces, and may name a method, the duty before, and the duty that the word has met. The `import`
+-- of `export import a = B.C` is that of a node. A name isn't called in `new require("a")`,
+-- `function require() {}`, `import a = require("a")`. TypeScript's `typeof export` is that of a name.
+unfoldable pub duty_after_word : Keyword → Bool → Option Form → Bool → Bool → Duty → Duty → Duty
+duty_after_word keywords.Import true form _ _ _ _ = duties.Start (phase_of form)
+duty_after_word keywords.Import _ _ _ _ duties.Claimed _ = duties.Names true false
+duty_after_word keywords.Import _ _ _ _ (duties.Export _ true _) _ = duties.Names true false
 duty_after_word keywords.Import _ _ in_braces method _ _ = duties.Import in_braces (in_braces && method)
-duty_after_word keywords.Require _ true _ _ _ met = met
+duty_after_word keywords.Require _ (Some forms.Call) _ _ _ met = met
 duty_after_word keywords.Require _ _ _ _ duties.NoCall met = met
 duty_after_word keywords.Require _ _ in_braces method _ _ = duties.Require (in_braces && method)
-duty_after_word keywords.Export claimed marked in_braces _ _ _ =
-    duties.Export (in_braces && not claimed) claimed marked
+duty_after_word keywords.Export _ _ _ _ duties.TypeOf met = met
+duty_after_word keywords.Export claimed form in_braces _ _ _ =
+    duties.Export (in_braces && not claimed) claimed (is_of_types form)
 duty_after_word keywords.Module _ _ _ _ _ _ = duties.Module
 duty_after_word keywords.New _ _ _ _ _ _ = duties.NoCall
+duty_after_word keywords.TypeOf _ _ _ _ _ _ = duties.TypeOf
 duty_after_word keywords.Other true _ _ _ _ _ = duties.Claimed
 duty_after_word keywords.Other false _ _ _ _ met = met
 
@@ -132,7 +151,7 @@ unfoldable pub duty_after : List ℕ → Bool → Context → Piece → PieceKin
 duty_after text is_typed context piece Word watch sight met =
     (if is_listed met then met
     else duty_after_word (keyword_at text context piece watch.last) (is_claimed piece watch.claims)
-    (is_claimed piece watch.marks) (is_brace context.inside) (may_be_method is_typed context watch.last)
+    (form_of piece watch.marks) (is_brace context.inside) (may_be_method is_typed context watch.last)
     watch.duty met)
 duty_after text is_typed context piece kind watch sight met =
     (if is_byte (codes ")") sight && is_method watch.parentheses then duties.Parameters else met)
@@ -155,16 +174,13 @@ watch_met text is_typed context piece watch sight met = record {
   parentheses = parentheses_after sight met watch.parentheses;
   last = last_of (slice_index text (piece.start - 1)) (slice_index text piece.start);
   claims = claims_after piece watch.claims;
-  marks = claims_after piece watch.marks;
+  marks = marks_after piece watch.marks;
 }
 
-abbrev pub is_string : PieceKind → Bool
-is_string String = true
-is_string kind = false
-
--- A token is the first of the marks, and a string: a specifier.
-abbrev pub is_specifier : Piece → List Piece → Bool
-is_specifier piece marks = is_string piece.kind && is_claimed piece marks
+-- A string that is a specifier of the tree: whether its declaration names something.
+abbrev pub specifier_of : PieceKind → Option Form → Option Bool
+specifier_of String (Some (forms.Specifier has_names)) = Some has_names
+specifier_of kind form = None
 
 -- The watch after a piece, if the piece meets the duty.
 abbrev pub watch_after : List ℕ → Bool → Context → Piece → Watch → Option Watch
@@ -172,7 +188,8 @@ watch_after text is_typed context piece watch =
     let sight = sight_of text piece piece.kind in
     (if is_gap piece.kind then Some watch
     else option_map (watch_met text is_typed context piece watch sight)
-    (met_duty (is_specifier piece watch.marks) watch.duty sight context.is_after_line_end is_typed))
+    (met_duty (specifier_of piece.kind (form_of piece watch.marks)) watch.duty sight
+    context.is_after_line_end is_typed))
 
 -- Pieces lead from one place to another, and a watch goes over them.
 pub data Watches (text : List ℕ) (is_typed : Bool) (from : Place) (watch : Watch)

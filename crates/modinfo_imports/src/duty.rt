@@ -17,19 +17,20 @@ ghost use Rattle.modinfo_imports.specs.declared.duty.Duty.TheVariants.{
   Parenthesis,
   Require,
   Start,
-  TypeWord,
   TypeEnd,
-  TypeFrom,
   TypeName,
 };
 ghost use Rattle.modinfo_pieces.specs.WordClasses.{is_among};
 ghost use Rattle.modinfo_imports.specs.Duties.{
   after_export,
   after_import,
+  after_name,
   after_names,
+  after_phase,
   after_require,
+  after_start,
+  after_type,
   is_byte,
-  is_from,
   is_name,
   is_one_of,
   met_by,
@@ -82,28 +83,29 @@ pub enum Duty {
     NoParenthesis,
     /// What follows a word `import` at which a node begins.
     Start {
-        /// Whether the node is a declaration of types alone.
-        is_of_types: bool,
+        phase: Phase,
     },
-    /// What follows `import type`, where a node begins.
-    TypeWord {
-        /// Whether the node is a declaration of types alone.
-        is_of_types: bool,
-    },
-    /// What follows `import type from`, where a node begins.
-    TypeFrom {
-        /// Whether the node is a declaration of types alone.
-        is_of_types: bool,
-    },
+    /// What follows `import type`, `import source` or `import defer`.
+    Phase,
+    /// What follows the name in `import name`.
+    Name,
+    /// What follows `import type`, where `type` is a name or an alias is of types.
+    TypeWord,
+    /// What follows `import type from`, where `type` is a name or an alias is of types.
+    TypeFrom,
     /// The `=` after `import type name`.
     Alias,
     /// A name or a specifier, after a word `import` at which a node begins, and more.
     Names {
         /// Whether a string is the specifier.
         is_before_specifier: bool,
+        /// Whether something is named.
+        is_named: bool,
     },
     /// Anything, after `new`, `function` or the `=` of an alias: a name isn't called.
     NoCall,
+    /// Anything, after `typeof`: `export` is a name.
+    TypeOf,
     /// What follows a word `export`.
     Export {
         /// Whether the word may be the name of a member.
@@ -127,6 +129,15 @@ pub enum Duty {
     Module,
 }
 
+/// What the word after `import` says of an import, if that is more than a name.
+#[derive(Clone, Copy)]
+pub enum Phase {
+    Plain,
+    Types,
+    Source,
+    Defer,
+}
+
 /// A token, as far as duties tell tokens apart.
 #[derive(Clone, Copy)]
 pub enum Sight {
@@ -143,6 +154,8 @@ pub enum Name {
     From,
     As,
     Type,
+    Source,
+    Defer,
     /// A word that begins a type, or an expression, and is none.
     Operator,
     Other,
@@ -228,6 +241,10 @@ fn name_of(word: &[u8]) -> Name
         Name::As
     } else if word == b"type".as_slice() {
         Name::Type
+    } else if word == b"source".as_slice() {
+        Name::Source
+    } else if word == b"defer".as_slice() {
+        Name::Defer
     } else if is_operator(word) {
         Name::Operator
     } else {
@@ -252,7 +269,7 @@ pub fn met_by(duty: Duty, sight: Sight, is_after_line_end: bool, is_typed: bool)
     ensures { result ≡ met_by duty sight is_after_line_end is_typed }
 {
     match duty {
-        Duty::Nothing | Duty::Claimed => Some(Duty::Nothing),
+        Duty::Nothing | Duty::Claimed | Duty::TypeOf => Some(Duty::Nothing),
         Duty::Import {
             in_braces,
             may_be_method,
@@ -269,10 +286,13 @@ pub fn met_by(duty: Duty, sight: Sight, is_after_line_end: bool, is_typed: bool)
         Duty::NoParenthesis => met_no_parenthesis(sight, is_after_line_end),
         Duty::Names {
             is_before_specifier,
-        } => after_names(is_before_specifier, sight),
-        Duty::Start { is_of_types } => met_start(is_of_types, sight),
-        Duty::TypeWord { is_of_types } => met_type_word(is_of_types, sight),
-        Duty::TypeFrom { is_of_types } => met_type_from(is_of_types, sight),
+            is_named,
+        } => after_names(is_before_specifier, is_named, sight),
+        Duty::Start { phase } => met_start(phase, sight),
+        Duty::Phase => after_phase(sight),
+        Duty::Name => after_name(sight),
+        Duty::TypeWord => after_type(sight),
+        Duty::TypeFrom => only(is_byte(b"=", sight), Duty::NoCall),
         Duty::Alias => only(is_byte(b"=", sight), Duty::NoCall),
         Duty::NoCall => met_no_call(sight),
         Duty::Export {
@@ -337,7 +357,8 @@ fn met_import(
     sight: Sight,
     is_after_line_end: bool,
 ) -> Option<Duty>
-    ensures { (is_typed : Bool) → result ≡ met_by (Import in_braces may_be_method) sight is_after_line_end is_typed }
+    ensures { (is_typed : Bool) → result ≡ met_by (Import in_braces may_be_method) sight is_after_line_end
+        is_typed }
 {
     match sight {
         Sight::Word(_) | Sight::String if in_braces && is_after_line_end => Some(Duty::Nothing),
@@ -456,74 +477,87 @@ fn met_no_parenthesis(sight: Sight, is_after_line_end: bool) -> Option<Duty>
 }
 
 /// Returns what the next token must be between `import`, at which a node begins, and the specifier.
-fn after_names(is_before_specifier: bool, sight: Sight) -> Option<Duty>
-    ensures { result ≡ after_names is_before_specifier sight }
+fn after_names(is_next: bool, is_named: bool, sight: Sight) -> Option<Duty>
+    ensures { result ≡ after_names is_next is_named sight }
 {
     match sight {
-        Sight::String if is_before_specifier => None,
-        Sight::Word(Name::From) => Some(Duty::Names {
-            is_before_specifier: true,
-        }),
-        _ if is_name(sight) || is_byte(b"{,}*", sight) => Some(Duty::Names {
-            is_before_specifier: false,
-        }),
+        Sight::String if is_next => None,
+        Sight::Word(Name::From) => Some(names_duty(true, is_named || is_next)),
+        _ if is_name(sight) || is_byte(b"*", sight) => Some(names_duty(false, true)),
+        _ if is_byte(b"{,}", sight) => Some(names_duty(false, is_named || is_next)),
         _ if is_byte(b"=", sight) => Some(Duty::NoCall),
         _ => Some(Duty::Nothing),
     }
 }
 
+/// Returns the duty `Names`.
+fn names_duty(is_before_specifier: bool, is_named: bool) -> Duty
+    ensures { result ≡ Names is_before_specifier is_named }
+{
+    Duty::Names {
+        is_before_specifier,
+        is_named,
+    }
+}
+
 /// Returns what the next token must be after `import`, at which a node begins, and a token.
 #[tactic(auto, unfolding(crate::specs::Duties::met_by))]
-fn met_start(is_of_types: bool, sight: Sight) -> Option<Duty>
-    ensures { (is_after is_typed : Bool) → result ≡ met_by (Start is_of_types) sight is_after is_typed }
+fn met_start(phase: Phase, sight: Sight) -> Option<Duty>
+    ensures { (is_after is_typed : Bool) → result ≡ met_by (Start phase) sight is_after is_typed }
 {
-    match sight {
-        Sight::Word(Name::Type) => Some(Duty::TypeWord { is_of_types }),
-        _ if is_of_types => None,
-        _ => after_names(true, sight),
+    match (phase, sight) {
+        (Phase::Plain, _) => after_start(sight),
+        (Phase::Types, Sight::Word(Name::Type)) => Some(Duty::Phase),
+        (Phase::Source, Sight::Word(Name::Source)) => Some(Duty::Phase),
+        (Phase::Defer, Sight::Word(Name::Defer)) => Some(Duty::Phase),
+        _ => None,
     }
 }
 
-/// Returns what the next token must be after `import type`, where a node begins, and a token.
-#[tactic(auto, unfolding(crate::specs::Duties::met_by))]
-fn met_type_word(is_of_types: bool, sight: Sight) -> Option<Duty>
-    ensures { (is_after is_typed : Bool) → result ≡ met_by (TypeWord is_of_types) sight is_after is_typed }
+/// Returns what the next token must be after `import` without a phase, at which a node begins, and a token.
+fn after_start(sight: Sight) -> Option<Duty>
+    ensures { result ≡ after_start sight }
 {
-    let names = Duty::Names {
-        is_before_specifier: false,
-    };
     match sight {
-        Sight::Word(Name::From) => Some(Duty::TypeFrom { is_of_types }),
-        _ if is_of_types => only(is_name(sight) || is_byte(b"{*", sight), names),
+        Sight::String => None,
+        Sight::Word(Name::Type) => Some(Duty::TypeWord),
+        Sight::Word(_) => Some(Duty::Name),
+        _ => after_names(false, false, sight),
+    }
+}
+
+/// Returns what the next token must be after `import type` without a phase, and a token.
+fn after_type(sight: Sight) -> Option<Duty>
+    ensures { result ≡ after_type sight }
+{
+    match sight {
+        Sight::Word(Name::From) => Some(Duty::TypeFrom),
         Sight::Word(_) => Some(Duty::Alias),
-        _ => only(is_byte(b",=", sight), names),
+        _ => after_names(false, true, sight),
     }
 }
 
-/// Returns what the next token must be after `import type from`, where a node begins, and a token.
-#[tactic(auto, unfolding(crate::specs::Duties::met_by))]
-fn met_type_from(is_of_types: bool, sight: Sight) -> Option<Duty>
-    ensures { (is_after is_typed : Bool) → result ≡ met_by (TypeFrom is_of_types) sight is_after is_typed }
-{
-    if is_of_types {
-        only(
-            is_from(sight),
-            Duty::Names {
-                is_before_specifier: true,
-            },
-        )
-    } else {
-        only(is_byte(b"=", sight), Duty::NoCall)
-    }
-}
-
-/// Returns whether a token is the word `from`.
-fn is_from(sight: Sight) -> bool
-    ensures { result ≡ is_from sight }
+/// Returns what the next token must be after `import name` and a token.
+fn after_name(sight: Sight) -> Option<Duty>
+    ensures { result ≡ after_name sight }
 {
     match sight {
-        Sight::Word(Name::From) => true,
-        _ => false,
+        Sight::Word(Name::From) => Some(names_duty(true, true)),
+        _ if is_byte(b",=", sight) => after_names(false, true, sight),
+        _ => None,
+    }
+}
+
+/// Returns what the next token must be after `import type`, `import source` or `import defer`, and a token.
+fn after_phase(sight: Sight) -> Option<Duty>
+    ensures { result ≡ after_phase sight }
+{
+    match sight {
+        Sight::Word(_) => Some(names_duty(false, true)),
+        _ => only(
+            is_byte(b"{*", sight),
+            names_duty(false, is_byte(b"*", sight)),
+        ),
     }
 }
 
@@ -532,33 +566,34 @@ fn is_from(sight: Sight) -> bool
 #[inline(always)]
 #[tactic(auto, unfolding(crate::specs::Duties::met_duty))]
 pub fn met_duty(
-    is_specifier: bool,
+    specifier: Option<bool>,
     duty: Duty,
     sight: Sight,
     is_after_line_end: bool,
     is_typed: bool,
 ) -> Option<Duty>
-    ensures { result ≡ met_duty is_specifier duty sight is_after_line_end is_typed }
+    ensures { result ≡ met_duty specifier duty sight is_after_line_end is_typed }
 {
-    if is_specifier {
-        only(takes_specifier(duty), Duty::Nothing)
-    } else {
-        met_by(duty, sight, is_after_line_end, is_typed)
+    match specifier {
+        Some(has_names) => only(takes_specifier(has_names, duty), Duty::Nothing),
+        None => met_by(duty, sight, is_after_line_end, is_typed),
     }
 }
 
-/// Returns whether a specifier of the tree meets a duty.
-fn takes_specifier(duty: Duty) -> bool
-    ensures { result ≡ takes_specifier duty }
+/// Returns whether a specifier of the tree meets a duty, that of a declaration that names something or not.
+fn takes_specifier(has_names: bool, duty: Duty) -> bool
+    ensures { result ≡ takes_specifier has_names duty }
 {
     match duty {
-        Duty::Start { is_of_types: false }
-        | Duty::Names {
+        Duty::Start {
+            phase: Phase::Plain,
+        } => !has_names,
+        Duty::Names {
             is_before_specifier: true,
-        }
-        | Duty::TypeFrom { is_of_types: false }
-        | Duty::From
-        | Duty::Module => true,
+            is_named,
+        } => if has_names { is_named } else { !is_named },
+        Duty::TypeFrom => has_names,
+        Duty::From | Duty::Module => true,
         _ => false,
     }
 }

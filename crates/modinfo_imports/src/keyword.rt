@@ -3,7 +3,7 @@
 ghost use Rattle.std.specs.Prelude.{◌≡◌};
 ghost use Rattle.modinfo_imports.specs.Keywords.{has_escape, keyword_of, may_be_require};
 
-use modinfo_pieces::bytes::byte_at;
+use modinfo_pieces::bytes::{byte_at, equals};
 
 /// What a word is, as far as it may begin a dependency.
 #[derive(Clone, Copy)]
@@ -15,6 +15,7 @@ pub enum Keyword {
     Module,
     /// `new` or `function`, after which a name isn't called.
     New,
+    TypeOf,
     Other,
 }
 
@@ -26,13 +27,15 @@ pub fn keyword_of(word: &[u8]) -> Keyword
 {
     if may_be_require(word) {
         Keyword::Require
-    } else if word == b"import".as_slice() {
+    } else if equals(word, b"import") {
         Keyword::Import
-    } else if word == b"export".as_slice() {
+    } else if equals(word, b"export") {
         Keyword::Export
-    } else if word == b"module".as_slice() {
+    } else if equals(word, b"module") {
         Keyword::Module
-    } else if word == b"function".as_slice() || word == b"new".as_slice() {
+    } else if equals(word, b"typeof") {
+        Keyword::TypeOf
+    } else if equals(word, b"function") || equals(word, b"new") {
         Keyword::New
     } else {
         Keyword::Other
@@ -46,7 +49,7 @@ pub fn may_be_require(word: &[u8]) -> bool
     ensures { result ≡ may_be_require word.now }
 {
     let first = byte_at(word, 0);
-    (first == b'r' || first == b'\\') && (word == b"require".as_slice() || has_escape(word))
+    (first == b'r' || first == b'\\') && (equals(word, b"require") || has_escape(word))
 }
 
 /// Returns whether a word has an escape.

@@ -7,4 +7,6 @@ pub mod duty;
 pub mod find;
 pub mod keyword;
 pub mod nodes;
+pub mod plain;
+pub mod plain_piece;
 pub mod watch;

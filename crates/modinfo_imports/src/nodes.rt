@@ -1,48 +1,89 @@
 //! The pieces of a text that the nodes of its tree have.
 #![tactic(auto, unfolding(deno_graph_source::specs::Node::kind_of, deno_graph_source::specs::Node::range_of, deno_graph_source::specs::Node::children_of))]
 
-ghost use Rattle.std.specs.Prelude.{◌≡◌, ◌++◌, codes, IfOk, OnOk, option_map};
+ghost use Rattle.std.specs.Prelude.{◌≡◌, ◌++◌, codes, IfOk, OnOk, map, option_map};
 ghost use Rattle.std.specs.List.{flat_map};
-ghost use Rattle.std.specs.Option.{option_to_list};
+ghost use Rattle.std.specs.Option.{option_copied, option_to_list};
 ghost use Rattle.deno_graph_source.specs.Node.{children_of, kind_of, literal_of, nodes_in, range_of};
 ghost use Rattle.modinfo_imports.specs.Nodes.{
   AreMarks,
   AreClaims,
   begin_claim,
+  begin_form,
   bytes_at,
-  call_word,
-  call_words,
+  call_form,
   marks_of,
   claims_of,
   export_claim,
-  is_type_only,
+  has_names,
   literal_claim,
+  mark_at,
   module_claim,
   name_claim,
   no_piece,
+  part_claim,
+  phase_form,
   piece_at,
+  specifier_mark,
   specifier_of,
-  type_mark,
   value_claim,
   word_claim,
 };
 
+use crate::claims::{Form, Mark};
 use crate::keyword::{has_escape, may_be_require};
 use deno_graph_base::text::SourceRange;
-use deno_graph_source::tree::{Callee, Kind, Node, Program, StrLit};
+use deno_graph_source::tree::{Callee, ImportPhase, Kind, Node, Program, StrLit};
 use modinfo_pieces::bytes::{byte_at, has_bytes};
 use modinfo_pieces::piece::{Piece, PieceKind};
 use std::alloc::{AllocError, Global};
 
-/// Returns the pieces that the nodes of a program have, in the order of the text.
+/// Returns the pieces that the nodes of a program and the parts of its templates have, in the order of the
+/// text.
 #[tactic(auto, unfolding(deno_graph_source::specs::Node::nodes_of))]
-pub fn claims_of(alloc: Global, text: &[u8], program: &Program) -> Result<Vec<Piece>, AllocError>
-    ensures { IfOk result (λ claims. AreClaims text.now program.now claims.items) }
+pub fn claims_of(
+    alloc: Global,
+    text: &[u8],
+    program: &Program,
+    parts: &[SourceRange],
+) -> Result<Vec<Piece>, AllocError>
+    ensures { IfOk result (λ claims. AreClaims text.now program.now parts.now claims.items) }
 {
-    let mut claims = Vec::new(alloc);
+    let mut claims = part_claims(alloc, text, parts)?;
     claim_nodes(text, program.body.as_slice(), &mut claims)?;
     claims.sort_by_key(|claim| claim.start)?;
     Ok(claims)
+}
+
+/// Returns the pieces that parts of templates have.
+fn part_claims(alloc: Global, text: &[u8], parts: &[SourceRange]) -> Result<Vec<Piece>, AllocError>
+    ensures { IfOk result (λ claims. claims.items ≡ map (part_claim text.now) parts.now) }
+{
+    let mut claims = Vec::with_capacity(alloc, parts.len())?;
+    for part in parts {
+        claims.push(part_claim(text, *part))?;
+    }
+    Ok(claims)
+}
+
+/// Returns the piece of a part of a template, with the marks around it.
+fn part_claim(text: &[u8], part: SourceRange) -> Piece
+    ensures { result ≡ part_claim text.now part }
+{
+    if part.end < text.len() {
+        let end_mark = if byte_at(text, part.end) == b'`' {
+            1
+        } else {
+            2
+        };
+        Piece {
+            kind: PieceKind::Template,
+            start: part.start.saturating_sub(1),
+            end: part.end + end_mark,
+        }
+    } else {
+        no_piece(part.start)
+    }
 }
 
 /// Adds the pieces that nodes, and all nodes below them, have.
@@ -74,10 +115,7 @@ fn claim_node(text: &[u8], node: &Node, claims: &mut Vec<Piece>) -> Result<(), A
 {
     claim(begin_claim(text, node.range.start, &node.kind), claims)?;
     claim(literal_of(node.range, &node.kind), claims)?;
-    claim(
-        value_claim(text, node.range, node.children.as_slice(), &node.kind),
-        claims,
-    )
+    claim(value_claim(text, node.range, &node.kind), claims)
 }
 
 /// Adds a piece, if there is one.
@@ -204,14 +242,13 @@ fn piece_at(kind: PieceKind, range: SourceRange) -> Piece
     }
 }
 
-/// Returns the string, the name or the template without expressions that a node of a kind is.
-fn value_claim(text: &[u8], range: SourceRange, children: &[Node], kind: &Kind) -> Option<Piece>
-    ensures { result ≡ value_claim text.now range children.now kind.now }
+/// Returns the string or the name that a node of a kind is.
+fn value_claim(text: &[u8], range: SourceRange, kind: &Kind) -> Option<Piece>
+    ensures { result ≡ value_claim text.now range kind.now }
 {
-    match (children, kind) {
-        (_, Kind::Str(_)) => Some(piece_at(PieceKind::String, range)),
-        (_, Kind::Ident(name)) => Some(name_claim(text, range, name.as_str().as_bytes())),
-        ([], Kind::Template(_)) => Some(piece_at(PieceKind::Template, range)),
+    match kind {
+        Kind::Str(_) => Some(piece_at(PieceKind::String, range)),
+        Kind::Ident(name) => Some(name_claim(text, range, name.as_str().as_bytes())),
         _ => None,
     }
 }
@@ -239,10 +276,11 @@ fn bytes_at(text: &[u8], range: SourceRange) -> &[u8]
     }
 }
 
-/// Returns the marks of a program, in the order of the text: the words of its calls that may be `require`, the
-/// specifiers of its declarations, and the words that those of types alone begin with.
+/// Returns the marks of a program, in the order of the text: the words of its calls that may be `require`,
+/// the specifiers of its declarations, and the words that those of types alone or in another phase begin
+/// with.
 #[tactic(auto, unfolding(deno_graph_source::specs::Node::nodes_of))]
-pub fn marks_of(alloc: Global, text: &[u8], program: &Program) -> Result<Vec<Piece>, AllocError>
+pub fn marks_of(alloc: Global, text: &[u8], program: &Program) -> Result<Vec<Mark>, AllocError>
     ensures { IfOk result (λ marks. AreMarks text.now program.now marks.items) }
 {
     let mut marks = Vec::new(alloc);
@@ -252,7 +290,7 @@ pub fn marks_of(alloc: Global, text: &[u8], program: &Program) -> Result<Vec<Pie
 }
 
 /// Adds the marks of nodes, and of all nodes below them.
-fn add_marks(text: &[u8], nodes: &[Node], marks: &mut Vec<Piece>) -> Result<(), AllocError>
+fn add_marks(text: &[u8], nodes: &[Node], marks: &mut Vec<Mark>) -> Result<(), AllocError>
     ensures { OnOk result (marks.new.items
         ≡ marks.old.items ++ flat_map (marks_of text.now) (flat_map nodes_in nodes.now)) }
 {
@@ -263,7 +301,7 @@ fn add_marks(text: &[u8], nodes: &[Node], marks: &mut Vec<Piece>) -> Result<(), 
 }
 
 /// Adds the marks of a node, and of all nodes below it.
-fn add_marks_below(text: &[u8], node: &Node, marks: &mut Vec<Piece>) -> Result<(), AllocError>
+fn add_marks_below(text: &[u8], node: &Node, marks: &mut Vec<Mark>) -> Result<(), AllocError>
     ensures { OnOk result (marks.new.items
         ≡ marks.old.items ++ flat_map (marks_of text.now) (nodes_in node.now)) }
 {
@@ -275,53 +313,68 @@ fn add_marks_below(text: &[u8], node: &Node, marks: &mut Vec<Piece>) -> Result<(
 }
 
 /// Adds the marks of a node.
-fn add_mark(text: &[u8], node: &Node, marks: &mut Vec<Piece>) -> Result<(), AllocError>
+fn add_mark(text: &[u8], node: &Node, marks: &mut Vec<Mark>) -> Result<(), AllocError>
     ensures { OnOk result (marks.new.items ≡ marks.old.items ++ marks_of text.now node.now) }
 {
-    claim(
-        call_words(text, node.range, node.children.as_slice(), &node.kind),
+    mark_token(
+        node.range.start,
+        begin_form(text, node.range, node.children.as_slice(), &node.kind),
         marks,
     )?;
-    claim(specifier_mark(node.range, &node.kind), marks)?;
-    claim(type_mark(text, node.range.start, &node.kind), marks)
+    mark_specifier(&node.kind, marks)
 }
 
-/// Returns the word that a declaration of types alone begins with, if a node of a kind is one.
-fn type_mark(text: &[u8], at: usize, kind: &Kind) -> Option<Piece>
-    ensures { result ≡ type_mark text.now at kind.now }
+/// Adds the mark of the token at an offset, if there is one.
+fn mark_token(at: usize, form: Option<Form>, marks: &mut Vec<Mark>) -> Result<(), AllocError>
+    ensures { OnOk result (marks.new.items ≡ marks.old.items ++ mark_at at form) }
 {
-    if is_type_only(kind) {
-        begin_claim(text, at, kind)
-    } else {
-        None
+    match form {
+        Some(form) => Ok(marks.push(Mark { start: at, form })?),
+        None => Ok(()),
     }
 }
 
-/// Returns whether a node of a kind is a declaration of types alone.
-fn is_type_only(kind: &Kind) -> bool
-    ensures { result ≡ is_type_only kind.now }
+/// Adds the mark of a declaration's specifier, if a node of a kind is one that has it.
+fn mark_specifier(kind: &Kind, marks: &mut Vec<Mark>) -> Result<(), AllocError>
+    ensures { OnOk result (marks.new.items
+        ≡ marks.old.items ++ specifier_mark (has_names kind.now) (specifier_of kind.now)) }
 {
-    match kind {
-        Kind::ImportDecl { type_only, .. }
-        | Kind::NamedExport { type_only, .. }
-        | Kind::ExportAll { type_only, .. } => *type_only,
-        _ => false,
+    match specifier_of(kind) {
+        Some(literal) => {
+            let has_names = has_names(kind);
+            mark_token(
+                literal.range.start,
+                Some(Form::Specifier { has_names }),
+                marks,
+            )
+        }
+        None => Ok(()),
     }
 }
 
 /// Returns the specifier of a declaration, if a node of a kind is one that has it.
-fn specifier_mark(range: SourceRange, kind: &Kind) -> Option<Piece>
-    ensures { result ≡ option_map (literal_claim range) (specifier_of kind.now) }
+fn specifier_of(kind: &Kind) -> Option<&StrLit>
+    ensures { option_copied result ≡ specifier_of kind.now }
 {
     match kind {
         Kind::ImportEquals { .. } | Kind::ImportType { .. } => None,
-        _ => literal_of(range, kind),
+        _ => kind.literal(),
     }
 }
 
-/// Returns the word of a call, if a node of a kind is one.
-fn call_words(text: &[u8], range: SourceRange, children: &[Node], kind: &Kind) -> Option<Piece>
-    ensures { result ≡ call_words text.now range children.now kind.now }
+/// Returns whether an import names something, true of every other node.
+fn has_names(kind: &Kind) -> bool
+    ensures { result ≡ has_names kind.now }
+{
+    match kind {
+        Kind::ImportDecl { has_specifiers, .. } => *has_specifiers,
+        _ => true,
+    }
+}
+
+/// Returns what a node says of the token that it begins with, if it says something.
+fn begin_form(text: &[u8], range: SourceRange, children: &[Node], kind: &Kind) -> Option<Form>
+    ensures { result ≡ begin_form text.now range children.now kind.now }
 {
     match (children, kind) {
         (
@@ -330,20 +383,48 @@ fn call_words(text: &[u8], range: SourceRange, children: &[Node], kind: &Kind) -
                 callee: Callee::Expr,
                 ..
             },
-        ) => call_word(text, span(range, callee.range), &callee.kind),
+        ) => call_form(text, span(range, callee.range), &callee.kind),
+        (
+            _,
+            Kind::ImportDecl {
+                type_only: false,
+                phase,
+                ..
+            },
+        ) => phase_form(*phase),
+        (
+            _,
+            Kind::ImportDecl { .. }
+            | Kind::NamedExport {
+                type_only: true,
+                ..
+            }
+            | Kind::ExportAll {
+                type_only: true,
+                ..
+            },
+        ) => Some(Form::Types),
         _ => None,
     }
 }
 
-/// Returns the word at a range that a call of a callee begins with, if it is a name that may be `require`.
-fn call_word(text: &[u8], range: SourceRange, callee: &Kind) -> Option<Piece>
-    ensures { result ≡ call_word text.now range callee.now }
+/// Returns what an import in a phase says of its first word.
+fn phase_form(phase: ImportPhase) -> Option<Form>
+    ensures { result ≡ phase_form phase }
+{
+    match phase {
+        ImportPhase::Evaluation => None,
+        ImportPhase::Source => Some(Form::Source),
+        ImportPhase::Defer => Some(Form::Defer),
+    }
+}
+
+/// Returns what a call of a callee says of the word at a range, if it is a name that may be `require`.
+fn call_form(text: &[u8], range: SourceRange, callee: &Kind) -> Option<Form>
+    ensures { result ≡ call_form text.now range callee.now }
 {
     match callee {
-        Kind::Ident(_) if may_be_require(bytes_at(text, range)) => Some(piece_at(
-            PieceKind::Word,
-            range,
-        )),
+        Kind::Ident(_) if may_be_require(bytes_at(text, range)) => Some(Form::Call),
         _ => None,
     }
 }

@@ -1,6 +1,7 @@
 //! A watch over the tokens of a text, so that no word that a dependency begins with is lost.
 
 ghost use Rattle.std.specs.Prelude.{[], ◌≡◌, ◌<◌, ◌≤◌, ◌&&◌, IfOk, IfSome, OnOk, codes, length, IsTrue, slice_index, ◌-◌};
+ghost use Rattle.modinfo_imports.specs.Claims.{form_of};
 ghost use Rattle.modinfo_imports.specs.Duties.{is_byte, met_by, met_duty, sight_of};
 ghost use Rattle.modinfo_pieces.specs.Openings.{is_brace};
 ghost use Rattle.modinfo_imports.specs.Sights.{watch_of};
@@ -14,19 +15,21 @@ ghost use Rattle.modinfo_imports.specs.Watches.{
   is_member,
   is_method,
   is_name,
-  is_specifier,
+  is_of_types,
   is_value,
   keyword_at,
   last_of,
   may_be_method,
   may_end_member,
   parentheses_after,
+  phase_of,
+  specifier_of,
   watch_after,
   watch_start,
 };
 
-use crate::claims::{claims_after, is_claimed};
-use crate::duty::{Duty, Parentheses, Sight, met_by, met_duty, sight_of};
+use crate::claims::{Form, Mark, claims_after, form_of, is_claimed, marks_after};
+use crate::duty::{Duty, Parentheses, Phase, Sight, met_by, met_duty, sight_of};
 use crate::keyword::{Keyword, keyword_of};
 use modinfo_pieces::befores::bytes_of;
 use modinfo_pieces::bytes::byte_at;
@@ -45,11 +48,11 @@ pub struct Seen<'a> {
     /// The claims that weren't met yet.
     pub claims: &'a [Piece],
     /// The marks that weren't met yet.
-    pub marks: &'a [Piece],
+    pub marks: &'a [Mark],
 }
 
 /// Returns the watch at the start of a text.
-pub fn watch_start<'a>(claims: &'a [Piece], marks: &'a [Piece]) -> Seen<'a>
+pub fn watch_start<'a>(claims: &'a [Piece], marks: &'a [Mark]) -> Seen<'a>
     ensures { watch_of result [] ≡ watch_start claims.now marks.now }
 {
     Seen {
@@ -88,7 +91,7 @@ pub fn watch_piece<'a>(
             byte_at(text, piece.start),
         ),
         claims: claims_after(piece, seen.claims),
-        marks: claims_after(piece, seen.marks),
+        marks: marks_after(piece, seen.marks),
     };
     change(text, piece, met, parentheses)?;
     Ok(Some(after))
@@ -105,15 +108,15 @@ fn met_at(
     seen: Seen<'_>,
 ) -> Option<Duty>
     ensures { piece.start < piece.end → piece.end ≤ length text.now
-        → result ≡ met_duty (is_specifier piece seen.entry.marks.now) seen.entry.duty
+        → result ≡ met_duty (specifier_of piece.kind (form_of piece seen.entry.marks.now)) seen.entry.duty
         (sight_of text.now piece piece.kind) context.is_after_line_end is_typed }
 {
-    let is_specifier = is_specifier(piece, seen.marks);
-    match seen.duty {
+    let specifier = specifier_of(piece, seen.marks);
+    match (seen.duty, specifier) {
         // Nearly every token has none.
-        Duty::Nothing | Duty::Claimed if !is_specifier => Some(Duty::Nothing),
+        (Duty::Nothing | Duty::Claimed, None) => Some(Duty::Nothing),
         _ => met_duty(
-            is_specifier,
+            specifier,
             seen.duty,
             sight_of(text, piece),
             context.is_after_line_end,
@@ -122,20 +125,23 @@ fn met_at(
     }
 }
 
-/// Returns whether a token is the first of the marks, and a string.
+/// Returns whether the declaration of a specifier names something, if a token is a specifier of the tree.
 #[inline(always)]
-fn is_specifier(piece: Piece, marks: &[Piece]) -> bool
-    ensures { result ≡ is_specifier piece marks.now }
+fn specifier_of(piece: Piece, marks: &[Mark]) -> Option<bool>
+    ensures { result ≡ specifier_of piece.kind (form_of piece marks.now) }
 {
     match piece.kind {
-        PieceKind::String => is_claimed(piece, marks),
-        _ => false,
+        PieceKind::String => match form_of(piece, marks) {
+            Some(Form::Specifier { has_names }) => Some(has_names),
+            _ => None,
+        },
+        _ => None,
     }
 }
 
 /// Returns whether a piece is no token.
 #[inline(always)]
-fn is_gap(kind: PieceKind) -> bool
+pub(crate) fn is_gap(kind: PieceKind) -> bool
     ensures { result ≡ is_gap kind }
 {
     match kind {
@@ -172,7 +178,7 @@ fn duty_after(
                 duty_after_word(
                     keyword_at(text, context, piece, seen.last),
                     is_claimed(piece, seen.claims),
-                    is_claimed(piece, seen.marks),
+                    form_of(piece, seen.marks),
                     is_brace(context.inside),
                     may_be_method(is_typed, context, seen.last),
                     seen.duty,
@@ -210,48 +216,76 @@ fn keyword_at(text: &[u8], context: Context, piece: Piece, last: u8) -> Keyword
 fn duty_after_word(
     keyword: Keyword,
     is_claimed: bool,
-    is_marked: bool,
+    form: Option<Form>,
     in_braces: bool,
     may_be_method: bool,
     before: Duty,
     met: Duty,
 ) -> Duty
-    ensures { result ≡ duty_after_word keyword is_claimed is_marked in_braces may_be_method before met }
+    ensures { result ≡ duty_after_word keyword is_claimed form in_braces may_be_method before met }
 {
     match keyword {
         Keyword::Other => { if is_claimed { Duty::Claimed } else { met } }
         Keyword::Import => match before {
             _ if is_claimed => Duty::Start {
-                is_of_types: is_marked,
+                phase: phase_of(form),
             },
             Duty::Claimed => Duty::Names {
                 is_before_specifier: true,
+                is_named: false,
             },
             Duty::Export {
                 is_claimed: true,
                 ..
             } => Duty::Names {
                 is_before_specifier: true,
+                is_named: false,
             },
             _ => Duty::Import {
                 in_braces,
                 may_be_method: in_braces && may_be_method,
             },
         },
-        Keyword::Require => match before {
-            _ if is_marked => met,
-            Duty::NoCall => met,
+        Keyword::Require => match (form, before) {
+            (Some(Form::Call), _) => met,
+            (_, Duty::NoCall) => met,
             _ => Duty::Require {
                 may_be_method: in_braces && may_be_method,
             },
         },
-        Keyword::Export => Duty::Export {
-            may_be_member: in_braces && !is_claimed,
-            is_claimed,
-            is_of_types: is_marked,
+        Keyword::Export => match before {
+            Duty::TypeOf => met,
+            _ => Duty::Export {
+                may_be_member: in_braces && !is_claimed,
+                is_claimed,
+                is_of_types: is_of_types(form),
+            },
         },
+        Keyword::TypeOf => Duty::TypeOf,
         Keyword::Module => Duty::Module,
         Keyword::New => Duty::NoCall,
+    }
+}
+
+/// Returns what the tree says of an import by its first word.
+fn phase_of(form: Option<Form>) -> Phase
+    ensures { result ≡ phase_of form }
+{
+    match form {
+        Some(Form::Types) => Phase::Types,
+        Some(Form::Source) => Phase::Source,
+        Some(Form::Defer) => Phase::Defer,
+        _ => Phase::Plain,
+    }
+}
+
+/// Returns whether a declaration is of types alone by what the tree says of its first word.
+fn is_of_types(form: Option<Form>) -> bool
+    ensures { result ≡ is_of_types form }
+{
+    match form {
+        Some(Form::Types) => true,
+        _ => false,
     }
 }
 
@@ -278,14 +312,19 @@ fn is_listed(duty: Duty) -> bool
     ensures { result ≡ is_listed duty }
 {
     match duty {
-        Duty::AsName | Duty::ExportNames | Duty::ExportEnd | Duty::Names { .. } | Duty::Alias =>
-            true,
+        Duty::AsName
+        | Duty::ExportNames
+        | Duty::ExportEnd
+        | Duty::Names { .. }
+        | Duty::Name
+        | Duty::Alias => true,
         _ => false,
     }
 }
 
 /// Returns whether a word is the name of a member or a name in a tag.
-fn is_member(before: Before, inside: Opening) -> bool
+#[inline(always)]
+pub fn is_member(before: Before, inside: Opening) -> bool
     ensures { result ≡ is_member before inside }
 {
     match (before, inside) {
@@ -295,7 +334,9 @@ fn is_member(before: Before, inside: Opening) -> bool
     }
 }
 
-fn is_brace(inside: Opening) -> bool
+/// Returns whether an opening is a brace.
+#[inline(always)]
+pub fn is_brace(inside: Opening) -> bool
     ensures { result ≡ is_brace inside }
 {
     match inside {
@@ -356,7 +397,7 @@ fn change(
 }
 
 /// Returns the byte by which the next token knows the last one.
-fn last_of(previous: u8, byte: u8) -> u8
+pub fn last_of(previous: u8, byte: u8) -> u8
     ensures { result ≡ last_of previous byte }
 {
     if byte == b'>' && previous == b'=' {

@@ -1,4 +1,5 @@
 pub mod PastEnds
+pub mod Reached
 pub mod LineEnds
 pub mod Tables
 pub mod Narrow

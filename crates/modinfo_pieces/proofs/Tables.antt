@@ -15,7 +15,7 @@ both_of true false rest agree = cc
 both_of false true rest agree = cc
 both_of false false rest agree = (refl, agree)
 
-agree_at : (one other : ℕ → Bool) (n : ℕ) → agree_below one other n ≡ true → (byte : ℕ) → byte < n
+pub agree_at : (one other : ℕ → Bool) (n : ℕ) → agree_below one other n ≡ true → (byte : ℕ) → byte < n
     → one byte ≡ other byte
 unfolding agree_below
 agree_at one other zero agree byte less = absurd (omega arith)

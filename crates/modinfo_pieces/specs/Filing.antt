@@ -1,5 +1,5 @@
 -- The comments up to a place, as far as they can be filed there.
-use Rattle.std.specs.Prelude.{ℕ, Bool, false, List, [], ◌∷◌, ◌++◌, Option, Some, None, map}
+use Rattle.std.specs.Prelude.{◌≡◌, ℕ, Bool, false, List, [], ◌∷◌, ◌++◌, Option, Some, None, map}
 use Rattle.modinfo_pieces.specs.Filed.{filed_before, first_token, is_before_semicolon, is_semicolon}
 use Rattle.modinfo_pieces.specs.Filed.{waiting_of}
 use Rattle.modinfo_pieces.specs.declared.filed.FiledComment.{FiledComment}
@@ -57,6 +57,16 @@ with_token text token so_far = record {
   newest = None;
   token = Some token;
 }
+
+-- No comment waits for a token.
+pub record IsQuiet (so_far : SoFar) : Type 0 where
+  pub waiting : so_far.waiting ≡ []
+  pub newest : so_far.newest ≡ None
+
+-- With another last token.
+abbrev pub with_last : Option Piece → SoFar → SoFar
+with_last token so_far =
+    record { filed = so_far.filed; waiting = so_far.waiting; newest = so_far.newest; token = token }
 
 -- After a piece of this kind. `context` is what is known where the piece begins.
 abbrev pub so_far_after : List ℕ → Context → Piece → PieceKind → SoFar → SoFar

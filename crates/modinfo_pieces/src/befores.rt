@@ -70,7 +70,8 @@ fn before_after_template(last: u8) -> Before
 }
 
 /// Returns what is before white space or a comment for what follows.
-fn before_after_gap(before: Before) -> Before
+#[inline(always)]
+pub fn before_after_gap(before: Before) -> Before
     ensures { result ≡ before_after_gap before }
 {
     match before {
@@ -100,7 +101,9 @@ fn before_after_punctuation(byte: u8, context: Context) -> Before
     }
 }
 
-fn before_after_plus(before: Before, is_after_line_end: bool) -> Before
+/// Returns what a `+` is for what follows.
+#[inline(always)]
+pub fn before_after_plus(before: Before, is_after_line_end: bool) -> Before
     ensures { result ≡ before_after_plus before is_after_line_end }
 {
     match before {
@@ -110,7 +113,9 @@ fn before_after_plus(before: Before, is_after_line_end: bool) -> Before
     }
 }
 
-fn before_after_minus(before: Before, is_after_line_end: bool) -> Before
+/// Returns what a `-` is for what follows.
+#[inline(always)]
+pub fn before_after_minus(before: Before, is_after_line_end: bool) -> Before
     ensures { result ≡ before_after_minus before is_after_line_end }
 {
     match before {
@@ -120,7 +125,9 @@ fn before_after_minus(before: Before, is_after_line_end: bool) -> Before
     }
 }
 
-fn before_after_bang(before: Before, is_after_line_end: bool) -> Before
+/// Returns what a `!` is for what follows.
+#[inline(always)]
+pub fn before_after_bang(before: Before, is_after_line_end: bool) -> Before
     ensures { result ≡ before_after_bang before is_after_line_end }
 {
     match before {
@@ -129,7 +136,9 @@ fn before_after_bang(before: Before, is_after_line_end: bool) -> Before
     }
 }
 
-fn before_after_dot(before: Before) -> Before
+/// Returns what a `.` is for what follows.
+#[inline(always)]
+pub fn before_after_dot(before: Before) -> Before
     ensures { result ≡ before_after_dot before }
 {
     match before {
@@ -139,7 +148,9 @@ fn before_after_dot(before: Before) -> Before
     }
 }
 
-fn before_after_parenthesis(inside: Opening) -> Before
+/// Returns what a `)` is for what follows.
+#[inline(always)]
+pub fn before_after_parenthesis(inside: Opening) -> Before
     ensures { result ≡ before_after_parenthesis inside }
 {
     match inside {

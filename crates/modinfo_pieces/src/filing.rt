@@ -3,10 +3,12 @@
 ghost use Rattle.std.specs.Prelude.{◌≡◌, ◌++◌, [], None, Some, IfOk, IsTrue, OnOk, map};
 ghost use Rattle.modinfo_pieces.specs.Filed.{filed_before, is_token};
 ghost use Rattle.modinfo_pieces.specs.Filing.{
+  IsQuiet,
   all_waiting,
   filed_by,
   settled,
   so_far_after,
+  with_last,
   with_newest,
   with_token,
   without_newest,
@@ -64,6 +66,22 @@ impl Filing {
             newest: None,
             token: None,
         }
+    }
+
+    /// Returns whether no comment waits for a token.
+    #[inline(always)]
+    pub fn is_quiet(&self) -> bool
+        ensures { IsTrue result → IsQuiet self.now }
+    {
+        self.newest.is_none() && self.waiting.is_empty()
+    }
+
+    /// Has a token be the last.
+    #[inline(always)]
+    pub fn set_token(&mut self, token: Piece)
+        ensures { self.new ≡ with_last (Some token) self.old }
+    {
+        self.token = Some(token);
     }
 
     /// Goes on after a piece. `context` is what is known where the piece begins.

@@ -69,7 +69,8 @@ fn push(around: &mut Openings, opening: Opening) -> Result<bool, AllocError>
 }
 
 /// Returns the opening of a parenthesis after a token.
-fn opening_of_parenthesis(before: Before) -> Opening
+#[inline(always)]
+pub fn opening_of_parenthesis(before: Before) -> Opening
     ensures { result ≡ opening_of_parenthesis before }
 {
     match before {

@@ -1,13 +1,11 @@
 //! Steps from place to place of a text.
 
 ghost use Rattle.std.specs.Prelude.{◌≡◌, IfOk, IfSome, if◌then◌else◌};
-ghost use Rattle.modinfo_pieces.specs.Kinds.{kind_at};
 ghost use Rattle.modinfo_pieces.specs.Places.{
   IsNext,
   IsPieceAt,
   around_after,
   choices_after,
-  chosen,
   context_of,
   is_chosen,
 };
@@ -48,41 +46,13 @@ pub struct Step<'a> {
 pub fn next_piece<'a>(
     text: &[u8],
     spot: Spot<'a>,
-    around: &mut Openings,
-) -> Result<Option<Step<'a>>, AllocError>
-    ensures { IfOk result (λ step. IfSome step (λ step.
-        IsNext text.now (place_of spot.entry around.old) step.piece (place_of step.next around.new))) }
-{
-    let context = Context {
-        inside: around.innermost(),
-        before: spot.before,
-        is_after_line_end: spot.is_after_line_end,
-        chosen: chosen(spot.at, spot.choices),
-    };
-    // The three frequent kinds have code of their own.
-    match kind_at(text, spot.at, context) {
-        PieceKind::Word => next_of_kind(text, spot, context, PieceKind::Word, around),
-        PieceKind::Space => next_of_kind(text, spot, context, PieceKind::Space, around),
-        PieceKind::Punctuation => next_of_kind(text, spot, context, PieceKind::Punctuation, around),
-        kind => next_of_kind(text, spot, context, kind, around),
-    }
-}
-
-/// Returns the piece of this kind at a spot and the spot after it, and changes the openings; or `None` if there
-/// is no such piece.
-#[inline(always)]
-fn next_of_kind<'a>(
-    text: &[u8],
-    spot: Spot<'a>,
     context: Context,
-    kind: PieceKind,
     around: &mut Openings,
 ) -> Result<Option<Step<'a>>, AllocError>
-    ensures { context ≡ context_of (place_of spot.entry around.old) → kind ≡ kind_at text.now spot.entry.at context
-        → IfOk result (λ step. IfSome step (λ step.
+    ensures { context ≡ context_of (place_of spot.entry around.old) → IfOk result (λ step. IfSome step (λ step.
         IsNext text.now (place_of spot.entry around.old) step.piece (place_of step.next around.new))) }
 {
-    let Some(piece) = piece_at(text, spot.at, context, kind) else {
+    let Some(piece) = piece_at(text, spot.at, context) else {
         return Ok(None);
     };
     let next = Spot {
@@ -98,11 +68,12 @@ fn next_of_kind<'a>(
     }
 }
 
-/// Returns the piece of this kind at an offset, if the piece ends in the text and is what was chosen.
+/// Returns the piece at an offset, if the piece ends in the text and is what was chosen.
 #[inline(always)]
-fn piece_at(text: &[u8], at: usize, context: Context, kind: PieceKind) -> Option<Piece>
-    ensures { kind ≡ kind_at text.now at context → IfSome result (λ piece. IsPieceAt text.now at context piece) }
+fn piece_at(text: &[u8], at: usize, context: Context) -> Option<Piece>
+    ensures { IfSome result (λ piece. IsPieceAt text.now at context piece) }
 {
+    let kind = kind_at(text, at, context);
     let end = end_of(text, at, kind)?;
     if at < end && end <= text.len() && is_chosen(context.chosen, kind, byte_at(text, at)) {
         Some(Piece {
@@ -112,17 +83,6 @@ fn piece_at(text: &[u8], at: usize, context: Context, kind: PieceKind) -> Option
         })
     } else {
         None
-    }
-}
-
-/// Returns the choice for an offset, if the first of some choices is for the offset.
-#[inline(always)]
-fn chosen(at: usize, choices: &[Choice]) -> Option<ChoiceKind>
-    ensures { result ≡ chosen at choices.now }
-{
-    match choices {
-        [first, ..] if first.offset == at => Some(first.kind),
-        _ => None,
     }
 }
 

@@ -1,4 +1,5 @@
 pub mod Cooked
 pub mod FiledComments
 pub mod OfTexts
+pub mod PartPieces
 pub mod SpelledNodes

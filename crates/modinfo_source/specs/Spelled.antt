@@ -2,6 +2,7 @@
 -- string's and a template's value.
 use Rattle.std.specs.Prelude.{◌≡◌, ℕ, ◌+◌, ◌-◌, ◌<◌, ◌≤◌, ⊤, List, [], ◌∷◌, map, slice_index, All, Option}
 use Rattle.std.specs.Prelude.{Some, None}
+use Rattle.std.specs.List.{Contains}
 use Rattle.deno_graph_base.specs.SourceRange.{IsTextRange, slice_of}
 use Rattle.deno_graph_base.specs.declared.text.position.SourceRange.{SourceRange}
 use Rattle.deno_graph_source.specs.Node.{kind_of, range_of, children_of, literal_of, nodes_of}
@@ -12,17 +13,23 @@ use Rattle.deno_graph_source.specs.declared.tree.node.Program.{Program}
 use Rattle.deno_graph_source.specs.declared.tree.node.PropKey.{PropKey}
 use Rattle.deno_graph_source.specs.declared.tree.node.PropKey.TheVariants as key
 use Rattle.deno_graph_source.specs.declared.tree.node.StrLit.{StrLit}
+use Rattle.modinfo_imports.specs.Nodes.{part_claim}
 use Rattle.modinfo_literals.specs.Literal.{Spells, SpellsCooked}
+use Rattle.modinfo_pieces.specs.Tiles.{AreTiles}
+use Rattle.modinfo_pieces.specs.declared.choice.Choice.{Choice}
+use Rattle.modinfo_pieces.specs.declared.piece.Piece.{Piece}
 
 -- the text has a string literal with this value at the range
 pub record SpellsAt (text : List ℕ) (range : SourceRange) (value : List ℕ) : Type 0 where
   pub is_range : IsTextRange text range
   pub spells : Spells (slice_of text range) value
 
--- the text has a part of a template with this cooked value at the range
-pub record CooksAt (text : List ℕ) (range : SourceRange) (value : List ℕ) : Type 0 where
-  pub is_range : IsTextRange text range
-  pub cooks : SpellsCooked (slice_of text range) value
+-- the text has a part of a template with this cooked value at the range, which is a piece with its marks
+pub record CooksAt (text : List ℕ) (pieces : List Piece) (range : SourceRange) (value : List ℕ) : Type 0
+  where
+    pub is_range : IsTextRange text range
+    pub cooks : SpellsCooked (slice_of text range) value
+    pub is_piece : Contains pieces (part_claim text range)
 
 -- the string literal of a kind, if it has one, is at its range
 abbrev pub LiteralIsSpelled : List ℕ → Option StrLit → Type 0
@@ -71,36 +78,42 @@ AreParts text range children (part ∷ parts) =
     IsFirstPart text range.start part × FollowByTurns text part parts children range.end
 
 -- each value is the cooked value of the part at its range
-abbrev pub CookEach : List ℕ → List SourceRange → List (List ℕ) → Type 0
-CookEach text [] [] = ⊤
-CookEach text (part ∷ parts) (value ∷ values) = CooksAt text part value × CookEach text parts values
-CookEach text parts values = ⊥
+abbrev pub CookEach : List ℕ → List Piece → List SourceRange → List (List ℕ) → Type 0
+CookEach text pieces [] [] = ⊤
+CookEach text pieces (part ∷ parts) (value ∷ values) =
+    CooksAt text pieces part value × CookEach text pieces parts values
+CookEach text pieces parts values = ⊥
 
 -- A template at a range with these children has parts with these cooked values. A part with a cooked value
 -- has a backquote or `${` only in an escape, so the part ends at the first of them that is in no escape.
-pub record TemplateIsSpelled (text : List ℕ) (range : SourceRange) (children : List Node)
-    (values : List (List ℕ)) : Type 0 where
+pub record TemplateIsSpelled (text : List ℕ) (pieces : List Piece) (range : SourceRange)
+    (children : List Node) (values : List (List ℕ)) : Type 0 where
   pub parts : List SourceRange
   pub are_parts : AreParts text range (map range_of children) parts
-  pub cooked : CookEach text parts values
+  pub cooked : CookEach text pieces parts values
 
 -- what a node's kind says of the text besides its literal
-abbrev pub ValueIsSpelled : List ℕ → SourceRange → List Node → Kind → Type 0
-ValueIsSpelled text range children (kind.Str value) = SpellsAt text range value
-ValueIsSpelled text range children (kind.KeyValue key) = KeyIsSpelled text range key
-ValueIsSpelled text range children (kind.Template values) = TemplateIsSpelled text range children values
-ValueIsSpelled text range children _ = ⊤
+abbrev pub ValueIsSpelled : List ℕ → List Piece → SourceRange → List Node → Kind → Type 0
+ValueIsSpelled text pieces range children (kind.Str value) = SpellsAt text range value
+ValueIsSpelled text pieces range children (kind.KeyValue key) = KeyIsSpelled text range key
+ValueIsSpelled text pieces range children (kind.Template values) =
+    TemplateIsSpelled text pieces range children values
+ValueIsSpelled text pieces range children _ = ⊤
 
 -- each literal of a kind, of a node at a range with these children, has the value that the text spells
-pub record KindIsSpelled (text : List ℕ) (range : SourceRange) (children : List Node) (kind : Kind) : Type 0
-  where
-    pub literal : LiteralIsSpelled text (literal_of kind)
-    pub value : ValueIsSpelled text range children kind
+pub record KindIsSpelled (text : List ℕ) (pieces : List Piece) (range : SourceRange) (children : List Node)
+    (kind : Kind) : Type 0 where
+  pub literal : LiteralIsSpelled text (literal_of kind)
+  pub value : ValueIsSpelled text pieces range children kind
 
 -- each literal of a node has the value that its slice of the text spells
-abbrev pub NodeIsSpelled : List ℕ → Node → Type 0
-NodeIsSpelled text node = KindIsSpelled text (range_of node) (children_of node) (kind_of node)
+abbrev pub NodeIsSpelled : List ℕ → List Piece → Node → Type 0
+NodeIsSpelled text pieces node = KindIsSpelled text pieces (range_of node) (children_of node) (kind_of node)
 
--- each literal of a program has the value that its slice of the text spells
-abbrev pub IsSpelled : List ℕ → Program → Type 0
-IsSpelled text program = All (NodeIsSpelled text) (nodes_of program)
+-- The text is pieces side by side, and each literal of a program has the value that its slice of the text
+-- spells.
+pub record IsSpelled (text : List ℕ) (program : Program) : Type 0 where
+  pub choices : List Choice
+  pub pieces : List Piece
+  pub are_tiles : AreTiles text choices pieces
+  pub spelled : All (NodeIsSpelled text pieces) (nodes_of program)

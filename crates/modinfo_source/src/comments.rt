@@ -9,6 +9,7 @@ use crate::error::TreeError;
 use deno_graph_base::text::SourceRange;
 use deno_graph_base::values::Text;
 use deno_graph_source::tree::{CommentKind, Comments, DependencyComment};
+use modinfo_imports::claims::Mark;
 use modinfo_imports::find::find;
 use modinfo_pieces::choice::Choice;
 use modinfo_pieces::filed::FiledComment;
@@ -16,18 +17,27 @@ use modinfo_pieces::piece::{Piece, PieceKind};
 use std::alloc::{AllocError, Global};
 
 /// Returns the comments of a text, each filed, by the choices of the parser. `Defect` if the text isn't that
-/// of the tree with these claims and marks.
+/// of the tree with these claims and marks, whose first item begins at `body`, if there is one.
 pub(crate) fn comments_of(
     alloc: Global,
     text: &str,
     is_typed: bool,
     choices: &[Choice],
     claims: &[Piece],
-    marks: &[Piece],
+    marks: &[Mark],
+    body: Option<usize>,
 ) -> Result<Comments, TreeError>
-    ensures { IfOk result (HasClaims text.now is_typed claims.now marks.now) }
+    ensures { IfOk result (HasClaims text.now is_typed claims.now marks.now body) }
 {
-    match find(alloc, text.as_bytes(), is_typed, choices, claims, marks)? {
+    match find(
+        alloc,
+        text.as_bytes(),
+        is_typed,
+        choices,
+        claims,
+        marks,
+        body,
+    )? {
         Ok(filed) => file_each(alloc, text, &filed),
         Err(offset) => Err(TreeError::Defect(offset)),
     }

@@ -8,17 +8,17 @@ ghost use Rattle.deno_graph_base.specs.declared.text.position.Position.{Position
 ghost use Rattle.deno_graph_source.specs.Source.{IsValid};
 ghost use Rattle.deno_graph_source.specs.declared.tree.parse_error.ParseDiagnostic.{ParseDiagnostic};
 ghost use Rattle.deno_graph_source.specs.MediaType.{is_typed};
-ghost use Rattle.modinfo_source.specs.OfText.{IsOfText};
+ghost use Rattle.modinfo_source.specs.OfText.{IsOfText, start_of};
 ghost use Rattle.modinfo_source.specs.Comments.{HasComments};
 ghost use Rattle.modinfo_source.specs.Spelled.{IsSpelled};
 
 use crate::comments::comments_of;
 use crate::error::{TextError, TreeError};
-use crate::tree::body_of;
+use crate::tree::{body_of, parts_in};
 use deno_graph_base::text::{Position, SourceRange, SourceTextInfo};
 use deno_graph_base::values::Text;
 use deno_graph_source::tree::{
-    Comments, MediaType, ParseDiagnostic, ParsedSource, Program, SourceFault,
+    Comments, MediaType, Node, ParseDiagnostic, ParsedSource, Program, SourceFault,
 };
 use modinfo_imports::nodes::{claims_of, marks_of};
 use modinfo_lexer::syntax_error::{ReadError, SyntaxError};
@@ -96,12 +96,13 @@ fn parts_of(alloc: Global, text: &str, media_type: MediaType) -> Result<Parts, T
         choices,
         has_hashbang,
     } = read(alloc, text, media_type)?;
+    let parts = parts_in(alloc, &nodes)?;
     let program = Program {
         range: SourceRange::new(0, text.len()),
-        body: body_of(alloc, text, nodes)?,
+        body: body_of(alloc, text, nodes, &parts)?,
         has_shebang: has_hashbang,
     };
-    let claims = claims_of(alloc, text.as_bytes(), &program)?;
+    let claims = claims_of(alloc, text.as_bytes(), &program, &parts)?;
     let marks = marks_of(alloc, text.as_bytes(), &program)?;
     let comments = comments_of(
         alloc,
@@ -110,8 +111,20 @@ fn parts_of(alloc: Global, text: &str, media_type: MediaType) -> Result<Parts, T
         &choices,
         &claims,
         &marks,
+        start_of(program.body.as_slice()),
     )?;
     Ok(Parts { program, comments })
+}
+
+/// Returns where the first of some nodes begins, if there is one.
+#[tactic(auto, unfolding(deno_graph_source::specs::Node::range_of))]
+fn start_of(nodes: &[Node]) -> Option<usize>
+    ensures { result ≡ start_of nodes.now }
+{
+    match nodes {
+        [first, ..] => Some(first.range.start),
+        [] => None,
+    }
 }
 
 /// Returns the error of a text without a tree of its own.

@@ -1,6 +1,6 @@
 //! Words: names, keywords and numbers.
 
-ghost use Rattle.std.specs.Prelude.{◌≡◌, ◌<◌, ◌≤◌, ◌+◌, ◌-◌, ◌==◌, if◌then◌else◌, IfSome, length, not, position};
+ghost use Rattle.std.specs.Prelude.{◌≡◌, ◌<◌, ◌≤◌, ◌+◌, ◌-◌, ◌==◌, ◌||◌, if◌then◌else◌, IfSome, length, nat_le, not, position, slice_index};
 ghost use Rattle.modinfo_pieces.specs.Steps.{Ends};
 ghost use Rattle.modinfo_pieces.specs.Words.{escape_size, hex_digits, is_hex_digit, word_step};
 
@@ -11,6 +11,31 @@ use crate::scan::spaces::space_size;
 /// Returns the end of the word that goes on at an offset.
 #[inline(always)]
 pub fn word_end(text: &[u8], from: usize) -> usize
+    ensures { Ends (word_step text.now) from result }
+{
+    let mut at = from;
+    'letters: while at < text.len() && is_word_byte(text[at]) {
+        at += 1;
+    }
+    if goes_on(text, at) {
+        rest_end(text, at)
+    } else {
+        at
+    }
+}
+
+/// Returns whether an escape or a byte of a character above U+007F is at an offset.
+#[inline(always)]
+fn goes_on(text: &[u8], at: usize) -> bool
+    ensures { result ≡ (nat_le 128 (slice_index text.now at) || slice_index text.now at == 92) }
+{
+    let byte = byte_at(text, at);
+    byte >= 128 || byte == b'\\'
+}
+
+/// Like `word_end`.
+#[inline(never)]
+fn rest_end(text: &[u8], from: usize) -> usize
     ensures { Ends (word_step text.now) from result }
 {
     let mut at = from;

@@ -2,6 +2,7 @@
 
 ghost use Rattle.std.specs.Prelude.{◌≡◌, IfOk, List};
 ghost use Rattle.deno_graph_source.specs.declared.tree.node.Node.{Node};
+ghost use Rattle.modinfo_pieces.specs.declared.piece.Piece.{Piece};
 ghost use Rattle.modinfo_source.specs.Spelled.{KeyIsSpelled, KindIsSpelled, LiteralIsSpelled};
 
 use crate::tree::literals::{literal_at, name_at, spelled_value};
@@ -20,7 +21,8 @@ pub(crate) fn kind_of(
     args: Items<Arg>,
     count: usize,
 ) -> Result<Kind, ReadError>
-    ensures { (children : List Node) → IfOk result (KindIsSpelled text.now flat.range children) }
+    ensures { (pieces : List Piece) (children : List Node)
+        → IfOk result (KindIsSpelled text.now pieces flat.range children) }
 {
     match flat.shape {
         Shape::ExportOther => Ok(Kind::ExportOther),
@@ -48,7 +50,8 @@ fn module_kind(
     range: SourceRange,
     shape: Shape,
 ) -> Result<Kind, ReadError>
-    ensures { (children : List Node) → IfOk result (KindIsSpelled text.now range children) }
+    ensures { (pieces : List Piece) (children : List Node)
+        → IfOk result (KindIsSpelled text.now pieces range children) }
 {
     match shape {
         Shape::ImportDecl {
@@ -93,7 +96,8 @@ fn typed_kind(
     range: SourceRange,
     shape: Shape,
 ) -> Result<Kind, ReadError>
-    ensures { (children : List Node) → IfOk result (KindIsSpelled text.now range children) }
+    ensures { (pieces : List Piece) (children : List Node)
+        → IfOk result (KindIsSpelled text.now pieces range children) }
 {
     match shape {
         Shape::ImportEquals {

@@ -1,6 +1,9 @@
 //! The values of literals, as their slices of the text spell them.
 
-ghost use Rattle.std.specs.Prelude.{◌≡◌, IfOk, IfSome};
+ghost use Rattle.std.specs.Prelude.{◌≡◌, IfOk, IfSome, List};
+ghost use Rattle.std.specs.List.{Contains};
+ghost use Rattle.modinfo_imports.specs.Nodes.{part_claim};
+ghost use Rattle.modinfo_pieces.specs.declared.piece.Piece.{Piece};
 ghost use Rattle.modinfo_source.specs.Spelled.{CooksAt, SpellsAt};
 
 use crate::slice::slice_at;
@@ -47,7 +50,8 @@ pub(crate) fn cooked_part(
     text: &str,
     range: SourceRange,
 ) -> Result<Option<JsString>, ReadError>
-    ensures { IfOk result (λ found. IfSome found (CooksAt text.now range)) }
+    ensures { (pieces : List Piece) → Contains pieces (part_claim text.now range)
+        → IfOk result (λ found. IfSome found (CooksAt text.now pieces range)) }
 {
     match slice_at(text, range) {
         Some(slice) => Ok(cooked_value(alloc, slice)?),

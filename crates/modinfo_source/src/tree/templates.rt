@@ -2,6 +2,8 @@
 
 ghost use Rattle.std.specs.Prelude.{◌≡◌, All, IfOk, IfSome, IsTrue, List, map, slice_index, ℕ};
 ghost use Rattle.deno_graph_source.specs.Node.{range_of};
+ghost use Rattle.modinfo_imports.specs.Nodes.{part_claim};
+ghost use Rattle.modinfo_pieces.specs.declared.piece.Piece.{Piece};
 ghost use Rattle.modinfo_source.specs.Spelled.{
   AreParts,
   CookEach,
@@ -44,12 +46,14 @@ impl Part {
 pub(crate) fn template_kind(
     alloc: Global,
     text: &str,
+    all_parts: &[SourceRange],
     range: SourceRange,
     children: &[Node],
     parts: Vec<Part>,
 ) -> Result<Kind, ReadError>
-    requires { All (PartIsCooked text.now) parts.items }
-    ensures { IfOk result (KindIsSpelled text.now range children.now) }
+    requires { All (PartIsCooked text.now (map (part_claim text.now) all_parts.now)) parts.items }
+    ensures { IfOk result (KindIsSpelled text.now (map (part_claim text.now) all_parts.now) range
+        children.now) }
 {
     let are_parts = are_parts(text, range, children, &parts);
     match values_of(alloc, parts)? {
@@ -60,8 +64,8 @@ pub(crate) fn template_kind(
 
 /// Returns the values of all parts, `None` if one has none.
 fn values_of(alloc: Global, parts: Vec<Part>) -> Result<Option<Items<JsString>>, ReadError>
-    ensures { (text : List ℕ) → All (PartIsCooked text) parts.items → IfOk result (λ found.
-        IfSome found (CookEach text (part_ranges parts.items))) }
+    ensures { (text : List ℕ) (pieces : List Piece) → All (PartIsCooked text pieces) parts.items
+        → IfOk result (λ found. IfSome found (CookEach text pieces (part_ranges parts.items))) }
 {
     let mut values = Items::with_capacity(alloc, parts.len())?;
     for part in parts {

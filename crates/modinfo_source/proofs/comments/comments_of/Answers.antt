@@ -17,9 +17,12 @@ returns-in-Ok c =
     let claims = c.args.claims.now in
     let marks = c.args.marks.now in
     let filed = c.in-Ok.filed.items in
-    let found = subst (λ bytes. HasFound bytes c.args.is_typed c.args.choices.now claims marks filed)
+    let found = subst (λ bytes. HasFound bytes c.args.is_typed c.args.choices.now claims marks c.args.body
+    filed)
     c.as_bytes.ensures.value (rw c.in-Ok.is at c.in_ok-filed.ensures) in
-    if_ok c.file_each.result (AreFiled text c.deref.result.now) (HasClaims text c.args.is_typed claims marks)
+    if_ok c.file_each.result (AreFiled text c.deref.result.now) (HasClaims text c.args.is_typed claims marks
+    c.args.body)
     c.file_each.ensures
-    (λ comments are. HasClaims-found text c.args.is_typed c.args.choices.now claims marks filed comments found
+    (λ comments are. HasClaims-found text c.args.is_typed c.args.choices.now claims marks c.args.body filed
+    comments found
     (subst (λ (l : List FiledComment). AreFiled text l comments) c.deref.ensures.value are))
