@@ -64,13 +64,14 @@ impl<'a> Parser<'a> {
         self.class_body(depth - 1)
     }
 
-    /// The class after `extends`, with type arguments.
+    /// The class after `extends`, with type arguments. A level of these takes much of the stack, so it costs one
+    /// more of the depth.
     #[cycle(grammar)]
     fn superclass(&mut self, depth: usize) -> Parsed<()> {
-        if depth == 0 {
+        if depth < 2 {
             return Err(self.too_deep());
         }
-        self.postfix(depth - 1)?;
+        self.postfix(depth - 2)?;
         if self.language.is_typescript
             && matches!(self.kind(), TokenKind::Less | TokenKind::ShiftLeft)
         {

@@ -25,7 +25,11 @@ impl<'a> Parser<'a> {
             return Err(self.too_deep());
         }
         self.expect_module()?;
+        let has_decorators = start < self.start();
         self.next()?;
+        if has_decorators && self.is_export_without_declaration()? {
+            return Err(self.error("expected a class after the decorators"));
+        }
         match self.kind() {
             TokenKind::Star => self.export_all(start, false)?,
             TokenKind::BraceOpen => self.export_names(start, false)?,
@@ -59,6 +63,15 @@ impl<'a> Parser<'a> {
             }
         }
         Ok(Item::Node)
+    }
+
+    /// Returns whether an export has names, `*` or an import at the current token, and no declaration.
+    fn is_export_without_declaration(&mut self) -> Parsed<bool> {
+        match self.kind() {
+            TokenKind::Star | TokenKind::BraceOpen | TokenKind::Import => Ok(true),
+            TokenKind::Type => self.is_export_of_types(),
+            _ => Ok(false),
+        }
     }
 
     /// Returns whether the current `type` says that an export is of types alone.

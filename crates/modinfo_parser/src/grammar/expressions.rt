@@ -269,6 +269,8 @@ impl<'a> Parser<'a> {
         let form = self.postfix(depth - 1)?;
         if is_unary {
             self.expect_no_power()?;
+        } else {
+            self.expect_no_update()?;
         }
         operation(form, start, self.has_read_conditional)
     }
@@ -278,6 +280,16 @@ impl<'a> Parser<'a> {
     pub(crate) fn expect_no_power(&self) -> Parsed<()> {
         if self.at(TokenKind::StarStar) {
             Err(self.error("expected parentheses around the left operand of `**`"))
+        } else {
+            Ok(())
+        }
+    }
+
+    /// Returns an error if `++` or `--` ends the operand that was read, and one of them is before it too.
+    fn expect_no_update(&self) -> Parsed<()> {
+        let last = self.lexer.previous_end().saturating_sub(1);
+        if matches!(byte_at(self.lexer.text().as_bytes(), last), b'+' | b'-') {
+            Err(self.error("expected no second `++` or `--` at the operand"))
         } else {
             Ok(())
         }

@@ -91,10 +91,11 @@ impl<'a> Parser<'a> {
         Ok(SourceRange::new(start, self.lexer.previous_end()))
     }
 
-    /// An attribute of an element: a name with a value or without, or attributes that are spread.
+    /// An attribute of an element: a name with a value or without, or attributes that are spread. A level of
+    /// these takes much of the stack, so it costs one more of the depth.
     #[cycle(grammar)]
     fn jsx_attribute(&mut self, depth: usize) -> Parsed<()> {
-        if depth == 0 {
+        if depth < 2 {
             return Err(self.too_deep());
         }
         if self.eat(TokenKind::BraceOpen)? {
@@ -102,7 +103,7 @@ impl<'a> Parser<'a> {
                 TokenKind::DotDotDot,
                 "expected `...` after `{` in the element",
             )?;
-            self.assignment(depth - 1)?;
+            self.assignment(depth - 2)?;
             return self.expect(TokenKind::BraceClose, "expected `}` in the element");
         }
         if !self.kind().is_name() {
@@ -117,10 +118,10 @@ impl<'a> Parser<'a> {
             TokenKind::String => self.next(),
             TokenKind::BraceOpen => {
                 self.next()?;
-                self.expression(depth - 1)?;
+                self.expression(depth - 2)?;
                 self.expect(TokenKind::BraceClose, "expected `}` after the expression")
             }
-            TokenKind::Less => self.jsx_element_of_attribute(depth - 1),
+            TokenKind::Less => self.jsx_element_of_attribute(depth - 2),
             _ => Err(self.error("expected the value of the attribute")),
         }
     }
@@ -136,10 +137,11 @@ impl<'a> Parser<'a> {
         self.next()
     }
 
-    /// The children of an element with a name, and its end tag up to the last `>`.
+    /// The children of an element with a name, and its end tag up to the last `>`. A level of elements takes
+    /// much of the stack, so it costs one more of the depth.
     #[cycle(grammar)]
     fn jsx_children(&mut self, depth: usize, name: SourceRange) -> Parsed<()> {
-        if depth == 0 {
+        if depth < 2 {
             return Err(self.too_deep());
         }
         self.lexer.next_jsx_child();
@@ -152,7 +154,7 @@ impl<'a> Parser<'a> {
                     if self.eat(TokenKind::Slash)? {
                         break;
                     }
-                    self.jsx_element(depth - 1)?;
+                    self.jsx_element(depth - 2)?;
                     self.lexer.next_jsx_child();
                 }
                 _ => return Err(self.error("expected the end tag of the element")),

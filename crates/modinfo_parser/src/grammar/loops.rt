@@ -33,10 +33,11 @@ impl<'a> Parser<'a> {
         Ok(())
     }
 
-    /// `for`, with its head and its statement.
+    /// `for`, with its head and its statement. A level of loops takes much of the stack, so it costs two more
+    /// of the depth.
     #[cycle(grammar)]
     pub(crate) fn for_statement(&mut self, depth: usize) -> Parsed<()> {
-        if depth == 0 {
+        if depth < 3 {
             return Err(self.too_deep());
         }
         let first = self.nodes.len();
@@ -56,17 +57,7 @@ impl<'a> Parser<'a> {
             TokenKind::ParenClose,
             "expected `)` after the head of the loop",
         )?;
-        self.body_of_for(depth - 1)
-    }
-
-    /// The statement of a `for` loop. A level of loops takes much of the stack, so it costs one more of the
-    /// depth.
-    #[cycle(grammar)]
-    fn body_of_for(&mut self, depth: usize) -> Parsed<()> {
-        if depth == 0 {
-            return Err(self.too_deep());
-        }
-        self.body(depth - 1)
+        self.body(depth - 3)
     }
 
     /// What is between the parentheses of `for`.

@@ -25,15 +25,16 @@ impl<'a> Parser<'a> {
         Ok(Form::Other)
     }
 
-    /// The parentheses after `async`: parameters of an async arrow function, or arguments of a call.
+    /// The parentheses after `async`: parameters of an async arrow function, or arguments of a call. A level of
+    /// these takes much of the stack, so it costs one more of the depth.
     #[cycle(grammar)]
     pub(crate) fn async_parentheses(&mut self, depth: usize) -> Parsed<Form> {
-        if depth == 0 {
+        if depth < 2 {
             return Err(self.too_deep());
         }
         let start = self.start();
-        self.parentheses(depth - 1)?;
-        if self.at_arrow_or_type(start)? && self.arrow_after_parentheses(depth - 1, true, false)? {
+        self.parentheses(depth - 2)?;
+        if self.at_arrow_or_type(start)? && self.arrow_after_parentheses(depth - 2, true, false)? {
             return Ok(Form::Arrow);
         }
         Ok(Form::Other)

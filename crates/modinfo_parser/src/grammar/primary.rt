@@ -192,29 +192,20 @@ impl<'a> Parser<'a> {
         Ok(matches!(self.kind(), TokenKind::Comma | TokenKind::Equal))
     }
 
-    /// `<`, a type, `>` and an operand.
+    /// `<`, a type, `>` and an operand. A level of these takes much of the stack, so it costs one more of the
+    /// depth.
     #[cycle(grammar)]
     fn type_assertion(&mut self, depth: usize) -> Parsed<Form> {
-        if depth == 0 {
+        if depth < 2 {
             return Err(self.too_deep());
         }
         self.lexer.rescan_angle();
         self.next()?;
         self.type_in_expression(depth - 1)?;
         self.expect_greater()?;
-        self.asserted_operand(depth - 1)?;
+        self.unary(depth - 2)?;
         self.expect_no_power()?;
         Ok(Form::Operation)
-    }
-
-    /// The operand after a type in `<` and `>`. A level of these takes much of the stack, so it costs one
-    /// more of the depth.
-    #[cycle(grammar)]
-    fn asserted_operand(&mut self, depth: usize) -> Parsed<Form> {
-        if depth == 0 {
-            return Err(self.too_deep());
-        }
-        self.unary(depth - 1)
     }
 
     /// An array literal, which may be a pattern.

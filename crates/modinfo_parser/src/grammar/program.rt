@@ -70,16 +70,17 @@ impl<'a> Parser<'a> {
         Ok(following.kind == TokenKind::Import && !following.is_after_line_end)
     }
 
-    /// The body of a `namespace`, a `module` or `global`: `{`, statements, imports and exports, and `}`.
+    /// The body of a `namespace`, a `module` or `global`: `{`, statements, imports and exports, and `}`. A level
+    /// of these takes much of the stack, so it costs one more of the depth.
     #[cycle(grammar)]
     pub(crate) fn module_body(&mut self, depth: usize) -> Parsed<()> {
-        if depth == 0 {
+        if depth < 2 {
             return Err(self.too_deep());
         }
         self.expect(TokenKind::BraceOpen, "expected `{` before the statements")?;
         let context = self.context;
         self.context = context.in_brackets();
-        let result = self.items_to_brace(depth - 1);
+        let result = self.items_to_brace(depth - 2);
         self.context = context;
         result?;
         self.expect(TokenKind::BraceClose, "expected `}` after the statements")

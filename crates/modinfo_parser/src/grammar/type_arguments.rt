@@ -2,6 +2,7 @@
 
 use crate::grammar::types::begins_type;
 use crate::parser::{Parsed, Parser, is_limit};
+use modinfo_lexer::characters::byte_at;
 use modinfo_lexer::syntax_error::ReadError;
 use modinfo_lexer::token::TokenKind;
 
@@ -107,9 +108,14 @@ impl<'a> Parser<'a> {
     }
 
     /// Returns whether the current token may follow type arguments of an expression: `(`, a template, or
-    /// a token with which no operand begins. An `as` before what is no type is a name.
+    /// a token with which no operand begins. An `as` before what is no type is a name. The last `>` before
+    /// the token isn't the start of a longer operator, as it would be in `a < b >= c`.
     fn may_follow_type_arguments(&mut self) -> Parsed<bool> {
         let token = self.token();
+        let next = byte_at(self.lexer.text().as_bytes(), self.lexer.previous_end());
+        if matches!(next, b'>' | b'=') {
+            return Ok(false);
+        }
         match token.kind {
             TokenKind::ParenOpen | TokenKind::Template | TokenKind::TemplateHead => Ok(true),
             TokenKind::Less | TokenKind::Greater | TokenKind::Plus | TokenKind::Minus => Ok(false),

@@ -85,19 +85,10 @@ impl<'a> Parser<'a> {
     /// three of the depth.
     #[cycle(grammar)]
     fn branch_of_conditional(&mut self, depth: usize) -> Parsed<()> {
-        if depth == 0 {
+        if depth < 3 {
             return Err(self.too_deep());
         }
-        self.inner_branch(depth - 1)
-    }
-
-    /// The type of a branch, with less depth left.
-    #[cycle(grammar)]
-    fn inner_branch(&mut self, depth: usize) -> Parsed<()> {
-        if depth == 0 {
-            return Err(self.too_deep());
-        }
-        self.type_(depth - 1)
+        self.type_(depth - 3)
     }
 
     /// The type after `extends`, which is no conditional type.
@@ -181,10 +172,11 @@ impl<'a> Parser<'a> {
         Ok(false)
     }
 
-    /// The type of a function or a constructor.
+    /// The type of a function or a constructor. A level of results takes much of the stack, so it costs three
+    /// more of the depth.
     #[cycle(grammar)]
     fn function_type(&mut self, depth: usize) -> Parsed<()> {
-        if depth == 0 {
+        if depth < 4 {
             return Err(self.too_deep());
         }
         self.eat(TokenKind::Abstract)?;
@@ -199,7 +191,7 @@ impl<'a> Parser<'a> {
         )?;
         let context = self.context;
         self.context.allows_conditional_type = true;
-        let result = self.return_type(depth - 1);
+        let result = self.return_type(depth - 4);
         self.context = context;
         result
     }

@@ -236,9 +236,6 @@ decreases-do_statement l = l.depth
 abbrev pub decreases-for_statement : goal.decreases-for_statement
 decreases-for_statement l = l.depth
 
-abbrev pub decreases-body_of_for : goal.decreases-body_of_for
-decreases-body_of_for l = l.depth
-
 abbrev pub decreases-for_head : goal.decreases-for_head
 decreases-for_head l = l.depth
 
@@ -340,9 +337,6 @@ decreases-angle l = l.depth
 
 abbrev pub decreases-type_assertion : goal.decreases-type_assertion
 decreases-type_assertion l = l.depth
-
-abbrev pub decreases-asserted_operand : goal.decreases-asserted_operand
-decreases-asserted_operand l = l.depth
 
 abbrev pub decreases-array : goal.decreases-array
 decreases-array l = l.depth
@@ -568,9 +562,6 @@ invariant-type_-loop-turn l = l.depth ≡ l.fn.depth
 
 abbrev pub decreases-branch_of_conditional : goal.decreases-branch_of_conditional
 decreases-branch_of_conditional l = l.depth
-
-abbrev pub decreases-inner_branch : goal.decreases-inner_branch
-decreases-inner_branch l = l.depth
 
 abbrev pub decreases-constraint_of_conditional : goal.decreases-constraint_of_conditional
 decreases-constraint_of_conditional l = l.depth
