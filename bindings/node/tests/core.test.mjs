@@ -158,9 +158,9 @@ test("a signal that is aborted rejects a call", { skip }, async () => {
 const DEEP = `${"a?[".repeat(150)}1${"]:1".repeat(150)};`;
 
 test("after the module's stack has overflowed, the next call is right", { skip }, () => {
-  // The stack begins at 2 MiB, and at 8 KiB here.
+  // A variable of 64 bits has where the stack begins: 2 MiB, 8 KiB here.
   const own = functionsWith();
-  own.initSync(changed([0x42, 0x80, 0x80, 0x80, 0x01, 0x0b], [0x42, 0x80, 0xc0, 0x80, 0x00, 0x0b]));
+  own.initSync(changed([0x7e, 0x01, 0x42, 0x80, 0x80, 0x80, 0x01, 0x0b], [0x7e, 0x01, 0x42, 0x80, 0xc0, 0x80, 0x00, 0x0b]));
   for (let turn = 0; turn < 3; turn++) {
     assert.throws(() => own.moduleInfoSync(DEEP, URL_OF_TEXT), { name: "ModinfoFault", fault: "Stack", message: /^Stack: .*out of bounds/ });
     assert.deepEqual(specifiersOf(own.moduleInfoSync(TEXT, URL_OF_TEXT)), SPECIFIERS);

@@ -7,7 +7,7 @@ import { test } from "node:test";
 import { fileURLToPath } from "node:url";
 
 import { matchesName, matchesPath } from "../modinfo-graph/dist/files/globs.js";
-import { parseWithComments } from "../modinfo-graph/dist/graph/members.js";
+import { parseWithComments } from "../modinfo-graph/dist/graph/package_manifests.js";
 import { Resolver } from "../modinfo-graph/dist/graph/resolver.js";
 import { folderOf } from "./run_commands.mjs";
 

@@ -173,6 +173,14 @@ test("a relative name of a reached module that leads nowhere is in the last line
   assert.deepEqual(unreached({ ...files, "main.js": "", "b.js": files["main.js"] }), withStatus(["a.js", "b.js"], 1));
 });
 
+test("names of a bundler's alias that lead to no file are in the last line, with what their tails match", () => {
+  const files = { "main.js": `import "@/none"; import "virtual:none"; import "~/lib/a"; import "@scope/p";`, "src/lib/a.js": "", "b.js": "" };
+  assert.deepEqual(unreached(files), withStatus(
+    ["b.js", "src/lib/a.js: may be reached: alias of ~/lib/a at main.js:1:48"], 1,
+    `${NAME}: of what is reached 3 names of an alias lead to no file: more may be reached than is known\n`,
+  ));
+});
+
 test("--exclude follows and doesn't list", () => {
   const files = {
     "main.js": `import "./gen/a.js";`, "gen/a.js": `import "../b.js";`, "b.js": "",

@@ -8,13 +8,13 @@
 import { basename } from "node:path";
 
 import {
-  UsageFault, type Values, type Words, readJobs, runProgram, usageOf,
+  TEXT, UsageFault, type ValuesOf, type Words, readJobs, runProgram, usageOf,
 } from "modinfo-graph/internal/cli/command_line.js";
-import { gapsNote } from "modinfo-graph/internal/cli/graph_checks.js";
 import { withProjectOptions } from "modinfo-graph/internal/cli/project_options.js";
 import {
   ENTRY_HELP, type GraphRun, RESOLUTION_HELP, RUN_OPTIONS, type Run, readRun,
 } from "modinfo-graph/internal/cli/run.js";
+import { gapsNote } from "modinfo-graph/internal/cli/shown.js";
 import { PROGRAM_HELP, checkProgram, modinfoPath } from "modinfo-graph/internal/files/program.js";
 import { isReplaceable, placeOf, replaceFile } from "modinfo-graph/internal/files/replace_file.js";
 import { dotText, isDot } from "modinfo-graph/internal/graph/pictures.js";
@@ -33,9 +33,11 @@ import type { ReadFile } from "modinfo-graph/internal/graph/read_graph.js";
 /** The modules of a report, and the folder around them */
 type Listed = { folder: string, modules: Module[] };
 
-type ReportValues = Values & { output?: string, dot?: string };
-
 const NAME = "modinfo-report";
+
+const OPTIONS = { ...RUN_OPTIONS, output: { ...TEXT, short: "o" }, dot: TEXT };
+
+type ReportValues = ValuesOf<typeof OPTIONS>;
 
 const HELP = `usage: ${NAME} [--entry FILE ..] [-o FILE] [--dot FILE] [OPTION ..] PATH ..
 
@@ -155,9 +157,4 @@ async function write(path: string, text: string) {
   }
 }
 
-await runProgram({
-  name: NAME,
-  help: HELP,
-  options: { ...RUN_OPTIONS, output: { type: "string", short: "o" }, dot: { type: "string" } },
-  main,
-});
+await runProgram({ name: NAME, help: HELP, options: OPTIONS, main });

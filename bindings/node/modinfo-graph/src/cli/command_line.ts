@@ -10,48 +10,48 @@ import { printable, printableLines, systemMessage } from "../runtime/faults.js";
 
 const MOST_JOBS = 9999;
 
-/** A usage error. */
 export class UsageFault extends Error {}
 
-/** Options without a value, as node's `parseArgs` has them. */
-export function flags<Name extends string>(...names: Name[]) {
-  return Object.fromEntries(names.map((name) => [name, { type: "boolean" }])) as Record<Name, { type: "boolean" }>;
-}
+/** Kinds of options, as node's `parseArgs` has them. */
+export const FLAG = { type: "boolean" } as const;
+export const TEXT = { type: "string" } as const;
+export const TEXTS = { type: "string", multiple: true } as const;
+
+export type ValuesOf<Options> = {
+  [Name in keyof Options]?: Options[Name] extends { type: "boolean" } ? boolean
+    : Options[Name] extends { multiple: true } ? string[] : string;
+};
 
 /** `choices` are words of options that need no value with one, after `=`; `main` returns the status. */
-interface Program<V extends Values> extends Required<Pick<ParseArgsConfig, "options">> {
+interface Program<V> extends Required<Pick<ParseArgsConfig, "options">> {
   name: string;
   help: string;
   choices?: string[];
   main: (words: Words<V>) => Promise<number>;
 }
 
-/** The values of the options that the commands share. */
-export type Values =
-  & { [name in "help" | "version" | "all" | "follow" | "null" | "gitignore" | "types" | "no-dynamic"]?: boolean }
-  & { [name in "jobs" | "tsconfig"]?: string }
-  & { [name in "entry" | "exclude" | "ignore" | "conditions"]?: string[] };
-
-export interface Words<V extends Values = Values> {
-  values: V;
-  positionals: string[];
-}
+export type Words<V> = { values: V, positionals: string[] };
+type Values<V> = V & { help?: boolean, version?: boolean };
 
 /**
  * Runs a program with the words that node was started with. Status 0; 1 where something can't be
  * read or written, with a line on the error output; 2 for a usage error.
  */
-export async function runProgram<V extends Values>(program: Program<V>) {
-  const { name, main } = program;
+export async function runProgram<V>(program: Program<V>) {
+  const { name, help, main } = program;
   // A write that fails rejects its caller's promise; a message that can't be printed is lost.
   process.stdout.on("error", () => {});
   process.stderr.on("error", () => {});
   try {
     const words = readWords(program);
-    if (await printHelp(name, program.help, words)) {
-      return;
+    if (words.values.help) {
+      await writeOutput(help);
+    } else if (words.values.version) {
+      const { version } = JSON.parse(readOwnFile(new URL("../../package.json", import.meta.url)));
+      await writeOutput(`${name} ${version} (${printable(programName())})\n`);
+    } else {
+      process.exitCode = await main(words);
     }
-    process.exitCode = await main(words);
   } catch (error) {
     if (!(error instanceof OutputFault && error.isClosed)) {
       const isOfWord = error instanceof EntryFault || error instanceof GlobFault;
@@ -64,37 +64,21 @@ export async function runProgram<V extends Values>(program: Program<V>) {
   }
 }
 
-function readWords<V extends Values>({ help, options, choices = [] }: Program<V>): Words<V> {
+function readWords<V>({ help, options, choices = [] }: Program<V>): Words<Values<V>> {
   const words = process.argv.slice(2);
   const end = words.includes("--") ? words.indexOf("--") : words.length;
   const isChoice = (word: string, at: number) => at < end && choices.includes(word);
   const chosen = Object.fromEntries(words.filter(isChoice).map((word) => word.slice(2).split("=")));
   const args = words.map((word, at) => (isChoice(word, at) ? word.replace(/=.*/s, "") : word));
+  const all = { ...options, help: { ...FLAG, short: "h" }, version: FLAG };
   try {
-    const { values, positionals } = parseArgs({
-      args,
-      options: { ...options, help: { type: "boolean", short: "h" }, version: { type: "boolean" } },
-      allowPositionals: true,
-    });
-    return { values: { ...values, ...chosen } as V, positionals };
+    const { values, positionals } = parseArgs({ args, options: all, allowPositionals: true });
+    return { values: { ...values, ...chosen } as Values<V>, positionals };
   } catch (error) {
     throw new UsageFault(`${(error as Error).message.replace(/\. To specify.*$/s, "")}\n${usageOf(help)}`);
   }
 }
 
-/** Prints the help or the version, where the words ask for it. */
-async function printHelp(name: string, help: string, { values }: Words) {
-  if (values.help) {
-    await writeOutput(help);
-  } else if (values.version) {
-    const own = new URL("../../package.json", import.meta.url);
-    const { version } = JSON.parse(readOwnFile(own));
-    await writeOutput(`${name} ${version} (${printable(programName())})\n`);
-  }
-  return Boolean(values.help || values.version);
-}
-
-/** The first lines of a help, which are the usage. */
 export const usageOf = (help: string): string => help.slice(0, help.indexOf("\n\n"));
 
 /** How many processes parse at most: one for each processor; where the word is a smaller number, as many. */
@@ -117,7 +101,6 @@ export class OutputFault extends Error {
   }
 }
 
-/** How many characters wait for others at most. */
 const PIECE = 1 << 16;
 
 /** Lines, of which those that come in one turn are written at once. */
@@ -146,14 +129,11 @@ export class OutputLines {
     this.#waiting = "";
     if (text !== "" && !this.#hasFailed) {
       this.#written = Promise.all([this.#written, writeOutput(text)]).then(() => {});
-      this.#written.catch(() => {
-        this.#hasFailed = true;
-      });
+      this.#written.catch(() => (this.#hasFailed = true));
     }
   }
 }
 
-/** @returns once it is written; rejected with an `OutputFault` */
 export function writeOutput(text: string): Promise<void> {
   return new Promise((resolve, reject) => {
     process.stdout.write(text, (error) => (error ? reject(new OutputFault(error)) : resolve()));

@@ -11,16 +11,14 @@ import { pathToFileURL } from "node:url";
 
 import { PROGRAM_HELP, checkProgram, modinfoPath } from "../files/program.js";
 import { Resolver } from "../graph/resolver.js";
-import { OutputLines, UsageFault, type Words, flags, runProgram, usageOf } from "./command_line.js";
-import { CHECKS, type FilesValues } from "./graph_checks.js";
-import { answerQuestions, questionsOf } from "./graph_questions.js";
+import { OutputLines, UsageFault, type Words, runProgram, usageOf } from "./command_line.js";
+import { CHECKS, FILES_OPTIONS, type FilesValues, answerQuestions, questionsOf } from "./graph_questions.js";
 import { withProjectOptions } from "./project_options.js";
-import { ENTRY_HELP, RESOLUTION_HELP, RUN_OPTIONS, type Run, resolverOptions, runLines } from "./run.js";
+import { ENTRY_HELP, RESOLUTION_HELP, type Run, resolverOptions, runLines } from "./run.js";
 import type { FileResult } from "../files/read_files.js";
 import type { FileReporter } from "./reporter.js";
 
 type FilesWords = Words<FilesValues>;
-
 const NAME = "modinfo-files";
 
 const HELP = `usage: ${NAME} QUESTION .. [--entry FILE ..] [OPTION ..] PATH ..
@@ -78,7 +76,6 @@ async function runOf({ values, positionals: paths }: FilesWords): Promise<Run<Fi
   return { name: NAME, values, paths, program };
 }
 
-/** @returns the status */
 async function printLines(run: Run<FilesValues>): Promise<number> {
   const resolver = run.values.resolve ? new Resolver(resolverOptions(run.values)) : undefined;
   const output = new OutputLines();
@@ -92,19 +89,14 @@ function checkWords({ values, positionals: paths }: FilesWords, questions: strin
   const asked = (...names: string[]) => questions.find((each) => names.includes(each));
   const [needy, broad] = [asked("unreached", "why"), asked("unreached", "packages")];
   const picture = asked("dot", "mermaid");
-  const rules: [isBroken: unknown, message: string][] = [
-    [paths.length + entries.length === 0, usageOf(HELP)],
-    [needy && entries.length === 0, `--${needy} needs --entry`],
-    [broad && paths.length === 0, `--${broad} needs a PATH`],
-    [picture && json, `--json and --${picture} are two forms of the graph: ask for one`],
-    [
-      known && !questions.every((each) => Object.hasOwn(CHECKS, each)),
-      "--known is for --cycles, --missing, --unreached, --packages and --forbid",
-    ],
-  ];
-  const broken = rules.find(([isBroken]) => isBroken);
-  if (broken) {
-    throw new UsageFault(broken[1]);
+  const isOther = known && !questions.every((each) => Object.hasOwn(CHECKS, each));
+  const why = paths.length + entries.length === 0 ? usageOf(HELP)
+    : needy && entries.length === 0 ? `--${needy} needs --entry`
+    : broad && paths.length === 0 ? `--${broad} needs a PATH`
+    : picture && json ? `--json and --${picture} are two forms of the graph: ask for one`
+    : isOther ? "--known is for --cycles, --missing, --unreached, --packages and --forbid" : undefined;
+  if (why !== undefined) {
+    throw new UsageFault(why);
   }
 }
 
@@ -123,14 +115,4 @@ function lineOf({ path, info, fault }: FileResult, reporter: FileReporter, resol
   return `{"specifier":${JSON.stringify(specifier)},"info":${json}}\n`;
 }
 
-await runProgram({
-  name: NAME,
-  help: HELP,
-  options: {
-    ...RUN_OPTIONS,
-    ...flags("resolve", "unreached", "cycles", "missing", "packages", "known", "dot", "mermaid", "json"),
-    forbid: { type: "string", multiple: true }, why: { type: "string" }, dependents: { type: "string" },
-  },
-  choices: ["--cycles=runs"],
-  main,
-});
+await runProgram({ name: NAME, help: HELP, options: FILES_OPTIONS, choices: ["--cycles=runs"], main });

@@ -1,6 +1,6 @@
 /**
- * Options in the member `modinfo` of the current folder's package.json. Others may have written it: it can't name
- * files outside of the folder, and has no options that write a file or run a program.
+ * Options in the member `modinfo` of the current folder's package.json. Others may have written it: it can't
+ * name files outside of the folder, and has no options that write a file or run a program.
  */
 
 import { resolve as absolute, sep } from "node:path";
@@ -8,10 +8,9 @@ import { resolve as absolute, sep } from "node:path";
 import { MAX_CONFIGURATION, readRegularFile } from "../files/regular_files.js";
 import { realPath } from "../files/urls.js";
 import { unlessThrown } from "../runtime/faults.js";
-import { UsageFault, type Values, type Words } from "./command_line.js";
+import { UsageFault, type Words } from "./command_line.js";
 
 type Test = (value: unknown) => boolean;
-
 const isFlag: Test = (value) => typeof value === "boolean";
 const isText: Test = (value) => typeof value === "string";
 const isTexts: Test = (value) => Array.isArray(value) && value.every(isText);
@@ -19,19 +18,15 @@ const isKnown: Test = (value) => {
   return typeof value === "object" && value !== null && Object.values(value).every(isTexts);
 };
 
-/** By their names, whether a value is one of an option. */
 const OPTIONS: Record<string, Test> = {
   paths: isTexts, entry: isTexts, exclude: isTexts, ignore: isTexts, conditions: isTexts, forbid: isTexts,
   tsconfig: isText, types: isFlag, "no-dynamic": isFlag, cycles: (value) => isFlag(value) || value === "runs",
   missing: isFlag, unreached: isFlag, packages: isFlag, known: isKnown,
 };
 
-/** Those that name files. */
 const FILES = ["paths", "entry", "tsconfig"];
-
 /** The questions, which count only where the words have neither one nor an entry or a path. */
 const QUESTIONS = ["cycles", "missing", "unreached", "packages", "forbid"];
-
 /** `known` has the findings that aren't reported, by their questions */
 type ProjectOptions = { known?: Record<string, string[]>, paths?: string[] };
 
@@ -40,7 +35,7 @@ type ProjectOptions = { known?: Record<string, string[]>, paths?: string[] };
  * @param isAsked whether the words have a question, an entry or a path
  * @throws {UsageFault} an option isn't known, has another value, or names a file outside of the folder
  */
-export function withProjectOptions<V extends Values>(
+export function withProjectOptions<V>(
   { values, positionals }: Words<V>, isAsked: boolean,
 ): Words<V> & Required<Pick<ProjectOptions, "known">> {
   const { known = {}, paths = [], ...options }: ProjectOptions =

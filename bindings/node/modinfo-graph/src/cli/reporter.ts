@@ -6,21 +6,15 @@ import { UsageFault } from "./command_line.js";
 import type { FileResult } from "../files/read_files.js";
 
 const ENDINGS = ".js, .mjs, .cjs, .jsx, .ts, .mts, .cts or .tsx";
-
-/** The warning about a link that isn't followed. */
 const LEFT = "warning: a link out of the given paths is not followed (--follow follows it)";
-
-/** How long a line of progress stays as it is at least, in milliseconds. */
 const STEP = 100;
 const CLEAR = "\r\x1b[K";
-
 /** How many characters of a line are shown before an error, and from there on. */
 const AROUND = 70;
 
 /** Prints what is wrong with files and, on a terminal, a line of progress. */
 export class FileReporter {
   status = 0;
-  /** Whether there is a line of progress. */
   readonly isShown;
   #drawn = -Infinity;
   #found = 0;
@@ -36,7 +30,6 @@ export class FileReporter {
     this.isShown = Boolean(isShown && stream.isTTY);
   }
 
-  /** Counts a file that was found. */
   find() {
     this.#found++;
   }
@@ -53,7 +46,6 @@ export class FileReporter {
     this.#print(`warning: ${printable(text)}`);
   }
 
-  /** Prints what is wrong with configurations, each once. */
   notice(notices: string[] = []) {
     for (const notice of notices.filter((each) => !this.#noticed.has(each))) {
       this.#noticed.add(notice);
@@ -68,8 +60,7 @@ export class FileReporter {
     if (fault) {
       this.#print([describeFault(path, fault), ...excerptLines(path, fault)].join("\n"));
       this.#faults++;
-      this.status = 1;
-      process.exitCode = 1;
+      process.exitCode = this.status = 1;
     }
     this.#done++;
     if (this.isShown && performance.now() - this.#drawn >= STEP) {
@@ -93,12 +84,10 @@ export class FileReporter {
 }
 
 /** The line of a syntax error with a mark below, after a bar: so it can't be taken for a line of the output. */
-function excerptLines(path: string, { line, column = 1 }: Fault): string[] {
-  if (line === undefined) {
-    return [];
-  }
+function excerptLines(path: string, { line = 0, column = 1 }: Fault): string[] {
   // A file that has changed has no such line.
-  const text = unlessThrown(() => String(readRegularFile(path)).split("\n", line)[line - 1]);
+  const read = () => String(readRegularFile(path)).split("\n", line)[line - 1];
+  const text = line > 0 ? unlessThrown(read) : undefined;
   const characters = [...text ?? ""];
   const from = Math.max(0, column - 1 - AROUND);
   const before = printable(characters.slice(from, column - 1).join(""));

@@ -7,19 +7,18 @@ import { exclusionsOf } from "../files/exclusions.js";
 import { type Found, findFiles, readPaths } from "../files/find_files.js";
 import { type FileResult, readFiles } from "../files/read_files.js";
 import { type ProjectGraph, type ReadFile, readProject } from "../graph/read_graph.js";
-import { type Values, flags, readJobs } from "./command_line.js";
+import { FLAG, TEXT, TEXTS, type ValuesOf, readJobs } from "./command_line.js";
 import { FileReporter } from "./reporter.js";
 import type { ResolverOptions } from "../graph/resolver.js";
 
-const [text, texts] = [{ type: "string" }, { type: "string", multiple: true }] as const;
-
 /** The options of a program that reads many files into a graph, as node's `parseArgs` has them. */
 export const RUN_OPTIONS = {
-  ...flags("all", "follow", "gitignore", "types", "no-dynamic"), null: { type: "boolean", short: "0" },
-  jobs: text, tsconfig: text, entry: texts, exclude: texts, ignore: texts, conditions: texts,
-} as const;
+  all: FLAG, follow: FLAG, gitignore: FLAG, types: FLAG, "no-dynamic": FLAG, null: { ...FLAG, short: "0" },
+  jobs: TEXT, tsconfig: TEXT, entry: TEXTS, exclude: TEXTS, ignore: TEXTS, conditions: TEXTS,
+};
 
-/** What these options mean, for the help of a command. */
+export type Values = ValuesOf<typeof RUN_OPTIONS>;
+
 export const ENTRY_HELP = `\
   --entry FILE       where a program begins: a module, a page, or a folder with a package.json
   --exclude GLOB     doesn't list files and folders, as "*.test.ts" or "src/**/old"; follows them
@@ -38,7 +37,6 @@ export const RESOLUTION_HELP = `\
 
 /** How many paths are looked up ahead of the files that are read. */
 const AHEAD = 1_000_000;
-
 /** The name of a command, the values of its options, and the path of `modinfo` */
 export type Run<V extends Values = Values> = { name: string, values: V, paths: string[], program: string };
 
@@ -48,16 +46,14 @@ export async function runLines(
 ): Promise<number> {
   const { name, values, program } = run;
   const { all, follow } = values;
-  const options = { program, jobs: readJobs(values.jobs) };
+  const jobs = readJobs(values.jobs);
   const reporter = new FileReporter(name, !process.stdout.isTTY);
   const { paths, roots } = namedPaths(run);
   const { isLeftOut: isExcluded } = await exclusionsOf(values, roots);
   const files = findFiles(paths, { all, follow, roots, isExcluded });
-  for await (const result of readFiles(ahead(files, reporter), options)) {
+  for await (const result of readFiles(ahead(files, reporter), { program, jobs })) {
     reporter.report(result);
-    if (!result.isLeft) {
-      await write(result, reporter);
-    }
+    await (result.isLeft ? undefined : write(result, reporter));
   }
   reporter.end(run.paths);
   return reporter.status;
@@ -65,7 +61,6 @@ export async function runLines(
 
 /** `status` is 1 if a file can't be read, or an entry isn't there */
 export type GraphRun = ProjectGraph & { status: number };
-
 /** Whether excluded files are read too, for what they lead to, and whether declaration files are looked for */
 type Reading = { excluded: boolean, declarations?: boolean, onRead?: (result: ReadFile) => void };
 
@@ -89,7 +84,6 @@ export async function readRun(run: Run, { excluded, declarations, onRead }: Read
   return { ...read, status: read.absent.length > 0 ? 1 : reporter.status };
 }
 
-/** How names are resolved, by the words. */
 export function resolverOptions({ types = false, tsconfig, conditions }: Values): ResolverOptions {
   return { types, tsconfig: tsconfig === undefined ? undefined : absolute(tsconfig), conditions };
 }
@@ -105,7 +99,6 @@ function ahead(files: AsyncIterable<Found>, reporter: FileReporter): AsyncIterab
   return reporter.isShown ? Readable.from(counted(), { highWaterMark: AHEAD }) : files;
 }
 
-/** The paths that are named by the words or on the standard input, and those of the words. */
 function namedPaths({ paths: words, values }: Run): { paths: AsyncIterable<string>, roots: string[] } {
   const paths = async function* () {
     for (const path of words) {

@@ -7,23 +7,19 @@ import { promisify } from "node:util";
 import { inherited } from "./by_folder.js";
 import { foldersOf } from "./find_files.js";
 import { globMatcher } from "./globs.js";
+import type { GraphOptions } from "../options.cjs";
 
-/** git can't list what it ignores. */
 export class GitFault extends Error {}
 
 /** Whether a path, or a folder around it, is left out */
 type IsOut = (path: string) => boolean;
-
 /** Whether a file isn't listed, isn't read either, isn't listed by `exclude` alone, and one of the first two. */
 type Exclusions = Record<"isExcluded" | "isIgnored" | "isKept" | "isLeftOut", IsOut>;
-
-/** Globs as `globMatcher` takes them, and whether git decides what isn't listed. */
-type Words = { exclude?: string[], ignore?: string[], gitignore?: boolean };
+type Words = Pick<GraphOptions, "exclude" | "ignore" | "gitignore">;
 
 /** Git decides in the repositories of the paths. @returns rejected with a `GlobFault` or a `GitFault` */
-export async function exclusionsOf(
-  { exclude = [], ignore = [], gitignore = false }: Words, paths: string[],
-): Promise<Exclusions> {
+export async function exclusionsOf(words: Words, paths: string[]): Promise<Exclusions> {
+  const { exclude = [], ignore = [], gitignore = false } = words;
   const byGit = new Set((await Promise.all((gitignore ? foldersOf(paths) : []).map(ignoredBelow))).flat());
   const isOfGit = withFolders((path) => byGit.has(path), byGit.size > 0);
   const [isNamed, isIgnored] = [exclude, ignore].map(pathMatcher);
@@ -35,7 +31,6 @@ export async function exclusionsOf(
   };
 }
 
-/** Whether one of some globs matches a path, or a folder around it. @throws {GlobFault} */
 export function pathMatcher(globs: string[]): IsOut {
   const matchers = globs.map(globMatcher);
   return withFolders((path) => {

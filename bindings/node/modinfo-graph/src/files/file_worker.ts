@@ -22,7 +22,6 @@ const core = new Core(workerData);
 
 parentPort?.on("message", (path: string) => parentPort?.postMessage(answerOf(path)));
 
-/** The JSON of a `ModuleInfo`, or what is wrong. */
 type Reply = { info: string } | { fault: string, message: string, position?: [line: number, character: number] };
 
 function answerOf(path: string): Reply {
@@ -50,7 +49,6 @@ function urlOfFile(path: string): string {
   return `file://${encodeURIComponent(path).replace(LEFT, decodeURIComponent)}`;
 }
 
-/** @throws {FileFault} `Input` */
 function readModuleFile(name: string): Buffer {
   // In the path of a URL `..` takes away the step before it, be that a link or not.
   const path = name.includes("..") ? decodeURIComponent(new URL(urlOfFile(name)).pathname) : name;

@@ -17,16 +17,13 @@ export interface Found {
   isExcluded?: boolean;
 }
 
-/** Which files of folders are taken: what is left out and kept all the same has `isExcluded`. */
-interface Options extends Partial<Record<"isExcluded" | "isKept", (path: string) => boolean>> {
-  /** Whether to go into `node_modules` and into folders whose names begin with a dot */
-  all?: boolean;
-  /** Whether to follow links to files below no root, and the roots besides the folder itself */
-  follow?: boolean;
-  roots?: string[];
-  /** Whether to take components and pages too */
-  components?: boolean;
-}
+/**
+ * Which files of folders are taken: what is left out and kept all the same has `isExcluded`; with `all` those in
+ * `node_modules` and in folders whose names begin with a dot too; with `follow` links to files below no root,
+ * which `roots` are besides the folder itself.
+ */
+type Options = Partial<Record<"isExcluded" | "isKept", (path: string) => boolean>>
+  & Partial<Record<"all" | "follow" | "components", boolean>> & { roots?: string[] };
 
 /**
  * The files of some paths, in their order. A path that is not a folder is taken as it is. Of a folder
@@ -59,9 +56,7 @@ export async function* readPaths(input: AsyncIterable<Uint8Array>, separator: "\
   yield* [begun + decoder.decode()].filter((path) => path !== "");
 }
 
-/** @param roots their real paths */
 function* filesBelow(folder: string, options: Options, roots: string[]): Generator<Found, void> {
-  /** Files, and the paths of folders. */
   const todo: (Found | string)[] = [folder];
   for (let next = todo.pop(); next !== undefined; next = todo.pop()) {
     if (typeof next !== "string") {
@@ -71,8 +66,7 @@ function* filesBelow(folder: string, options: Options, roots: string[]): Generat
     try {
       entriesOf(next, options, roots).forEach((entry) => todo.push(entry));
     } catch (reason) {
-      const error = reason as Error;
-      yield { path: next, error };
+      yield { path: next, error: reason as Error };
     }
   }
 }
@@ -129,12 +123,9 @@ function isThere(path: string): boolean {
   }
 }
 
-/** @returns nothing where it leads to nothing */
 const statusOf = (path: string) => unlessThrown(() => statSync(path));
-
 /** @returns false also where nothing is there */
 export const isFolder = (path: string): boolean => statusOf(path)?.isDirectory() ?? false;
-
 /** @returns false also where nothing is there, or no regular file */
 export const isFile = (path: string): boolean => statusOf(path)?.isFile() ?? false;
 

@@ -3,8 +3,6 @@
  * several texts. The time of a match is at most the product of the lengths of the glob and the path.
  */
 
-
-/** The most globs that the braces of one stand for. */
 const MOST_GLOBS = 1000;
 
 export class GlobFault extends Error {
@@ -43,35 +41,32 @@ function spelledOut(path: string, glob: string): string[] {
 
 /** Whether a text is what a pattern has: `*` is any characters, `?` one. */
 export function matchesName(pattern: string, text: string): boolean {
-  return matches([...pattern], [...text], "*", (one, other) => one === "?" || one === other);
+  return matchesItems([...pattern], [...text], "*", (one, other) => one === "?" || one === other);
 }
 
 /** Like `matchesName` in each part of a path; `**` as a part is any folders, and at the end all in a folder. */
 export function matchesPath(pattern: string, path: string): boolean {
   const whole = pattern.replace(/(^|\/)\*\*$/, "$1**/*");
-  return matches(whole.split("/"), path.split("/"), "**", matchesName);
+  return matchesItems(whole.split("/"), path.split("/"), "**", matchesName);
 }
 
 /**
  * Whether items are those of a pattern, in which `any` stands for any number of them. An `any` takes
  * more only where what follows it fails: then none before it needs another try.
  */
-function matches(
+export function matchesItems(
   pattern: string[], items: string[], any: string, isSame: (one: string, other: string) => boolean,
 ) {
   let [at, taken] = [0, 0];
   let last: { at: number, taken: number } | undefined;
   while (taken < items.length) {
     if (pattern[at] === any) {
-      last = { at, taken };
-      at++;
+      last = { at: ++at, taken };
     } else if (at < pattern.length && isSame(pattern[at], items[taken])) {
-      at++;
-      taken++;
+      [at, taken] = [at + 1, taken + 1];
     } else if (last) {
       last.taken++;
-      at = last.at + 1;
-      taken = last.taken;
+      ({ at, taken } = last);
     } else {
       return false;
     }

@@ -12,27 +12,24 @@ import { unlessThrown } from "../runtime/faults.js";
 
 /** The package that has the program for this system, where there is one. */
 const PACKAGE = `modinfo-${process.platform}-${process.arch}`;
-
 /** The repository, where this package is a part of it. */
 const REPOSITORY = /^(.*\/)bindings\/node\/modinfo-graph\/dist\/files\//.exec(import.meta.url)?.[1];
 
-/** Which program runs, for the help of the commands that run one. */
 export const PROGRAM_HELP = `\
 The program is that of the package ${PACKAGE}; else what the environment variable MODINFO
 names; else, in the repository, the proved one; else WebAssembly, in threads: --version prints which.
 `;
 
 /**
- * The absolute path of the program of the package that npm installs beside this one; else what the environment
- * variable MODINFO names; else, in the repository, the proved program; else the WebAssembly module. What is called
- * `modinfo` on the PATH is another program on most systems, and is not looked for.
+ * The absolute path of the program of the package that npm installs beside this one; else what the
+ * environment variable MODINFO names; else, in the repository, the proved program; else the WebAssembly
+ * module. What is called `modinfo` on the PATH is another program on most systems, and is not looked for.
  * @throws {ProgramEnd} there is none of them
  */
 export function modinfoPath(): string {
   return absolute(installedPath() || process.env.MODINFO || builtPath() || modulePath());
 }
 
-/** @returns which program runs, for people */
 export function programName(): string {
   try {
     const path = modinfoPath();
@@ -44,7 +41,6 @@ export function programName(): string {
 
 /** Whether a path is that of a WebAssembly module, or of the file of `modinfo` that has the module as text. */
 export const isWasm = (program: string): boolean => /\.wasm$|[\\/]module\.js$/.test(program);
-
 const installedPath = () => unlessThrown(() => ownRequire.resolve(`${PACKAGE}/modinfo`));
 
 function builtPath() {
@@ -74,13 +70,10 @@ async function endOf(program: string): Promise<string> {
   return signal ?? `status ${status}`;
 }
 
-/** The folder of Debian's packages. Debian's node looks for modules there, others don't. */
 export const DEBIAN_MODULES = "/usr/share/nodejs";
-
 /** What node loads from this package, or from the bundle with it: never a module of a project that is read. */
 export const ownRequire = createRequire(import.meta.url ?? __filename);
 
-/** @throws {Error} it isn't installed */
 export function loadTypeScript(): unknown {
   for (const path of ["typescript", `${DEBIAN_MODULES}/typescript`]) {
     try {
@@ -94,5 +87,4 @@ export function loadTypeScript(): unknown {
   throw new Error("types need TypeScript: npm install typescript, or Debian's node-typescript");
 }
 
-/** The text of a file of this package, or of one that is installed for it. */
 export const readOwnFile = (path: string | URL): string => readFileSync(path, "utf8");

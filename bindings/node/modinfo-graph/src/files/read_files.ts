@@ -24,23 +24,16 @@ export interface ReadOptions {
 
 export type Read = Pick<FileResult, "value" | "fault">;
 
-export interface FileResult extends Omit<Found, "error" | "isExcluded"> {
-  /** The JSON of its `ModuleInfo` */
-  info?: string | Buffer;
-  /** The `ModuleInfo`, where it is of several texts */
-  value?: ModuleInfo;
-  fault?: Fault;
-}
+/** `info` is the JSON of its `ModuleInfo`, `value` the `ModuleInfo`, where it is of several texts */
+export type FileResult = Omit<Found, "error" | "isExcluded">
+  & { info?: string | Buffer, value?: ModuleInfo, fault?: Fault };
 
 /** Files that the system calls regular, some of which have no end. */
 const ENDLESS = /^\/(?:proc|sys)\//;
-
 /** How many files are under way for each process: so many are done while an early one takes long. */
 const UNDER_WAY = 256;
-
 const INFO = ',"info":';
 
-/** What is in each file, in the order of the files. */
 export function readFiles(
   files: AsyncIterable<Found>, { program, jobs, signal, readOther = () => undefined }: ReadOptions,
 ): AsyncGenerator<FileResult, void> {
@@ -89,15 +82,10 @@ function readAnswer(line: Buffer): Answer | undefined {
   return typeof name === "string" ? { error: new FileFault(name, message, position) } : undefined;
 }
 
-/** For some dozen paths. */
-const ROOM = 1 << 10;
-
-/** @param path of the module */
 export function threadsOf(path: string): Kind {
   const workerData = compiledModule(path);
   return {
     name: "a thread",
-    room: ROOM,
     start: ({ onAnswer, onEnd }) => {
       const worker = new Worker(new URL("./file_worker.js", import.meta.url), { workerData });
       worker.on("message", ({ info, fault, message, position }) => {
@@ -107,7 +95,6 @@ export function threadsOf(path: string): Kind {
       worker.on("exit", () => onEnd("ended: it ended"));
       return {
         send: (path) => worker.postMessage(path.slice(0, -1)),
-        hold: (isHeld) => (isHeld ? worker.ref() : worker.unref()),
         kill: () => worker.terminate(),
       };
     },

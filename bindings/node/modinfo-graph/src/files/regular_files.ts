@@ -1,7 +1,6 @@
 /**
- * Reads regular files alone: a FIFO or a device may never end, and opening one may have effects. Resolution
- * looks at what paths lead to, and opens package.json and configurations. Where each path leads is known
- * before anything is opened. What is found is kept: a path is looked at once.
+ * Reads regular files alone: a FIFO or a device may never end, and opening one may have effects. So where a
+ * path leads is known before it is opened, and is kept: a path is looked at once.
  */
 
 import fs, { type Dirent, type Stats, constants, statSync } from "node:fs";
@@ -12,13 +11,9 @@ import { foldersFrom, inherited } from "./by_folder.js";
 
 /** The most bytes of a file, where no other limit is given: 64 MiB. */
 export const MAX_BYTES = 64 * 2 ** 20;
-
 /** The first bytes that are asked for of a file without a size, as those in /proc are. */
 const FIRST_PART = 2 ** 16;
-
 const decoder = new TextDecoder("utf-8", { fatal: true, ignoreBOM: true });
-
-/** Throws a `FileFault` for a file that isn't regular. */
 type Check = (status: Stats) => void;
 
 /** The content of a regular file, checked before and after it is opened. @throws {FileFault | Error} */
@@ -39,8 +34,7 @@ export function readRegularText(path: string, maxBytes = MAX_BYTES): string {
 
 /** The content of a file; `flags` are those besides the ones for reading. @throws {FileFault | Error} */
 export function readOpened(
-  path: string, maxBytes: number, flags = 0,
-  system: Pick<typeof fs, "openSync" | "fstatSync" | "readSync" | "closeSync"> = fs, check: Check = requireRegular,
+  path: string, maxBytes: number, flags = 0, system: System = fs, check: Check = requireRegular,
 ): Buffer {
   return withOpened(path, flags, system, (file) => {
     const status = system.fstatSync(file);
@@ -50,7 +44,6 @@ export function readOpened(
   });
 }
 
-/** The first bytes of a file, at most so many, as text. */
 export function readBeginning(path: string, length: number): string {
   const bytes = Buffer.alloc(length);
   return withOpened(path, 0, fs, (file) => bytes.toString("utf8", 0, fs.readSync(file, bytes, 0, length, 0)));
@@ -58,7 +51,7 @@ export function readBeginning(path: string, length: number): string {
 
 /** Opens a file that by now may be something else: opening doesn't wait for a FIFO's writer. */
 function withOpened<T>(
-  path: string, flags: number, system: Pick<typeof fs, "openSync" | "closeSync">, use: (file: number) => T,
+  path: string, flags: number, system: System, use: (file: number) => T,
 ): T {
   const file = system.openSync(path, constants.O_RDONLY | constants.O_NONBLOCK | constants.O_NOCTTY | flags);
   try {
@@ -69,20 +62,15 @@ function withOpened<T>(
 }
 
 /** Reads to the end, which need not be where the size has it. */
-function readAtMost(file: number, size: number, maxBytes: number, { readSync }: Pick<typeof fs, "readSync">) {
+function readAtMost(file: number, size: number, maxBytes: number, { readSync }: System) {
   let bytes = Buffer.allocUnsafe((size || FIRST_PART) + 1);
   let length = 0;
-  for (;;) {
-    const count = readSync(file, bytes, length, bytes.length - length, null);
-    length += count;
+  for (let count = 1; count > 0; length += count) {
     requireAtMost(maxBytes, length);
-    if (count === 0) {
-      return bytes.subarray(0, length);
-    }
-    if (length === bytes.length) {
-      bytes = Buffer.concat([bytes], 2 * length);
-    }
+    bytes = length === bytes.length ? Buffer.concat([bytes], 2 * length) : bytes;
+    count = readSync(file, bytes, length, bytes.length - length, null);
   }
+  return bytes.subarray(0, length);
 }
 
 function requireAtMost(maxBytes: number, length: number) {
@@ -104,31 +92,23 @@ export type System = Pick<typeof fs, "lstatSync" | "realpathSync" | "readdirSync
 
 /** What a path leads to, its path without links (empty for nothing), and whether there is a link on the way. */
 export type Entry = { kind: "file" | "folder" | "other" | "none", path: string, isLinked: boolean };
-
 /** The most bytes of a package.json or a configuration: 4 MiB. */
 export const MAX_CONFIGURATION = 4 * 2 ** 20;
-
-/** The most bytes of a name in a folder, with the slash before it. */
 const MAX_NAME = 256;
-
 /** How many paths are kept: names without number must not take memory without end. */
 const MAX_ENTRIES = 500_000;
-
 const ROOT: Entry = { kind: "folder", path: "/", isLinked: false };
 const NONE: Entry = { kind: "none", path: "", isLinked: false };
-
 const NO_LINK = fs.constants.O_NOFOLLOW ?? 0;
 
 export class RegularFiles {
   #entries = new Map<string, Entry>();
   #roots = new Set<string>();
-  /** Whether a folder is a root, or is in one. */
   #isInside: (folder: string) => boolean = () => false;
   #hasAll = false;
   /** Folders above a root: their own package.json and configurations count. */
   #above = new Set<string>();
 
-  /** @param system what looks at files and opens them */
   constructor(private readonly system: System = fs) {}
 
   /** Adds a folder in which files may be, together with each `node_modules` above it. */
@@ -144,7 +124,6 @@ export class RegularFiles {
     }
   }
 
-  /** Adds a folder in which files may be. */
   addFolder(path: string) {
     const { kind, path: root } = this.at(path);
     if (kind === "folder") {
@@ -211,7 +190,6 @@ export class RegularFiles {
     return (items || []).filter((item) => kindOf(item) === kind).map(({ name }) => name).sort();
   }
 
-  /** @param path in it */
   #look(parent: Entry, path: string): Entry {
     if (this.#entries.size > MAX_ENTRIES) {
       this.#entries.clear();

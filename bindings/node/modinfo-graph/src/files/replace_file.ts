@@ -8,13 +8,12 @@ import { basename, dirname, join, resolve as absolute } from "node:path";
 import { readBeginning } from "./regular_files.js";
 import { realPath } from "./urls.js";
 
-/** The bytes by which a file is known for an earlier output. */
 const BEGINNING = 4096;
 
 /**
- * Writes a file under another name in its folder, and renames it. A link stays, and the file that it
- * leads to is replaced. What is there and is no regular file, as a device or a FIFO, is written to; a FIFO that
- * nobody reads is an error.
+ * Writes a file under another name in its folder, and renames it. A link stays, and the file that it leads to
+ * is replaced. What is there and is no regular file, as a device or a FIFO, is written to; a FIFO that nobody
+ * reads is an error.
  * @returns rejected with the system's error
  */
 export async function replaceFile(path: string, text: string): Promise<void> {
@@ -38,8 +37,8 @@ export async function replaceFile(path: string, text: string): Promise<void> {
 }
 
 /**
- * Whether an output may replace what is at a path: nothing, an empty file, what is no regular file, or an earlier
- * output.
+ * Whether an output may replace what is at a path: nothing, an empty file, what is no regular file, or an
+ * earlier output.
  * @param isOutput whether a file that begins so is an earlier output
  */
 export function isReplaceable(path: string, isOutput: (text: string) => boolean): boolean {

@@ -10,22 +10,9 @@ import { memoized } from "./by_folder.js";
 /** A path of which each character stands for itself in a URL. */
 const PLAIN = /^[\w./@+~-]*$/;
 
-/** How many URLs are kept: paths without number must not take memory without end. */
-const MAX_KEPT = 100_000;
-
-const urls = new Map<string, string>();
-
 /** @param path absolute and normal */
 export function urlOfPath(path: string): string {
-  let url = urls.get(path);
-  if (url === undefined) {
-    url = PLAIN.test(path) ? `file://${path}` : pathToFileURL(path).href;
-    if (urls.size === MAX_KEPT) {
-      urls.clear();
-    }
-    urls.set(path, url);
-  }
-  return url;
+  return PLAIN.test(path) ? `file://${path}` : pathToFileURL(path).href;
 }
 
 /** @returns nothing where the text is no URL */
@@ -34,16 +21,11 @@ export function urlFrom(text: string, base?: URL): URL | undefined {
   return canParse(text, base) ? new URL(text, base) : undefined;
 }
 
-/** @returns with a slash at the end */
 export const urlOfFolder = (folder: string): URL => pathToFileURL(`${folder}/`);
-
 /** @returns nothing where the URL can't have a path */
 export const pathOfUrl = (url: URL): string | undefined => unlessThrown(() => fileURLToPath(url));
-
 /** @returns the path without links in it; nothing where it leads to nothing */
 export const realPath = (path: string): string | undefined => unlessThrown(() => realpathSync.native(path));
-
-/** Like `canonicalUrl` */
 export type KeyOf = (path: string, real?: string) => string;
 
 /** The URL of a file without symbolic links in it; `real` is the path without links, where it is known. */

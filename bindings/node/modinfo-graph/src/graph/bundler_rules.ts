@@ -1,7 +1,7 @@
 /**
- * What compilers and bundlers find for a name where node finds nothing: a file by its name without
- * the ending, the index of a folder, a TypeScript file by its JavaScript's name, a name with a query,
- * and the other main modules of a package.
+ * What compilers and bundlers find where node finds nothing: a file by its name without the ending, the index
+ * of a folder, a TypeScript file by its JavaScript's name, a name with a query, and other main modules of a
+ * package.
  */
 
 import { join, resolve as absolute } from "node:path";
@@ -18,25 +18,19 @@ const SCRIPT_ENDINGS = [".js", ".jsx", ".mjs"];
 const TYPESCRIPT_ENDINGS = [".ts", ".tsx", ".mts"];
 const OTHER_ENDINGS = [".json", ".vue", ".svelte", ".css", ".d.ts"];
 
-/** The endings of TypeScript's files by those of their JavaScript. */
 const COMPILED: Record<string, string[]> = {
   ".js": [".ts", ".tsx", ".d.ts"], ".jsx": [".tsx", ".ts", ".d.ts"], ".mjs": [".mts", ".d.mts"],
   ".cjs": [".cts", ".d.cts"],
 };
 
 const SCRIPT = /\.[cm]?jsx?$/;
-/** What follows a path in bundlers' names. */
 const QUERY = /(?!^)[?#].*$/s;
 /** What webpack's names have before the module: the loaders for it. */
 const LOADERS = /^.*!/s;
-
 /** What names of files for one platform alone have before their endings. */
 export const PLATFORMS = [".ios", ".android", ".native", ".web", ".windows", ".macos"];
-
 /** The members of a package.json that have files in the place of others, that for browsers first. */
 const REPLACING = ["browser", "react-native"];
-
-/** The members of a package.json that name a main module, besides node's. */
 const MAIN_FIELDS = ["module", "main", "jsnext:main", "source", "types", "typings"];
 
 /** Whether TypeScript's files come first, and what names may have before their endings */
@@ -104,7 +98,6 @@ export class BundlerRules {
   }
 }
 
-/** @returns the paths of files in the order in which they are tried */
 function namesOf(path: string, { isTypeScript, suffixes = [""] }: Source): string[] {
   const ending = SCRIPT.exec(path)?.[0] ?? "";
   const base = path.slice(0, path.length - ending.length);

@@ -1,60 +1,47 @@
-/** The tsconfig.json and jsconfig.json that are for files, and what they have about names. */
+/** The tsconfig.json and jsconfig.json that are for files, and where names may be by these and by import maps. */
 
-import { dirname, join, resolve as absolute } from "node:path";
+import { isBuiltin } from "node:module";
+import { dirname, join, relative, resolve as absolute, sep } from "node:path";
 
 import { foldersFrom, memoized, nearest } from "../files/by_folder.js";
+import { withoutEnding } from "../files/file_kinds.js";
 import { matchesPath } from "../files/globs.js";
-import { Notices, firstIn, isThere, membersAt, parseWithComments } from "./members.js";
-import { isPath } from "./names.js";
-import { isObject } from "./package_targets.js";
+import { isPath, pathOf } from "./names.js";
+import {
+  type Format, Notices, type PackageManifests, firstIn, isThere, membersAt, parseWithComments,
+} from "./package_manifests.js";
+import { isObject, longestPattern } from "./package_targets.js";
 import type { RegularFiles } from "../files/regular_files.js";
+import type { Configured, ImportMaps } from "./import_maps.js";
 
-/** In the order in which a folder is looked through. */
+const TO_REQUIRE = ["commonjs", "amd", "umd", "system", "none"];
 const NAMES = ["tsconfig.json", "jsconfig.json"];
-
-/** How many configurations extend each other at most. */
 const MAX_EXTENDED = 32;
-
 /** After how many merged configurations each is merged once, also where some extend each other in a loop. */
 const MAX_MERGED = 1000;
-
-/** What a configuration includes that says nothing about it. */
 const ALL = ["**/*"];
 const MODULES = "node_modules";
 const NEVER = [MODULES, "bower_components", "jspm_packages"];
-
 const HAS_WILDCARD_OR_EXTENSION = /[*?]|\.[^./]+$/;
-
 const CONFIG_DIR = /^\$\{configDir\}/i;
 
-/** Those that decide what names lead to, with absolute paths */
-export interface Options {
-  /** Targets by the patterns of names, as they are written */
-  paths?: Map<string, string[]>;
-  /** The folder of the configuration that has `paths` */
-  pathsFolder?: string;
-  baseUrl?: string;
-  rootDirs?: string[];
-  rootDir?: string;
-  outDir?: string;
-  declarationDir?: string;
-  /** In lower case */
-  module?: string;
-  moduleSuffixes?: string[];
-  jsxImportSource?: string;
-}
+/**
+ * The options that decide what names lead to, with absolute paths; `paths` has targets by the patterns of
+ * names, as they are written, `pathsFolder` is the folder of the configuration that has it; `module` is in
+ * lower case.
+ */
+export type Options =
+  & { [Name in "pathsFolder" | "baseUrl" | "rootDir" | "outDir" | "declarationDir" | "module"]?: string }
+  & { [Name in "rootDirs" | "moduleSuffixes"]?: string[] }
+  & { paths?: Map<string, string[]>, jsxImportSource?: string };
 
 /** Which files a configuration includes, where it says so; absolute patterns */
 type Lists = { [Name in "files" | "include" | "exclude"]?: string[] };
 
 /** A configuration together with those that it extends, perhaps in a loop; null takes an inherited option away. */
-interface Extended {
-  options: { [Name in keyof Options]: Options[Name] | null };
-  members: Lists & { references?: unknown };
-  isInLoop: boolean;
-}
+type Extended = { options: { [Name in keyof Options]: Options[Name] | null } }
+  & { members: Lists & { references?: unknown }, isInLoop: boolean };
 
-/** The configurations that are known, and how many were merged */
 type Merged = { known: Map<string, Extended>, count: number };
 
 /** Together with those that it extends; `references` are the paths of those that it refers to. */
@@ -68,9 +55,9 @@ export class Configurations {
   constructor(private readonly files: RegularFiles, private readonly fixed?: string) {}
 
   /**
-   * The configuration for a file: the nearest one or, where that refers to others and doesn't include the file
-   * itself, the first one of these that does; none for an installed file. And whether it includes the file, or is
-   * for all files.
+   * The configuration for a file: the nearest one or, where that refers to others and doesn't include the
+   * file itself, the first one of these that does; none for an installed file. And whether it includes the
+   * file, or is for all files.
    */
   readonly of = memoized((file: string): { configuration?: Configuration, isIncluded: boolean } => {
     const all = file.includes("/node_modules/") ? [] : this.allOf(dirname(file));
@@ -82,11 +69,11 @@ export class Configurations {
   /** The nearest configuration of a folder, with those that it refers to, each once. */
   allOf(folder: string): Configuration[] {
     const own = this.fixed === undefined ? this.nearest(folder) : this.read(this.fixed);
-    const found = new Map<string, Configuration>(own && [[own.path, own]]);
-    for (const { references } of found.values()) {
-      references.filter((path) => isThere(path, this.files)).forEach((path) => found.set(path, this.read(path)));
+    const found = new Set(own && [own]);
+    for (const { references } of found) {
+      references.filter((path) => isThere(path, this.files)).forEach((path) => found.add(this.read(path)));
     }
-    return [...found.values()];
+    return [...found];
   }
 
   private readonly nearest = nearest((folder) => {
@@ -159,7 +146,7 @@ export class Configurations {
   }
 }
 
-export function outDirsOf({ outDir, declarationDir }: Options): string[] {
+function outDirsOf({ outDir, declarationDir }: Options): string[] {
   return [outDir, declarationDir].flatMap((each) => each ?? []);
 }
 
@@ -171,7 +158,6 @@ function placeOf(folder: string, main: string, note: (why: string) => void) {
 
 /** The folder of the file whose options are read, and what makes paths of the texts in it */
 type Place = ReturnType<typeof placeOf>;
-
 /** The shape that an option has, and what is read of one; nothing where it has another shape */
 type Reader = [shape: string, read: (value: unknown, place: Place) => unknown];
 
@@ -197,14 +183,13 @@ function optionsOf(options: unknown = {}, place: Place): Extended["options"] {
     place.note(`"compilerOptions" must be an object`);
     return {};
   }
-  const own: Record<string, unknown> = {};
+  const own: Extended["options"] = {};
   for (const [name, [shape, read]] of Object.entries(READERS).filter(([each]) => Object.hasOwn(options, each))) {
     const value = options[name] === null ? null : read(options[name], place);
     if (value === undefined) {
       place.note(`${JSON.stringify(name)} is ignored: not ${shape}`);
-    } else {
-      own[name] = value;
     }
+    Object.assign(own, value !== undefined && { [name]: value });
   }
   return own.paths === undefined ? own : { ...own, pathsFolder: own.paths && place.folder };
 }
@@ -232,14 +217,98 @@ function listsOf(members: Record<string, unknown>, { at }: Place): Lists {
   }));
 }
 
-/** Whether a configuration includes a file. */
 function includes({ files, include, exclude }: Configuration, file: string) {
-  const has = (pattern: string) => matchesPattern(pattern, file);
+  // A pattern without a wildcard or an ending is a folder's, and has all below it.
+  const has = (pattern: string) => {
+    const isFile = HAS_WILDCARD_OR_EXTENSION.test(pattern.slice(pattern.lastIndexOf("/") + 1));
+    return (isFile && matchesPath(pattern, file)) || matchesPath(join(pattern, "**"), file);
+  };
   return files.includes(file) || (include.some(has) && !exclude.some(has));
 }
 
-/** @param pattern of `include` or `exclude`, absolute; a folder has all below it */
-function matchesPattern(pattern: string, file: string) {
-  const isFile = HAS_WILDCARD_OR_EXTENSION.test(pattern.slice(pattern.lastIndexOf("/") + 1));
-  return (isFile && matchesPath(pattern, file)) || matchesPath(join(pattern, "**"), file);
+export class ConfiguredNames {
+  constructor(
+    private readonly manifests: PackageManifests, private readonly configurations: Configurations,
+    private readonly importMaps: ImportMaps, private readonly isBrowser: boolean,
+  ) {}
+
+  formatOf(file: string, isTypeScript: boolean): Format | undefined {
+    const isDeno = this.importMaps.of(file)?.isDeno;
+    const format = isDeno ? "import" : this.manifests.formatOf(file);
+    if (isDeno || !isTypeScript) {
+      return format;
+    }
+    const { configuration } = this.configurations.of(file);
+    const { module = "" } = configuration?.options ?? {};
+    if (!configuration || module.startsWith("node")) {
+      return format ?? "require";
+    }
+    return TO_REQUIRE.includes(module) ? "require" : format === "import" ? format : undefined;
+  }
+
+  /** Where a name in a file may be, before other rules are asked. */
+  find(specifier: string, importer: string): Configured | undefined {
+    const mapped = this.importMaps.find(specifier, importer);
+    const isFirst = !mapped && !isPath(specifier) && this.configurations.of(importer).isIncluded;
+    return isFirst ? byTsconfig(this.inNames(specifier, importer)) : mapped;
+  }
+
+  /** Where a name in a file may be that no other rule finds. */
+  findElsewhere(specifier: string, importer: string): Configured | undefined {
+    const { configuration, isIncluded } = this.configurations.of(importer);
+    if (isPath(specifier)) {
+      return byTsconfig(inRootDirs(specifier, importer, configuration?.options.rootDirs));
+    }
+    return isIncluded ? undefined : byTsconfig(this.inNames(specifier, importer));
+  }
+
+  private inNames(specifier: string, importer: string): string[] {
+    const { options = {} } = this.configurations.of(importer).configuration ?? {};
+    const { baseUrl, paths } = options;
+    const isNode = !this.isBrowser && isBuiltin(specifier) && !paths?.has(specifier);
+    const inBase = baseUrl === undefined ? [] : [pathOf(specifier, baseUrl)];
+    return isNode ? [] : [...inPaths(specifier, options), ...inBase];
+  }
+
+  /** @returns the same for files of a folder of which each name leads to the same */
+  scopeOf(file: string): string {
+    const { configuration, isIncluded } = this.configurations.of(file);
+    return this.importMaps.of(file) ? file : `${isIncluded} ${configuration?.path}`;
+  }
+
+  /** Where the source of a compiled file may be: paths of JavaScript, and without what is added to names. */
+  sourcesOf(path: string): string[] {
+    return this.configurations.allOf(dirname(path)).flatMap((configuration) => {
+      const outDirs = outDirsOf(configuration.options);
+      const inside = outDirs.filter((each) => path.startsWith(each + sep)).map((each) => relative(each, path));
+      // The source of x.cjs and of x.d.cts is x.cts, if that is there.
+      const names = inside.map((each) => [each.replace(/\.d\.([cm]?)ts$/, ".$1js"), withoutEnding(each)]);
+      const folders = sourceFolders(configuration);
+      return names.flatMap((each) => folders.flatMap((folder) => each.map((name) => join(folder, name))));
+    });
+  }
+}
+
+function byTsconfig(paths: string[]): Configured | undefined {
+  return paths.length > 0 ? { by: "tsconfig", paths } : undefined;
+}
+
+/** The paths of a name by `paths`: of the pattern that it is, else of the longest one for it. */
+function inPaths(specifier: string, { baseUrl, paths = new Map(), pathsFolder = "" }: Options): string[] {
+  const best = paths.has(specifier) ? undefined : longestPattern([...paths.keys()], specifier);
+  const targets = paths.get(best?.key ?? specifier) ?? [];
+  return targets.map((each) => pathOf(best ? each.replace("*", () => best.match) : each, baseUrl ?? pathsFolder));
+}
+
+function inRootDirs(specifier: string, importer: string, rootDirs: string[] = []): string[] {
+  const path = pathOf(specifier, dirname(importer));
+  const inside = rootDirs.filter((each) => path.startsWith(each + sep))
+    .sort((one, other) => other.length - one.length)[0];
+  return inside === undefined ? [] : rootDirs.map((each) => join(each, path.slice(inside.length)));
+}
+
+function sourceFolders({ folder, include, options: { rootDir, rootDirs = [] } }: Configuration): string[] {
+  const included = include.map((pattern) => pattern.replace(/\/[^/]*[*?].*$|\/[^/]*\.[^/]*$/, ""));
+  const guessed = [...included, join(folder, "src"), folder];
+  return rootDir === undefined ? [...new Set([...rootDirs, ...guessed])] : [rootDir];
 }

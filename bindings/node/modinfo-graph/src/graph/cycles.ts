@@ -3,12 +3,10 @@
 import { isRunKind } from "./references.js";
 
 /**
- * Modules, ascending, and a shortest path from the first back to it, without its end. Edges that run close the
- * cycle; else edges of types, JSDoc or references, of which the path has one.
+ * Modules, ascending, and a shortest path from the first back to it, without its end. Edges that run close
+ * the cycle; else edges of types, JSDoc or references, of which the path has one.
  */
 export type Cycle = { modules: number[], path: number[], isRun: boolean };
-
-/** Between the indexes of two modules. */
 type Edge = { from: number, to: number, kind: string };
 
 /**
@@ -21,12 +19,9 @@ export function cyclesOf(count: number, edges: Edge[]): Cycle[] {
   const next = running.length === edges.length ? runs : successors(count, edges);
   const run = components(runs);
   const groups = new Map(run.flatMap((modules, at) => modules.map((each) => [each, at] as const)));
-  /** Whether a cycle of what runs has both. */
   const isTogether = (one: number, other: number) => groups.has(one) && groups.get(one) === groups.get(other);
-  const others = next === runs ? [] : components(next).filter((modules) => {
-    return modules.some((each) => !isTogether(modules[0], each));
-  });
-  /** A cycle through an edge of types. */
+  const others = (next === runs ? [] : components(next))
+    .filter((modules) => modules.some((each) => !isTogether(modules[0], each)));
   const joined = (modules: number[]) => {
     const inside = new Set(modules);
     const isJoin = (from: number) => (to: number) => inside.has(to) && !isTogether(from, to);
@@ -34,10 +29,9 @@ export function cyclesOf(count: number, edges: Edge[]): Cycle[] {
     const to = next[from].find(isJoin(from)) as number;
     return to === from ? [from] : [from, ...shortestWay(to, from, inside, next)];
   };
+  const loop = (modules: number[]) => shortestWay(modules[0], modules[0], new Set(modules), runs);
   return [
-    ...run.map((modules) => {
-      return { modules, path: shortestWay(modules[0], modules[0], new Set(modules), runs), isRun: true };
-    }),
+    ...run.map((modules) => ({ modules, path: loop(modules), isRun: true })),
     ...others.map((modules) => ({ modules, path: joined(modules), isRun: false })),
   ].sort((one, other) => one.modules[0] - other.modules[0] || Number(other.isRun) - Number(one.isRun));
 }
@@ -94,10 +88,7 @@ function leavingOrder(next: number[][]): number[] {
 
 /** All that some starts reach, the nearest first, each with the one that leads to it first; none for a start. */
 export function ways<Key>(starts: Iterable<Key>, next: (key: Key) => Key[]): Map<Key, Key | undefined> {
-  const before = new Map<Key, Key | undefined>();
-  for (const start of starts) {
-    before.set(start, undefined);
-  }
+  const before = new Map<Key, Key | undefined>([...starts].map((start) => [start, undefined]));
   // What is added meanwhile follows.
   for (const [key] of before) {
     next(key).filter((to) => !before.has(to)).forEach((to) => before.set(to, key));
@@ -105,7 +96,6 @@ export function ways<Key>(starts: Iterable<Key>, next: (key: Key) => Key[]): Map
   return before;
 }
 
-/** The keys from a start to a key that is reached. */
 export function wayTo<Key>(end: Key, before: Map<Key, Key | undefined>): Key[] {
   const way = [];
   for (let key: Key | undefined = end; key !== undefined; key = before.get(key)) {

@@ -18,10 +18,8 @@ export class EntryFault extends Error {}
 
 /** Paths of modules, what isn't there, and scripts without an ending, which aren't parsed. */
 type EntryPoints = Record<"files" | "absent" | "texts", string[]> & { perhaps: Perhaps[] };
-
 /** What the package.json at `from` may lead to: the file at a path; without a path, what the text names. */
 export type Perhaps = { kind: "condition" | "text", path?: string, from: string, text: string };
-
 /** The members of a package.json that name modules, and of tools, whose files may be missing. */
 const MEMBERS = ["main", "module", "bin", "browser"];
 const OF_TOOLS = ["unpkg", "jsdelivr", "react-native", "source", "svelte", "jsnext:main"];
@@ -34,7 +32,6 @@ const NO_TEXTS = new Set([
   "optionalDependencies", "bundleDependencies", "bundledDependencies", "overrides", "resolutions",
 ]);
 
-/** The words of a command, and those before its name. */
 const WORD = /[^\s"'`=()<>]+/g;
 const BEFORE = /^\s*(?:(?:\w+=\S*|cross-env|env|exec|npx|yarn|pnpm|bunx|time)\s+)*/;
 
@@ -51,9 +48,9 @@ export async function entryPoints(paths: string[], conditions: readonly string[]
     const found = { files: [path], absent: [], texts: [], perhaps: [] };
     all.push(isFolder(path) ? await ofPackage(path, conditions, resolver) : found);
   }
-  const once = (member: "files" | "absent" | "texts") => [...new Set(all.flatMap((each) => each[member]))];
-  const perhaps = all.flatMap((each) => each.perhaps);
-  return { files: once("files"), absent: once("absent"), texts: once("texts"), perhaps };
+  const [files, absent, texts] = (["files", "absent", "texts"] as const)
+    .map((member) => [...new Set(all.flatMap((each) => each[member]))]);
+  return { files, absent, texts, perhaps: all.flatMap((each) => each.perhaps) };
 }
 
 async function ofPackage(folder: string, conditions: readonly string[], resolver: Resolver): Promise<EntryPoints> {
@@ -61,15 +58,14 @@ async function ofPackage(folder: string, conditions: readonly string[], resolver
   const from = absolute(manifest);
   const values = readManifest(manifest);
   const own = (member: string) => (Object.hasOwn(values, member) ? values[member] : undefined);
-  const exported = await exportedFiles(own("exports"), folder, conditions);
-  const named = MEMBERS.flatMap((member) => namesIn(own(member), member));
+  const { perhaps: others, ...exported } = await exportedFiles(own("exports"), folder, conditions);
+  const [named, ofTools] = [MEMBERS, OF_TOOLS].map((all) => all.flatMap((each) => namesIn(own(each), each)));
   const names = named.length + exported.files.length + exported.absent.length > 0 ? named : ["./index"];
-  const others = OF_TOOLS.flatMap((member) => namesIn(own(member), member));
   const scripts = own("scripts");
   const words = Object.values(isObject(scripts) ? scripts : {}).flatMap(wordsOf);
-  const found: EntryPoints = { files: exported.files, absent: exported.absent, texts: [], perhaps: [] };
+  const found: EntryPoints = { ...exported, texts: [], perhaps: [] };
   follow({ from: manifest, names }, found, resolver, false);
-  follow({ from: manifest, names: [...others, ...words] }, found, resolver, true);
+  follow({ from: manifest, names: [...ofTools, ...words] }, found, resolver, true);
   if (found.files.length === 0) {
     const what = found.absent.length > 0 ? `files not found: ${found.absent.join(", ")}` : "it names no module";
     throw new EntryFault(`${manifest}: ${what}`);
@@ -77,7 +73,7 @@ async function ofPackage(folder: string, conditions: readonly string[], resolver
   const forTools = Object.fromEntries(Object.entries(values).filter(([member]) => !NO_TEXTS.has(member)));
   const texts = textsIn(forTools).filter((text) => /[/*]/.test(text));
   const perhaps: Perhaps[] = [
-    ...exported.perhaps.map((each) => ({ ...each, kind: "condition" as const, path: absolute(each.path), from })),
+    ...others.map((each) => ({ ...each, kind: "condition" as const, path: absolute(each.path), from })),
     ...texts.map((text) => ({ kind: "text" as const, from, text })),
   ];
   return { ...found, absent: found.absent.map((name) => `${manifest}: ${name}`), perhaps };
@@ -105,15 +101,14 @@ function follow(
 }
 
 function readManifest(path: string): Record<string, unknown> {
-  let values: unknown;
   try {
-    values = JSON.parse(String(readRegularFile(path)));
+    const values: unknown = JSON.parse(String(readRegularFile(path)));
+    return isObject(values) ? values : {};
   } catch (error) {
     const none = "no such file: an entry is a file, or a folder with a package.json";
     const { code, message } = error as NodeJS.ErrnoException;
     throw new EntryFault(`${path}: ${code === "ENOENT" ? none : message}`);
   }
-  return isObject(values) ? values : {};
 }
 
 /** The modules that a member of a package.json names; what `browser` has in the place of others is no entry. */
@@ -122,7 +117,6 @@ function namesIn(value: unknown, member: string): string[] {
   return texts.filter((name) => !isDeclaration(name) && (isModule(name) || !/\.\w+$/.test(name))).map(asPath);
 }
 
-/** The words of a line of commands that may name a module which runs. */
 function wordsOf(line: unknown): string[] {
   const commands = typeof line === "string" ? line.split(/[;&|]+/) : [];
   const words = commands.map((command) => command.replace(BEFORE, "").match(WORD) ?? [])
@@ -139,7 +133,6 @@ function importedBy(path: string): string[] {
     .map(({ parts }) => String(parts[0])).filter(isRelative);
 }
 
-/** The path of a module with one of the endings, or of an index of the folder. */
 function fileAt(path: string): string | undefined {
   return [path, join(path, "index")].flatMap((each) => ["", ...MODULE_ENDINGS].map((ending) => each + ending))
     .find(isFile);
@@ -148,14 +141,13 @@ function fileAt(path: string): string | undefined {
 /** The paths of those that node finds, the targets that aren't there, and what other conditions lead to */
 type Exported = { files: string[], absent: string[], perhaps: { path: string, text: string }[] };
 
-/** @param conditions besides node's */
 export async function exportedFiles(exports: unknown, folder: string, conditions: readonly string[]) {
   const all: Exported = { files: [], absent: [], perhaps: [] };
-  for (const [subpath, target] of Object.entries(exports ? bySubpath(exports) : {})) {
-    const isThere = subpath.includes("*");
+  for (const [key, target] of Object.entries(exports ? bySubpath(exports) : {})) {
+    const isThere = key.includes("*");
     for (const match of isThere ? await matchesOf(target, folder) : [""]) {
-      const from = { subpath: subpath.replace("*", () => match), folder, conditions, isThere };
-      add(all, isThere ? exports : { [subpath]: target }, from);
+      const subpath = key.replace("*", () => match);
+      add(all, isThere ? exports : { [key]: target }, { subpath, folder, conditions, isThere });
     }
   }
   if (all.files.length + all.absent.length === 0) {
@@ -194,20 +186,16 @@ function add(
 async function matchesOf(target: unknown, folder: string): Promise<Set<string>> {
   const matches = new Set<string>();
   for (const text of textsIn(target).filter((each) => each.includes("*"))) {
-    const base = join(folder, dirname(`${text.slice(0, text.indexOf("*"))}x`));
+    const texts = text.split("*");
+    const base = join(folder, dirname(`${texts[0]}x`));
     for await (const { path } of findFiles(isFolder(base) ? [base] : [], {})) {
-      const match = matchOf(text, `./${relative(folder, path)}`);
-      if (match !== undefined) {
+      const name = `./${relative(folder, path)}`;
+      const length = (name.length - texts.join("").length) / (texts.length - 1);
+      const match = name.slice(texts[0].length, texts[0].length + length);
+      if (length > 0 && texts.join(match) === name) {
         matches.add(match);
       }
     }
   }
   return matches;
-}
-
-function matchOf(pattern: string, name: string): string | undefined {
-  const texts = pattern.split("*");
-  const length = (name.length - texts.join("").length) / (texts.length - 1);
-  const match = name.slice(texts[0].length, texts[0].length + length);
-  return length > 0 && texts.join(match) === name ? match : undefined;
 }

@@ -64,7 +64,6 @@ export type RunKind = "static" | "dynamic" | "require" | "jsx";
  * triple-slash reference.
  */
 export type TypeKind = "type" | "jsdoc" | "reference";
-
 export type ReferenceKind = RunKind | TypeKind;
 
 /** A range of a module that names another module. */

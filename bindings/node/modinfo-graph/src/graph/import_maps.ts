@@ -1,7 +1,7 @@
 /**
- * Import maps: the `imports` and `scopes` of a deno.json, or of the file that its `importMap` names, and the
- * members of its `workspace` (https://docs.deno.com/runtime/fundamentals/configuration/); and those of pages,
- * for the modules in the folder of a page.
+ * Import maps: those of a deno.json, or of the file that its `importMap` names, with the members of its
+ * `workspace` (https://docs.deno.com/runtime/fundamentals/configuration/); and those of pages, for the folder
+ * of a page.
  */
 
 import { dirname, join } from "node:path";
@@ -10,7 +10,7 @@ import { pathToFileURL } from "node:url";
 import { inherited, memoized } from "../files/by_folder.js";
 import { isPage } from "../files/file_kinds.js";
 import { pathOfUrl, urlFrom, urlOfFolder } from "../files/urls.js";
-import { Notices, firstIn, membersAt, parseWithComments } from "./members.js";
+import { Notices, firstIn, membersAt, parseWithComments } from "./package_manifests.js";
 import { isPath } from "./names.js";
 import { isObject } from "./package_targets.js";
 import { scriptsOf } from "./scripts.js";
@@ -18,13 +18,9 @@ import type { RegularFiles } from "../files/regular_files.js";
 
 /** Where a name leads by a configuration: paths without what is added to names, or another name. */
 export type Configured = { by: "tsconfig" | "importmap", paths: string[], name?: string };
-
 /** By keys, each a URL, or a name where it is none */
 type Targets = Map<string, string>;
-
-/** The longest scopes are the first. */
 type ImportMap = { isDeno: boolean, imports: Targets, scopes: [scope: string, imports: Targets][] };
-
 const NAMES = ["deno.json", "deno.jsonc"];
 const REGISTRY = /^(?:jsr|npm):/;
 const IGNORED = "its import map is ignored";
@@ -34,12 +30,10 @@ export class ImportMaps {
 
   constructor(private readonly files: RegularFiles) {}
 
-  /** The import map for a file, by its absolute path. */
   of(file: string): ImportMap | undefined {
     return file.includes("/node_modules/") ? undefined : this.ofFolder(dirname(file));
   }
 
-  /** What a name is by the import map of a file. */
   find(specifier: string, importer: string): Configured | undefined {
     const map = this.of(importer);
     if (!map) {
@@ -60,7 +54,6 @@ export class ImportMaps {
     return own ? withAbove(own, above) : above;
   });
 
-  /** The import maps of the pages in a folder, as one. */
   private mapOfPages(folder: string): ImportMap | undefined {
     const pages = this.files.namesIn(folder, "file").filter(isPage);
     const [first, ...others] = pages.flatMap((name) => this.mapsOfPage(join(folder, name)));
@@ -78,7 +71,6 @@ export class ImportMaps {
     }
   }
 
-  /** @param path of a deno.json */
   private mapAt(path: string): ImportMap {
     const members = this.membersOf(path);
     const { importMap, workspace } = members;
@@ -90,7 +82,6 @@ export class ImportMaps {
     return map;
   }
 
-  /** Adds the exports of a member of a workspace, under its name. */
   private addMember(map: ImportMap, folder: string) {
     const path = firstIn(folder, NAMES, this.files);
     const { name, exports }: Record<string, unknown> = path ? this.membersOf(path) : {};
@@ -102,7 +93,6 @@ export class ImportMaps {
     }
   }
 
-  /** @param path of the file that has them */
   private mapOf({ imports, scopes }: Record<string, unknown>, path: string): ImportMap {
     const base = pathToFileURL(path);
     const all = Object.entries(this.objectOf(scopes, path, `"scopes" is ignored`));
@@ -132,11 +122,10 @@ export class ImportMaps {
 
   /** @param why the beginning of the notice where it is no object */
   private objectOf(value: unknown, path: string, why: string): Record<string, unknown> {
-    if (value === undefined || isObject(value)) {
-      return value ?? {};
+    if (value !== undefined && !isObject(value)) {
+      this.notices.add(path, `${why}: not an object`);
     }
-    this.notices.add(path, `${why}: not an object`);
-    return {};
+    return isObject(value) ? value : {};
   }
 
   private readonly membersOf = memoized((path: string) => {
@@ -153,7 +142,6 @@ function withAbove({ isDeno, imports, scopes }: ImportMap, above: ImportMap | un
   };
 }
 
-/** @returns nothing for a bare name */
 function urlOf(specifier: string, base: URL): string | undefined {
   return urlFrom(specifier, isPath(specifier) ? base : undefined)?.href;
 }

@@ -1,41 +1,30 @@
 /**
- * What may name modules at run time, found in a text by a search: what `ModuleInfo` doesn't have, and what is
- * in files that aren't parsed. Calls and tags, of which a comment or a string that looks like one counts too;
- * and string literals that look like the name of a file or like a glob: what stands between two quotes of a
- * line.
+ * What may name modules at run time, found in a text by a search: calls and tags, of which a comment or a
+ * string that looks like one counts too; and string literals, between two quotes of a line, that look like a
+ * file's name or a glob.
  */
 
 import { isModule, withoutEnding } from "../files/file_kinds.js";
 import type { ReasonKind } from "./graph.cjs";
 
-/** The parts of a name, nothing for one that isn't known. */
 export type Parts = (string | undefined)[];
 
-/** A string literal, a call or a tag that may name modules. */
-export interface LooseReference {
-  kind: ReasonKind;
-  parts: Parts;
-  /**
-   * What the parts name: a module (one of several in a list), all modules of a folder, those that a glob matches,
-   * a module by a name of AMD; or what a string literal does, which may be a glob.
-   */
-  form: "name" | "list" | "folder" | "glob" | "amd" | "literal" | "literal glob";
-  /** Whether a name without a dot at its beginning is a path */
-  isFile?: boolean;
-  /** Of the call, or of a literal's first quote, in UTF-16 code units */
-  offset: number;
-}
+/**
+ * What the parts of a reference name: a module (one of several in a list), all modules of a folder, those
+ * that a glob matches, a module by a name of AMD; or what a string literal does, which may be a glob.
+ */
+type Form = "name" | "list" | "folder" | "glob" | "amd" | "literal" | "literal glob";
 
-/** The most characters of a text that is searched. */
+/**
+ * A string literal, a call or a tag that may name modules. With `isFile` a name without a dot at its
+ * beginning is a path; `offset` is that of the call, or of a literal's first quote, in UTF-16 code units.
+ */
+export type LooseReference = { kind: ReasonKind, parts: Parts, form: Form, isFile?: boolean, offset: number };
 export const LONGEST_TEXT = 2 ** 22;
-
-/** The longest text of a literal. */
 const LITERAL = /(["'`])((?=[^"'`\n]{0,300}[/*])(?!\s)[^"'`\n\\]{1,300})\1/g;
-
 const WILDCARD = /[*?[]|\{[^{}]*,|[@+!]\(/;
 const RELATIVE = /^(?:\.{1,2}\/|<rootDir>\/)/;
 const LETTER = /[\p{L}\p{N}]/u;
-
 /** Beginnings of groups of a glob, as `@(a|b)`, and classes of single characters, as `[jt]`. */
 const GROUP = /([@?+*!])\(([^()]*)\)|\[(\w+)\]/g;
 
@@ -52,14 +41,13 @@ export function literalOf(content: string, quote: string = "", offset: number = 
   return isMeant ? { kind: "text", parts, form: isGlob ? "literal glob" : "literal", offset } : [];
 }
 
-/** The texts of a template, and nothing for each substitution. */
 export function templateParts(template: string): Parts {
   return template.split(/\$\{[^}]*\}/).flatMap((each, at) => (at > 0 ? [undefined, each] : [each]));
 }
 
 /**
- * Whether a text begins with `./` or `../`, or has a slash and the ending of a module. Of a template, a folder and
- * the ending are known too.
+ * Whether a text begins with `./` or `../`, or has a slash and the ending of a module. Of a template, a
+ * folder and the ending are known too.
  */
 function isFileName([first = "", ...others]: Parts) {
   const last = others.at(-1);
@@ -96,7 +84,6 @@ const TOKEN = new RegExp([
   String.raw`(\/)`, String.raw`\s+|[^]`,
 ].join("|"), "g");
 const REGULAR_EXPRESSION = /\/(?:[^/\\\n[]|\\.|\[(?:[^\]\\\n]|\\.){0,999}\]){1,999}\/[a-z]*/y;
-/** Words after which a slash begins a regular expression. */
 const BEFORE_OPERAND = /^(?:return|typeof|case|in|of|do|else|void|delete|throw|new|instanceof|await|yield)$/;
 
 /** Whether an offset of JavaScript is in a comment. A text in quotes and a regular expression have none. */
@@ -120,17 +107,14 @@ export function commentsOf(text: string): (offset: number) => boolean {
 }
 
 /** What a call names; `isEnded` if names count that have the ending of a module. */
-type What = Pick<LooseReference, "kind" | "isFile"> & { form?: LooseReference["form"], isEnded?: boolean };
-
+type What = Pick<LooseReference, "kind" | "isFile"> & { form?: Form, isEnded?: boolean };
 /** The most characters of the argument of a call, and the most parts. */
 const NEAR = 300;
 const MOST_PARTS = 20;
-
 /** Beginnings of calls: of a member of `import.meta`, of functions that mock modules, of those that load AMD's. */
 const META = String.raw`\bimport\s*\.\s*meta\s*\.\s*`;
 const MOCKS = String.raw`\b(?:jest|vi|vitest)\s*\.\s*(?:(?:do)?[mM]ock|(?:require|import)(?:Actual|Mock))`;
 const AMD = String.raw`\b(?:define|require|requirejs)\s*\(\s*`;
-
 /** The parenthesis of a call, with type arguments before. */
 const TYPED_CALL = String.raw`\s*(?:<[^;]{0,100}?>\s*)?\(`;
 
@@ -160,12 +144,10 @@ const ANY_CALL = new RegExp([
   String.raw`\b(?:register|importScripts|define|requirejs|require-(?:dir|directory|all))\b|\brequire\s*\(\s*\[`,
 ].join("|"));
 
-/** @param parts of a regular expression */
 function pattern(...parts: string[]) {
   return new RegExp(parts.join(""), "g");
 }
 
-/** @returns the calls */
 export function looseCalls(text: string): LooseReference[] {
   return text.length <= LONGEST_TEXT && ANY_CALL.test(text)
     ? [...CALLS.flatMap(([call, what]) => referencesAfter(text, call, what)), ...foldersLoaded(text)]
@@ -190,7 +172,6 @@ function referencesAfter(text: string, call: RegExp, { kind, form = "name", isFi
   });
 }
 
-/** The strings of a list, or one string. */
 function listAt(text: string, start: number): string[][] {
   const near = text.slice(start, start + 4 * NEAR);
   const [list] = /^(?:\s*(?:"[^"\n]*"|'[^'\n]*'|`[^`\n]*`)\s*,?)*/.exec(near) ?? [""];
@@ -218,11 +199,8 @@ function partsAt(text: string, start: number): Parts {
       break;
     }
     last = whole;
-    if (template !== undefined) {
-      parts.push(...templateParts(template));
-    } else if (whole !== "+") {
-      parts.push(whole === "," ? "/" : double ?? single);
-    }
+    const part = whole === "," ? "/" : double ?? single;
+    parts.push(...template !== undefined ? templateParts(template) : whole === "+" ? [] : [part]);
   }
   return [...parts, ...(last === "+" ? [undefined] : [])].filter((each) => each !== "");
 }
@@ -230,7 +208,6 @@ function partsAt(text: string, start: number): Parts {
 /** Packages whose calls load all modules of a folder. */
 const LOADERS = "(?:require-dir|require-directory|require-all)";
 const ANY_LOADER = new RegExp(`${LOADERS}["']`);
-
 /** A `require` of such a package, and the name that it or an import has. */
 const REQUIRED = String.raw`require\s*\(\s*["']${LOADERS}["']\s*\)`;
 const NAMED = new RegExp([
@@ -238,11 +215,8 @@ const NAMED = new RegExp([
   String.raw`import\s+(?:\*\s*as\s+)?([\w$]+)\s+from\s*["']${LOADERS}["']`,
 ].join("|"), "g");
 
-/** The arguments of a call, as far as they are searched. */
 const ARGUMENTS = String.raw`\s*\(([^()]{0,300}(?:\([^()]{0,300}\))?)`;
 const FIRST_STRING = /"([^"\n]*)"|'([^'\n]*)'/;
-
-/** The most names of such functions in a text. */
 const MOST_NAMES = 20;
 
 /** The folders of which all modules are loaded; without a name the folder of the text itself. */

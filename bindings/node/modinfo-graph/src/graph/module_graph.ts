@@ -12,10 +12,8 @@ import { type Counted, counts, edgesOf } from "./references.js";
 import type { Cycle, Edge, Ends, GraphModule, Mention, Reference, Step } from "./graph.cjs";
 
 export class ModuleGraph {
-  /** @param byKey modules in their order, by their specifiers */
   constructor(private readonly counted: Counted, private readonly byKey: Map<string, GraphModule>) {}
 
-  /** Whether edges of types count. */
   get hasTypes() {
     return this.counted.types ?? false;
   }
@@ -29,16 +27,12 @@ export class ModuleGraph {
     return this.modules.filter(({ isExcluded }) => !isExcluded);
   }
 
-  module(key: string): GraphModule | undefined {
-    return this.byKey.get(key);
-  }
+  readonly module = (key: string): GraphModule | undefined => this.byKey.get(key);
 
-  /** @returns of the same modules, in which edges of types count too */
   withTypes(): ModuleGraph {
     return new ModuleGraph({ ...this.counted, types: true }, this.byKey);
   }
 
-  /** The edges that count, of one module. */
   readonly edgesFrom = memoized((key: string): Edge[] => {
     return edgesOf(key, this.module(key)?.references ?? []).filter((each) => counts(each, this.counted));
   });
@@ -48,7 +42,6 @@ export class ModuleGraph {
     return [...this.edgesFrom(key).map(({ to }) => to), this.module(key)?.source ?? []].flat();
   }
 
-  /** The keys of the modules that entries reach. */
   reached(entries: string[]): Set<string> {
     const isModule = (key: string) => this.byKey.has(key);
     return new Set(ways(entries.filter(isModule), (key) => this.leadsFrom(key).filter(isModule)).keys());
@@ -64,21 +57,19 @@ export class ModuleGraph {
     });
   }
 
-  /** The modules that lead to a file directly. */
   dependents(target: string): string[] {
     const keys = this.listed.map(({ specifier }) => specifier);
     return keys.filter((key) => this.edgesFrom(key).some(({ to }) => to === target));
   }
 
-  /** The references to what isn't found, or isn't installed. */
-  missing(): Mention[] {
-    return this.mentions(isMissing);
-  }
+  readonly missing = (): Mention[] => this.mentions(isMissing);
 
   /** The references in JavaScript that other rules than node's find. */
   foundByOthers(): Mention[] {
-    const isOther = ({ by = "node" }: Ends) => by !== "node";
-    return this.mentions(({ resolved }, module) => isOther(resolved as Ends) && !isTypeScript(module));
+    return this.mentions(({ resolved }, module) => {
+      const { by = "node" } = resolved as Ends;
+      return by !== "node" && !isTypeScript(module);
+    });
   }
 
   /** The references that count, of some modules: of those that are listed, where none are given. */
@@ -95,11 +86,10 @@ export class ModuleGraph {
    */
   gaps(reached: Set<string>) {
     const modules = this.modules.filter(({ specifier }) => reached.has(specifier));
-    const isGap = (reference: Reference, module: string) => {
-      return isMissing(reference) && (isPath(reference.specifier ?? "") || isPage(module));
-    };
     return {
-      missing: this.mentions(isGap, modules).length,
+      missing: this.mentions((reference, module) => {
+        return isMissing(reference) && (isPath(reference.specifier ?? "") || isPage(module));
+      }, modules).length,
       aliases: this.mentions(isOfAlias, modules).length,
       faults: modules.filter(({ fault }) => fault).length,
     };
@@ -135,28 +125,23 @@ export class ModuleGraph {
       this.module(key)?.references.some(isRemovable));
   }
 
-  /** The edges between modules of the graph. */
   edges(): Edge[] {
     return [...this.byKey.keys()].flatMap((key) => this.edgesFrom(key)).filter(({ to }) => this.byKey.has(to));
   }
 
-  /** The first reference that makes an edge that counts. */
   mentionOf({ from, to }: Edge): Mention {
-    const { references } = this.module(from) as GraphModule;
-    const leads = (each: Reference) => {
+    const found = this.module(from)?.references.find((each) => {
       const { file, types } = each.resolved as Ends;
       return counts(each, this.counted) && (file === to || types === to);
-    };
-    return { module: from, reference: references.find(leads) as Reference };
+    });
+    return { module: from, reference: found as Reference };
   }
 }
 
-/** Whether a reference by a bundler's alias leads to no file. */
 function isOfAlias(reference: Reference): boolean {
   return (isMissing(reference) || reference.resolved.class === "url") && isAlias(reference.specifier ?? "");
 }
 
-/** Whether nothing is found for a reference whose text is known. */
 function isMissing({ resolved }: Reference): boolean {
   const { class: name, file, types } = resolved as Ends;
   return name === "missing" || (name === "package" && (file ?? types) === undefined);
@@ -190,7 +175,6 @@ function readRule(rule: string) {
     return (url: string) => matches(fileURLToPath(url));
   });
   const isName = globMatcher(to);
-  /** @returns what is forbidden */
   const targetOf = ({ specifier = "", resolved }: Reference): string | undefined => {
     const { class: kind, file, types, package: installed } = resolved as Ends;
     const name = kind === "builtin" ? specifier.replace(/^node:/, "") : installed;

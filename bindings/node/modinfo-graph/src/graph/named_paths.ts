@@ -1,13 +1,13 @@
 /**
- * Which files the names in a text lead to, among those that are looked for. Of a name only some parts may be
- * known. More files than those that a bundler would take are no error: a match is a reason to look, and no
+ * Which files the names in a text lead to, of which only some parts may be known, among those that are looked
+ * for. More files than those that a bundler would take are no error: a match is a reason to look, and no
  * proof.
  */
 
 import { basename, dirname, join, relative, resolve as absolute } from "node:path";
 
 import { compiledPath, isModule, isPage, withoutEnding } from "../files/file_kinds.js";
-import { globMatcher } from "../files/globs.js";
+import { globMatcher, matchesItems } from "../files/globs.js";
 import { unlessThrown } from "../runtime/faults.js";
 import { PLATFORMS } from "./bundler_rules.js";
 import { type LooseReference, type Parts, plainGlob } from "./loose_references.js";
@@ -16,10 +16,10 @@ import type { Resolver } from "./resolver.js";
 
 /** The files that are looked for, and what finds them by the rules of node. */
 export type Among = { candidates: Candidates, resolver: Resolver };
-
+/** Stands for any text between the known parts of a name. */
+const ANY = "**";
 /** What jest writes for the folder of its configuration. */
 const ROOT_DIR = /^<rootDir>\//;
-
 /** The folders that a server may have for its root, in the folder of a package. */
 const SERVED = ["", "public", "static"];
 
@@ -28,7 +28,8 @@ export function filesNamed(from: string, { kind, parts, form, isFile }: LooseRef
   const { candidates, resolver } = among;
   const [name = "", ...others] = parts;
   const folder = dirname(from);
-  const root = resolver.packageOf(from) ?? folder;
+  const own = resolver.manifests.scopeOfFile(from)?.folder;
+  const root = own ?? folder;
   const isOfRoot = kind === "new Worker" || (name.startsWith("/") && kind !== "__dirname");
   const served = isOfRoot ? [process.cwd(), ...SERVED.map((each) => join(root, each))] : [];
   const folders = [...new Set([folder, ...served])];
@@ -49,7 +50,7 @@ export function filesNamed(from: string, { kind, parts, form, isFile }: LooseRef
     case "folder":
       return folders.flatMap((base) => candidates.below(name, base));
     case "amd":
-      return ofAmd(name, folder, among, resolver.packageOf(from) ?? process.cwd());
+      return ofAmd(name, folder, among, own ?? process.cwd());
     default:
       return parts.includes(undefined)
         ? folders.flatMap((base) => candidates.matching(atFolder(parts, isFile), base))
@@ -70,14 +71,11 @@ function ofName(
 /** What a name leads to from the first of some folders from which it leads to a file. */
 function fileOf(name: string, folders: string[], { candidates, resolver }: Among): string[] {
   const found = folders.map((folder) => candidates.named(name, folder));
-  if (found.every((each) => each.length === 0)) {
-    return [];
-  }
-  const files = folders.map((folder, at) => {
-    const path = resolver.fileOf(isRelative(name) ? name : `./${name}`, join(folder, "package.json"));
-    return path === undefined ? found[at] : [path];
+  const isAny = found.some((each) => each.length > 0);
+  const files = (isAny ? folders : []).map((folder, at) => {
+    return resolver.fileOf(isRelative(name) ? name : `./${name}`, join(folder, "package.json")) ?? found[at];
   });
-  return files.find((each) => each.length > 0) ?? [];
+  return [files.find((each) => each.length > 0) ?? []].flat();
 }
 
 /** What a name of AMD, perhaps after that of a plugin, leads to from a folder, or one above up to the root. */
@@ -90,18 +88,15 @@ function ofAmd(written: string, folder: string, among: Among, root: string): str
 
 /** @param isFile whether a name without a dot at its beginning is a path */
 function atFolder([first, ...others]: Parts, isFile: boolean = false): Parts {
-  const isSlashed = first?.startsWith("/");
-  const before = isSlashed ? "." : isFile && first !== undefined && !isRelative(first) ? "./" : "";
+  const before = first?.startsWith("/") ? "." : isFile && !isRelative(first ?? "") ? "./" : "";
   return [first === undefined ? first : before + first, ...others];
 }
 
-/** Files to look for names in. */
 export class Candidates {
   private readonly byStem;
   /** By the last name of their path, without an ending, and by that of their folder for an `index`. */
   private readonly byName;
 
-  /** @param paths absolute */
   constructor(private readonly paths: string[]) {
     this.byStem = grouped(paths, (path) => [withoutEnding(path)]);
     this.byName = grouped(paths, (path) => endsOf(path).map((each) => basename(each)));
@@ -132,7 +127,6 @@ export class Candidates {
     return pattern ? this.paths.filter((path) => spellingsOf(path).some((each) => fits(each, pattern))) : [];
   }
 
-  /** The files of a folder and of those in it. */
   below(name: string, folder: string): string[] {
     const start = `${absolute(folder, name)}/`.replace(/\/+$/, "/");
     return this.paths.filter((path) => path.startsWith(start));
@@ -164,8 +158,6 @@ function endsOf(path: string): string[] {
 }
 
 const withoutSuffix = (name: string) => name.replace(/[?#].*$/s, "");
-
-/** The names of a file in imports: its path, that of its JavaScript, without its ending, and its folder's. */
 const spellingsOf = (path: string) => [path, compiledPath(path) ?? [], endsOf(path)].flat();
 
 /** @returns texts between which anything may be; nothing where too little is known */
@@ -174,8 +166,7 @@ function patternOf(parts: (string | undefined)[], folder: string): string[] | un
   for (const part of parts) {
     texts.push(part === undefined ? "" : texts.pop() + part);
   }
-  texts.push(withoutSuffix(String(texts.pop())));
-  const [first, ...others] = texts;
+  const [first, ...others] = [...texts.slice(0, -1), withoutSuffix(texts[texts.length - 1])];
   if (/^\.{1,2}\//.test(first)) {
     return [join(folder, first), ...others];
   }
@@ -183,25 +174,15 @@ function patternOf(parts: (string | undefined)[], folder: string): string[] | un
   const rest = first.includes("/") ? first.slice(first.indexOf("/")) : "";
   const isKnown = [rest, ...others].some((text) => /[\p{L}\p{N}_$]/u.test(withoutEnding(text)));
   // Of a name with an ending alone a bundler takes the files below the folder.
-  const isEnded = first === "" && isModule(`a${texts[texts.length - 1]}`);
+  const isEnded = first === "" && isModule(`a${others.at(-1)}`);
   const all = [!isKnown && isEnded ? join(folder, "/") : "", rest, ...others];
   const needed = all.filter((each, at) => each !== "" || at === 0 || at === all.length - 1);
   return isKnown || isEnded ? needed : undefined;
 }
 
 /** Whether a text has those of a pattern in their order, the first at its beginning and the last at its end. */
-function fits(text: string, [first, ...others]: string[]): boolean {
-  const last = others.pop();
-  if (last === undefined || !text.startsWith(first) || !text.endsWith(last)) {
-    return text === first && last === undefined;
-  }
-  let end = first.length;
-  for (const each of others) {
-    const at = text.indexOf(each, end);
-    if (at < 0) {
-      return false;
-    }
-    end = at + each.length;
-  }
-  return end <= text.length - last.length;
+function fits(text: string, pattern: string[]): boolean {
+  const items = pattern.flatMap((part, at) => [...(at > 0 ? [ANY] : []), ...part]);
+  return text.startsWith(pattern[0]) && text.endsWith(pattern[pattern.length - 1]) &&
+    matchesItems(items, [...text], ANY, (one, other) => one === other);
 }

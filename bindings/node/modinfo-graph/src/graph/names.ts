@@ -8,22 +8,15 @@ const ALIAS = /^(?:@\/|@@|[~$#]|virtual:)/;
 const FOLDER = /(?:^|\/)\.{0,2}$/;
 const SCHEME = /^([a-z][a-z0-9+.-]+):/i;
 const PACKAGE = /^(@[^/]*\/[^/]*|[^@/][^/]*)(\/.*)?$/s;
-/** What no name of a package has. */
 const NO_PACKAGE = /^\.|[%\\?#]/;
-
 /** Whether a name is a path: `/a`, `./a`, `../a`, `.` or `..`. */
 export const isPath = (name: string): boolean => PATH.test(name);
-
 /** Whether a name is a path that doesn't begin with a slash. */
 export const isRelative = (name: string): boolean => RELATIVE.test(name);
-
 /** Whether a name can be no package's, but one of a bundler's alias: `@/a`, `~/a`, `$a/b`, `#a`, `virtual:a`. */
 export const isAlias = (name: string): boolean => ALIAS.test(name);
-
 /** Whether a `require` never takes a file for a name. */
 export const isFolderName = (name: string): boolean => FOLDER.test(name);
-
-/** @returns the scheme of a URL, in lower case */
 export const schemeOf = (name: string): string | undefined => SCHEME.exec(name)?.[1].toLowerCase();
 
 /** @returns what follows the first slash of a bare name; without one, the name without marks at its beginning */
@@ -46,7 +39,6 @@ export function packageName(specifier: string): PackageName | undefined {
   return name === "" || NO_PACKAGE.test(name) ? undefined : { name, rest };
 }
 
-/** The package that has the types of another one. */
 export const typesOf = (name: string): string => `@types/${name.replace(/^@/, "").replace("/", "__")}`;
 
 /** @returns like `packageName`; nothing for a path, a URL, and a name of `imports` */

@@ -1,11 +1,9 @@
 /**
- * What node loads for a name: ESM_RESOLVE
- * (https://nodejs.org/api/esm.html#resolution-algorithm-specification) for an import, and
- * `require(X) from module at path Y` (https://nodejs.org/api/modules.html#all-together) for a
- * `require`, as node 20.20 has them.
- *
- * Other than node's own, these rules find regular files alone, go on where a package.json is no JSON,
- * and take no empty name and none with # or ? for a package's, of which node takes a part for a path.
+ * What node 20.20 loads for a name: ESM_RESOLVE
+ * (https://nodejs.org/api/esm.html#resolution-algorithm-specification), and `require(X) from module at path
+ * Y` (https://nodejs.org/api/modules.html#all-together). Other than node's own, these rules find regular
+ * files alone, go on where a package.json is no JSON, and take no empty name and none with # or ? for a
+ * package's, of which node takes a part for a path.
  */
 
 import { isBuiltin } from "node:module";
@@ -27,24 +25,18 @@ export type Found = { kind: "file" | "outside", path: string }
 
 /** Nothing is at the path `wanted`, or in the folder `package`; with `isFinal` other folders don't count. */
 export type Missing = { kind: "none", wanted?: string, package?: string, isFinal?: boolean };
-
-/** What a `require` adds to a name. */
 const ENDINGS = [".js", ".json", ".node"];
 const INDEXES = ENDINGS.map((ending) => `/index${ending}`);
 const OF_FILE = ["", ...ENDINGS];
 const OF_MAIN = [...OF_FILE, ...INDEXES];
-
 /** A relative path that is the same as a URL. */
 const PLAIN_PATH = /^(?:\.{1,2}\/)+(?:[\w@+~-][\w.@+~-]*\/)*[\w@+~-][\w.@+~-]*$/;
 /** What a `require` looks for at a path. */
 const AT_PATH = /^(?:\/|\.(?:[./]|$))/;
 /** The name and the subpath of a `require` whose package may have `exports`. */
 const REQUIRED = /^((?:@[^/\\%]+\/)?[^./\\%][^/\\%]*)(\/.*)?$/s;
-
 const ENCODED_SEPARATOR = /%2f|%5c/i;
-
 export const NONE: Missing = { kind: "none" };
-
 const TARGETS = { exports: exportsTarget, imports: importsTarget };
 
 export class NodeRules {
@@ -108,11 +100,10 @@ export class NodeRules {
 
   private atUrl(url: URL): Found {
     const { protocol, href } = url;
-    if (protocol !== "file:") {
-      return protocol !== "node:" ? { kind: "url", url: href } : isBuiltin(href) ? { kind: "builtin" } : NONE;
-    }
-    const path = pathAt(url);
-    return !path || path.endsWith("/") ? NONE : fileAt(absolute(path), this.files);
+    const path = protocol === "file:" ? pathAt(url) : undefined;
+    return protocol === "node:" ? isBuiltin(href) ? { kind: "builtin" } : NONE
+      : protocol !== "file:" ? { kind: "url", url: href }
+      : !path || path.endsWith("/") ? NONE : fileAt(absolute(path), this.files);
   }
 
   /** What `exports` or `imports` of a manifest have for a key. */
@@ -176,10 +167,9 @@ export class NodeRules {
   private inFolder(modules: string, specifier: string): Found {
     const [, name, rest = ""] = REQUIRED.exec(specifier) ?? [];
     const folder = absolute(modules, name ?? "");
+    const isIn = name !== undefined && this.files.at(folder).kind === "folder";
     const find = () => this.fileOrFolder(specifier, modules);
-    return name !== undefined && this.files.at(folder).kind === "folder"
-      ? this.inPackage(folder, rest, "require", find)
-      : find();
+    return isIn ? this.inPackage(folder, rest, "require", find) : find();
   }
 
   /** LOAD_AS_FILE and LOAD_AS_DIRECTORY, for a name that leads from a folder. */
@@ -202,7 +192,6 @@ export class NodeRules {
   }
 }
 
-/** The file of an absolute and normal path. */
 export function fileAt(path: string, files: RegularFiles): Found {
   const entry = files.at(path);
   return entry.kind === "file"

@@ -1,7 +1,7 @@
 /**
- * The folders of packages: those in which installed ones are looked for; and those of a project that has
- * several, which the `workspaces` of a package.json name, or the `packages` of a pnpm-workspace.yaml, also
- * where nothing is installed.
+ * The folders of packages: those in which installed ones are looked for, and those of a project, which
+ * `workspaces` of a package.json or `packages` of a pnpm-workspace.yaml name, also where nothing is
+ * installed.
  */
 
 import { dirname, join, relative, resolve as absolute } from "node:path";
@@ -16,12 +16,10 @@ import type { RegularFiles } from "../files/regular_files.js";
 import type { PackageManifests } from "./package_manifests.js";
 
 const MANIFEST = "/package.json";
-/** A package's name of which each part is the name of a folder, as it stands in a URL too. */
 const PLAIN = /^(?:@[\w.~-]+\/)?[\w~-][\w.~-]*$/;
 /** A folder in which a `require` doesn't look. */
 const IN_ITSELF = "/node_modules/node_modules";
 
-/** Takes the importer's folder, and returns paths with links. */
 export class PackageFolders {
   /** Each `node_modules` that is in a folder or above it, the nearest first. */
   private readonly above = inherited<string[]>((folder, above = []) => {
@@ -38,7 +36,6 @@ export class PackageFolders {
   /** @param globalFolders those in which a `require` looks last */
   constructor(private readonly files: RegularFiles, private readonly globalFolders: string[]) {}
 
-  /** A package's folder by the rules of a `require`. */
   required(name: string, folder: string): string | undefined {
     return this.ofRequire(folder).map((each) => absolute(each, name)).find((each) => this.isFolder(each));
   }
@@ -83,13 +80,9 @@ export class Workspaces {
     return importer.includes("/node_modules/") ? undefined : this.packages(dirname(importer))?.get(name);
   }
 
-  /** The folders of packages by their names. */
   private readonly packages = nearest((folder) => {
     const patterns = this.patternsOf(folder);
-    const named = this.foldersOf(folder, patterns).flatMap((path): [string, string][] => {
-      const name = this.manifests.of(path)?.name;
-      return name === undefined ? [] : [[name, path]];
-    });
+    const named = this.foldersOf(folder, patterns).map((path) => [this.manifests.of(path)?.name, path] as const);
     return patterns.length > 0 ? new Map(named) : undefined;
   });
 
@@ -105,19 +98,15 @@ export class Workspaces {
   /** The folders of patterns, without those of patterns that begin with `!`. */
   private foldersOf(folder: string, patterns: string[]): string[] {
     const left = patterns.filter((each) => each.startsWith("!")).map((each) => partsOf(each.slice(1)));
-    const taken = new Set(patterns.filter((each) => !each.startsWith("!")));
-    return [...taken].flatMap((pattern) => this.folders(folder, partsOf(pattern)))
+    return [...new Set(patterns)].filter((each) => !each.startsWith("!"))
+      .flatMap((pattern) => this.folders(folder, partsOf(pattern)))
       .filter((path) => !left.some((parts) => matchesFolder(parts, relative(folder, path))));
   }
 
-  /** The folders of a pattern, of which each part is a name, has wildcards, or is `**`. */
   private folders(folder: string, parts: string[]): string[] {
     const [part, ...rest] = parts;
-    if (part === undefined) {
-      return [folder];
-    }
-    if (part === "**") {
-      return this.below(folder).filter((path) => matchesFolder(parts, relative(folder, path)));
+    if (part === undefined || part === "**") {
+      return (part ? this.below(folder) : [folder]).filter((path) => matchesFolder(parts, relative(folder, path)));
     }
     const names = /[*?]/.test(part) ? this.namesIn(folder).filter((name) => matchesName(part, name)) : [part];
     return names.flatMap((name) => this.folders(join(folder, name), rest));

@@ -1,7 +1,7 @@
 /**
- * What the `exports` and `imports` of a package.json lead to: node's PACKAGE_EXPORTS_RESOLVE,
- * PACKAGE_IMPORTS_RESOLVE and PACKAGE_TARGET_RESOLVE
- * (https://nodejs.org/api/esm.html#resolution-algorithm-specification), without looking at a file.
+ * What the `exports` and `imports` of a package.json lead to, without looking at a file:
+ * PACKAGE_EXPORTS_RESOLVE, PACKAGE_IMPORTS_RESOLVE, PACKAGE_TARGET_RESOLVE
+ * (https://nodejs.org/api/esm.html#resolution-algorithm-specification).
  */
 
 import { urlFrom } from "../files/urls.js";
@@ -20,12 +20,9 @@ export type Target = { kind: "file", url: URL }
 
 /** What the `*` of its key stands for, whether it is of `imports`, and in how many conditions and lists it is */
 type Place = { match?: string, isImport: boolean, depth: number };
-
 /** The most conditions and lists in each other. */
 const MAX_DEPTH = 1000;
-
 const NONE: Target = { kind: "none" };
-
 /** `.`, `..` and `node_modules` as one part of a path, where letters and dots aren't encoded. */
 const FORBIDDEN_PART = /(?:^|[\\/])(?:\.{1,2}|node_modules)(?:[\\/]|$)/i;
 /** A letter, a dot or an underscore, as a URL may have it. */
@@ -46,10 +43,9 @@ export function exportsTarget(exports: unknown, subpath: string, context: Contex
 
 /** The target of a name that begins with `#`; there is an `imports`. */
 export function importsTarget(imports: unknown, name: string, context: Context): Target {
-  if (name === "#" || name.startsWith("#/") || name.endsWith("/")) {
-    return refused(`${JSON.stringify(name)} isn't a valid name in "imports"`);
-  }
-  return targetIn(imports, name, !name.includes("*"), "imports", context);
+  return name === "#" || name.startsWith("#/") || name.endsWith("/")
+    ? refused(`${JSON.stringify(name)} isn't a valid name in "imports"`)
+    : targetIn(imports, name, !name.includes("*"), "imports", context);
 }
 
 function targetIn(
@@ -83,10 +79,8 @@ export function textsIn(value: unknown): string[] {
   const todo = [value];
   // What is added meanwhile follows.
   for (const next of todo) {
-    if (typeof next === "object" && next !== null) {
-      const members = Object.entries(next).filter(([key]) => !key.startsWith("types"));
-      members.forEach(([, each]) => todo.push(each));
-    }
+    const members = typeof next === "object" ? Object.entries(next ?? {}) : [];
+    members.filter(([key]) => !key.startsWith("types")).forEach(([, each]) => todo.push(each));
   }
   return todo.filter((each): each is string => typeof each === "string");
 }
@@ -111,20 +105,12 @@ export function longestPattern(keys: string[], name: string): { key: string, mat
 
 /** @returns nothing where none of its conditions holds */
 function targetOf(target: unknown, place: Place, context: Context): Target | undefined {
-  if (place.depth > MAX_DEPTH) {
-    return refused(`more than ${MAX_DEPTH} conditions or lists are in each other`);
-  }
-  if (typeof target === "string") {
-    return targetOfText(target, place, context);
-  }
   const inside = { ...place, depth: place.depth + 1 };
-  if (Array.isArray(target)) {
-    return firstOfList(target, inside, context);
-  }
-  if (isObject(target)) {
-    return firstOfConditions(target, inside, context);
-  }
-  return target === null ? NONE : { kind: "invalid", why: `${JSON.stringify(target)} isn't a valid target` };
+  return place.depth > MAX_DEPTH ? refused(`more than ${MAX_DEPTH} conditions or lists are in each other`)
+    : typeof target === "string" ? targetOfText(target, place, context)
+    : Array.isArray(target) ? firstOfList(target, inside, context)
+    : isObject(target) ? firstOfConditions(target, inside, context)
+    : target === null ? NONE : invalid(`${JSON.stringify(target)} isn't a valid target`);
 }
 
 /** @returns what is wrong with the last one, where there is no other */
@@ -162,8 +148,7 @@ function targetOfText(target: string, { match, isImport }: Place, { folder }: Co
   }
   const url = target.startsWith("./") ? new URL(target, folder) : undefined;
   if (!url?.pathname.startsWith(folder.pathname) || isForbidden(target.slice(2))) {
-    const text = JSON.stringify(target);
-    return { kind: "invalid", why: `${text} isn't a valid target: it leaves the package, or lacks "./"` };
+    return invalid(`${JSON.stringify(target)} isn't a valid target: it leaves the package, or lacks "./"`);
   }
   return match !== undefined && isForbidden(match)
     ? refused(`${JSON.stringify(match)} can't stand for a *`)
@@ -171,9 +156,8 @@ function targetOfText(target: string, { match, isImport }: Place, { folder }: Co
 }
 
 const isForbidden = (path: string) => FORBIDDEN_PART.test(path.replace(ENCODED, decodeURIComponent));
-
 const refused = (why: string): Target => ({ kind: "refused", why });
-
+const invalid = (why: string): Target => ({ kind: "invalid", why });
 /** Whether node takes a key for the index of a list. */
 const isIndex = (key: string) => String(Number(key)) === key && Number(key) >= 0 && Number(key) < 2 ** 32 - 1;
 

@@ -1,7 +1,6 @@
 /**
- * Packages that modules import and no package.json lists, and packages that one lists and nothing imports.
- * Something else than an import may name these: a search in texts is not exact, and a wrong reason costs a
- * look, a missing one a package.
+ * Packages that modules import and no package.json lists, and the reverse. Something else than an import may
+ * name these: a search in texts is not exact, but a wrong reason costs a look, a missing one a package.
  */
 
 import { basename, dirname, join, resolve as absolute } from "node:path";
@@ -14,22 +13,17 @@ import { urlOfPath } from "../files/urls.js";
 import { unlessThrown } from "../runtime/faults.js";
 import { packageOf, typesOf } from "./names.js";
 import { PackageFolders } from "./package_folders.js";
-import { type Manifest, PackageManifests, packagesIn, projectsOf } from "./package_manifests.js";
+import { LISTS, type Manifest, PackageManifests, packagesIn, projectsOf } from "./package_manifests.js";
 import { isObject } from "./package_targets.js";
 import type { Ends, GraphModule, Mention, Reference } from "./graph.cjs";
 import type { ModuleGraph } from "./module_graph.js";
 
 /** `manifest` is the URL of the nearest package.json, `by` has a reference of each file */
 type Unlisted = { package: string, manifest?: string, by: Mention[] };
-
 type Unused = { package: string, manifest: string, list: string };
-
 type PackageUse = { unlisted: Unlisted[], unused: Unused[], mayBeUsed: (Unused & { reason: PackageReason })[] };
-
-/** The members of a package.json that list packages which its modules may import; the last are never unused. */
-const LISTS = ["dependencies", "devDependencies", "peerDependencies", "optionalDependencies"];
-const MAY_BE_UNUSED = LISTS.slice(0, 3);
-
+/** The members of a package.json that list packages which its modules may import. */
+const ALL_LISTS = [...LISTS, "optionalDependencies"];
 const INSTALLED = /^.*\/node_modules\/((?:@[^/]+\/)?[^/]+)\//s;
 
 /** A package.json counts that is in one of the named paths, or is the nearest of a module. */
@@ -42,7 +36,7 @@ export function packageUse(graph: ModuleGraph, project: { pages: string[], paths
   for (const manifest of new Set([...named, ...nearest])) {
     const used = lists.usedBelow(manifest);
     const url = urlOfPath(manifest.path);
-    const listed = MAY_BE_UNUSED.flatMap((list) => packagesIn(manifest, [list]).map((name) => ({ list, name })));
+    const listed = LISTS.flatMap((list) => packagesIn(manifest, [list]).map((name) => ({ list, name })));
     for (const { list, name } of listed.filter((each) => !used.has(each.name))) {
       const reason = reasonOf(name, manifest, used);
       const unused = { package: name, manifest: url, list };
@@ -56,7 +50,6 @@ export function packageUse(graph: ModuleGraph, project: { pages: string[], paths
   return found;
 }
 
-/** The package.json files of projects, and what modules import. */
 function listings() {
   const files = new RegularFiles();
   files.addAllWithoutLinks();
@@ -66,14 +59,14 @@ function listings() {
     const { project = folder } = projectOf(folder);
     files.addProject(project);
     const own = manifests.of(folder);
-    const isOfPackage = own && (own.name !== undefined || packagesIn(own, LISTS).length > 0);
+    const isOfPackage = own && (own.name !== undefined || packagesIn(own, ALL_LISTS).length > 0);
     return [...(isOfPackage ? [own] : []), ...(folder === project ? [] : inFolder(dirname(folder)))];
   });
   /** The manifests with a name or a list above a file, in its project, the nearest first. */
   const above = (path: string) => inFolder(dirname(path));
   /** Whether a package.json above a file lists a package, or has its name. */
   const isListed = (name: string, path: string) => {
-    return above(path).some((each) => each.name === name || packagesIn(each, LISTS).includes(name));
+    return above(path).some((each) => each.name === name || packagesIn(each, ALL_LISTS).includes(name));
   };
   /** The packages that the modules below a manifest import. */
   const usedBelow = memoized((_manifest: Manifest) => new Set<string>());
@@ -123,24 +116,14 @@ function packageNamed({ specifier = "", resolved }: Reference, path: string, lis
 
 /** `file` is the URL of the file that has it, `text` the script, or the package whose peer it is. */
 type PackageReason = { kind: "types" | "bin" | "configuration" | "peer" | "text", file: string, text?: string };
-
-/** A file that is searched, by its path. */
 type Text = { file: string, text: string };
-
-/** The members of a package.json that list what its project itself needs. */
-const OWN_LISTS = ["dependencies", "devDependencies"];
-
-/** The most bytes of a configuration that is searched. */
 const MAX_BYTES = 2 ** 20;
-
 /** Files that may configure a tool, files of them that only list packages, and the folders with both. */
 const CONFIGURATION = /^\.|rc$|config|\.(?:jsonc?|ya?ml|toml)$|^(?:Make|Docker|Just|Proc)file/;
 const LOCK = /^(?:package\.json|package-lock\.json|npm-shrinkwrap\.json|pnpm-lock\.yaml|\.package-lock\.json)$/;
 const FOLDERS = ["", ".config", ".github/workflows", ".husky", ".storybook"];
-
 const STYLES = /\.(?:css|scss|sass|less)$/;
 
-/** Members of a package.json that configure no tool. */
 const OTHERS = new Set([
   "name", "version", "description", "keywords", "license", "author", "files", "scripts", "dependencies",
   "devDependencies", "peerDependencies", "peerDependenciesMeta", "optionalDependencies", "overrides",
@@ -160,7 +143,7 @@ function packageReasons(
     return own === undefined ? undefined : manifests.of(own);
   };
   const configurationsOf = memoized((manifest: Manifest) => configurations(manifest, files));
-  let texts: Text[] | undefined;
+  const allTexts = memoized((_key: "") => textsOf([...new Set([...modules.flatMap(pathsOf), ...pages])]));
   /** Takes the package.json that lists a package, and all packages and built-in modules that are imported. */
   return (name: string, manifest: Manifest, used: Set<string>): PackageReason | undefined => {
     const ofText = (kind: PackageReason["kind"], text: string | undefined) => {
@@ -169,17 +152,14 @@ function packageReasons(
     const ofFile = (kind: PackageReason["kind"], file: string | undefined) => {
       return file === undefined ? undefined : { kind, file: urlOfPath(file) };
     };
-    const needs = (listed: string) => {
-      const own = installed(listed, manifest);
-      return own !== undefined && packagesIn(own, ["peerDependencies"]).includes(name);
-    };
+    const needs = (listed: string) => packagesIn(installed(listed, manifest), ["peerDependencies"]).includes(name);
     // The types of what is used, and those of a tool that is listed.
-    const types = [...used, "node", ...packagesIn(manifest, [...OWN_LISTS, "peerDependencies"])];
+    const types = [...used, "node", ...packagesIn(manifest, LISTS)];
     return ofText("types", types.find((each) => typesOf(each) === name)) ??
       ofText("bin", scriptCalling(name, manifest, installed(name, manifest)?.members.bin)) ??
       ofFile("configuration", configurationNaming(name, configurationsOf(manifest))) ??
-      ofText("peer", packagesIn(manifest, OWN_LISTS).find(needs)) ??
-      ofFile("text", textNaming(name, texts ??= textsOf([...new Set([...modules.flatMap(pathsOf), ...pages])])));
+      ofText("peer", packagesIn(manifest, LISTS.slice(0, 2)).find(needs)) ??
+      ofFile("text", textNaming(name, allTexts("")));
   };
 }
 
@@ -190,7 +170,6 @@ function scriptCalling(name: string, { members: { scripts } }: Manifest, bin: un
   return lines.find(([, line]) => typeof line === "string" && calls.test(line))?.[0];
 }
 
-/** The path of a configuration that names a package. */
 function configurationNaming(name: string, texts: Text[]): string | undefined {
   const words = wordsPattern([name]);
   const [, scope, scopeName, own, rest] = OF_TOOL.exec(name) ?? [];
@@ -204,7 +183,6 @@ function configurationNaming(name: string, texts: Text[]): string | undefined {
   return texts.find(isNamed)?.file;
 }
 
-/** The path of a text that has a package's name as a string. */
 function textNaming(name: string, texts: Text[]): string | undefined {
   const quoted = new RegExp(`["'\`]~?${escaped(name)}(?:/[^"'\`\\n]*)?["'\`]`);
   return texts.find(({ text }) => quoted.test(text))?.file;
@@ -219,13 +197,11 @@ function configurations({ folder, path, members }: Manifest, files: RegularFiles
   return [{ file: path, text: JSON.stringify(Object.fromEntries(own)) }, ...textsOf(named)];
 }
 
-/** The paths of a module, and of the style sheets that it imports. */
 function pathsOf({ specifier, references }: GraphModule): string[] {
   const assets = references.flatMap(({ resolved }) => (resolved.class === "asset" ? [resolved.file] : []));
   return [specifier, ...assets.filter((url) => STYLES.test(url))].map((url) => fileURLToPath(url));
 }
 
-/** The texts of files, without those that can't be read. */
 function textsOf(paths: string[]): Text[] {
   return paths.flatMap((file) => {
     return unlessThrown(() => ({ file, text: String(readRegularFile(file, MAX_BYTES)) })) ?? [];
@@ -244,5 +220,4 @@ function wordsPattern(words: string[], before: string = ""): RegExp {
   return new RegExp(`(?<![\\w@./-])${before}(?:${words.map(escaped).join("|")})(?![\\w.-])`);
 }
 
-/** @returns a pattern of the text */
 const escaped = (text: string): string => text.replace(/[\\^$.*+?()[\]{}|/-]/g, "\\$&");

@@ -1,8 +1,6 @@
 /** A graph in the languages of programs that draw, and how each kind of dependencies is drawn. */
 
-
 export type Kind = "static" | "dynamic" | "type" | "require" | "jsdoc" | "pragma";
-
 type DrawnKind = { kind: Kind } & Record<"title" | "syntax" | "light" | "dark" | "dash" | "dot", string>;
 
 /** The members of each kind in the order of the type, and the kinds in that of the legend. */
@@ -28,7 +26,6 @@ export const KINDS: DrawnKind[] = ROWS.map(([kind, title, syntax, light, dark, d
 
 /** Kinds of edges that are drawn without a name. */
 const PLAIN = new Set(["static", "require"]);
-
 /** Characters that Graphviz prints unchanged and that no label may have. */
 const CONTROLS = /[\0-\x1f\x7f]/g;
 
@@ -41,10 +38,7 @@ const DOT_HEAD = `digraph modules {
 `;
 
 /** Graphviz's attributes by the kinds of edges. */
-const DOT_STYLES = new Map<string, string>(KINDS.map((each) => {
-  return [each.kind, `color="${each.light}", ${each.dot}`];
-}));
-
+const DOT_STYLES = new Map<string, string>(KINDS.map((each) => [each.kind, `color="${each.light}", ${each.dot}`]));
 type Edge<Key> = { from: Key, to: Key, kind: string };
 
 /** @returns in Graphviz's language; each edge of a kind between two modules is once in it */
@@ -81,11 +75,8 @@ function linesOf<Key>(
 
 /** Quotes a text as a label, in which Graphviz reads backslashes and entities of HTML. */
 export function quoted(text: string): string {
-  const escaped = text.replace(CONTROLS, "\ufffd").replace(/[\\"]/g, "\\$&").replace(/&/g, "&amp;");
-  return `"${escaped}"`;
+  return `"${text.replace(CONTROLS, "\ufffd").replace(/[\\"]/g, "\\$&").replace(/&/g, "&amp;")}"`;
 }
 
 /** A text in which nothing is markup. */
-function mermaidLabel(text: string) {
-  return text.replace(/[^\w./@ -]/gu, (character) => `#${character.codePointAt(0)};`);
-}
+const mermaidLabel = (text: string) => text.replace(/[^\w./@ -]/gu, (each) => `#${each.codePointAt(0)};`);

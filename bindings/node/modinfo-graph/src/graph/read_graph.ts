@@ -4,7 +4,7 @@ import { resolve as absolute } from "node:path";
 import { fileURLToPath } from "node:url";
 
 import { exclusionsOf } from "../files/exclusions.js";
-import { isComponent, isDeclaration, isModule, isPage } from "../files/file_kinds.js";
+import { isComponent, isDeclaration, isInstalled, isModule, isPage } from "../files/file_kinds.js";
 import { type Found, findFiles } from "../files/find_files.js";
 import { type FileResult, type ReadOptions, readFiles } from "../files/read_files.js";
 import { type KeyOf, canonicalUrls } from "../files/urls.js";
@@ -46,8 +46,8 @@ type Reading = Omit<ProjectTask, "resolver"> & Pick<Project, "isIgnored" | "reso
 export type ProjectGraph = Awaited<ReturnType<typeof readProject>>;
 
 /**
- * @returns rejected with an `EntryFault`, a `GlobFault` or a `GitFault`; `named` has the keys of the files of the
- *   paths, `absent` what names an entry that isn't there
+ * @returns rejected with an `EntryFault`, a `GlobFault` or a `GitFault`; `named` has the keys of the files of
+ *   the paths, `absent` what names an entry that isn't there
  */
 export async function readProject(task: ProjectTask) {
   const { paths, roots, all, links: follow, excluded, resolver: options } = task;
@@ -72,8 +72,8 @@ export async function readProject(task: ProjectTask) {
   const reading = { ...task, resolver, keyOf, isExcluded, isIgnored };
   const graph = await readGraph(allFiles(), reading, files.length > 0);
   pages.push(...texts.map((path) => absolute(path)));
-  const project: Project = { entries: files.map((path) => keyOf(path)), perhaps, pages, isIgnored, resolver };
-  return { ...project, graph, named, absent, keyOf };
+  const entries = files.map((path) => keyOf(path));
+  return { entries, perhaps, pages, isIgnored, resolver, graph, named, absent, keyOf };
 }
 
 /** @param follow whether files are read that the named ones lead to */
@@ -88,10 +88,8 @@ async function readGraph(named: AsyncIterable<Found>, reading: Reading, follow: 
   };
   for await (const file of readFiles(ahead(files), { ...reading, readOther })) {
     const module = moduleOf(file, reading);
-    if (module && resolve) {
-      await resolveBy(resolve, module, keyOf);
-    }
     if (module) {
+      await (resolve && resolveBy(resolve, module, keyOf));
       modules.set(module.specifier, module);
     }
     pass(module && follow ? pathsToFollow(module, reading, seen) : []);
@@ -101,8 +99,8 @@ async function readGraph(named: AsyncIterable<Found>, reading: Reading, follow: 
 
 /**
  * Each file once, by the first path that leads to it: those that are named, then those that these lead to.
- * @returns for each of the files `pass` has to be called with the paths of those that it leads to, in the order of
- *   the files: then the order of those that are found is always the same
+ * @returns for each of the files `pass` has to be called with the paths of those that it leads to, in the
+ *   order of the files: then the order of those that are found is always the same
  */
 function walk(named: AsyncIterable<Found>, keyOf: KeyOf) {
   const paths: string[] = [];
@@ -152,7 +150,8 @@ function moduleOf(
   const specifier = keyOf(file, real);
   const named = json ? resolver.resolveInfo(json, file, real) : [];
   const references = referencesOf(named, { isDeclaration: isDeclaration(file) });
-  const source = json && resolver.sourceOf(real ?? fileURLToPath(specifier));
+  const canonical = real ?? fileURLToPath(specifier);
+  const source = json && !isInstalled(canonical) ? resolver.search.sourceOf(canonical) : undefined;
   const module = { specifier, references, ...(source !== undefined && { source: keyOf(source) }) };
   const known = json && { info: json, module, notices: resolver.takeNotices() };
   const isOut = isExcluded(path);
@@ -182,6 +181,6 @@ function pathsToFollow({ references, source }: GraphModule, task: Reading, seen:
   });
   const others = [...urls, source].flatMap((url) => (url === undefined || seen.has(url) ? [] : url));
   others.forEach((url) => seen.add(url));
-  const isRead = (path: string) => isModule(path) || isComponent(path);
-  return others.map((url) => fileURLToPath(url)).filter((path) => isRead(path) && !task.isIgnored(path));
+  return others.map((url) => fileURLToPath(url))
+    .filter((path) => (isModule(path) || isComponent(path)) && !task.isIgnored(path));
 }

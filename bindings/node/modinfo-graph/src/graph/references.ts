@@ -3,12 +3,10 @@
 import type { DependencyDescriptor, ModuleInfo, ResolutionMode, SpecifierWithRange } from "modinfo";
 import type { Edge, Ends, Reference, ReferenceKind, Resolution } from "./graph.cjs";
 
-/** An object of a `ModuleInfo` that names a module */
+/** An object of a `ModuleInfo`, `node`, that names a module; `mode` is what an attribute or a comment asks for */
 export interface Named extends Omit<Reference, "resolved"> {
-  /** The object itself, which gets the member `resolved` */
   node: (DependencyDescriptor | SpecifierWithRange) & { resolved?: Resolution };
   syntax: Syntax;
-  /** What an attribute or a comment asks for */
   mode?: ResolutionMode;
 }
 
@@ -17,7 +15,6 @@ export interface Named extends Omit<Reference, "resolved"> {
  * page's script
  */
 export type Syntax = "import" | "dynamic" | "require" | "types" | "path" | "jsx" | "augmentation" | "url";
-
 const RUN_KINDS = new Set(["static", "dynamic", "require", "jsx"]);
 
 /** The dependencies whose kind isn't their type, by their kinds in a `ModuleInfo`. */
@@ -30,7 +27,6 @@ const BY_WORD = new Map<string, readonly ["type" | "require", Syntax]>([
   ["exportEquals", ["require", "require"]],
 ]);
 
-/** The pragmas that name a module. */
 const PRAGMAS = [
   ["selfTypesSpecifier", "type", "import"],
   ["jsxImportSource", "jsx", "jsx"],
@@ -39,7 +35,6 @@ const PRAGMAS = [
 
 /** Whether a reference of a kind runs the module that it names. */
 export const isRunKind = (kind: string): boolean => RUN_KINDS.has(kind);
-
 /** Whether references of types, JSDoc and comments count, and those of `import(..)`: true where it is missing. */
 export type Counted = { types?: boolean, dynamic?: boolean };
 
@@ -54,10 +49,8 @@ export function kindOf({ type, kind = "import" }: { type: "static" | "dynamic", 
 
 /** The text of an argument: its parts together; nothing where one of them isn't known. */
 export function textOfArgument(argument: string | { type: string, value?: string }[] | undefined) {
-  if (!Array.isArray(argument)) {
-    return argument;
-  }
-  return argument.every(({ type }) => type === "string") ? argument.map(({ value }) => value).join("") : undefined;
+  return !Array.isArray(argument) ? argument
+    : argument.every(({ type }) => type === "string") ? argument.map(({ value }) => value).join("") : undefined;
 }
 
 /** All that names a module, in the order of the members of a `ModuleInfo`. */

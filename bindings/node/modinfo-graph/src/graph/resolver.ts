@@ -9,29 +9,22 @@ import {
 } from "../files/file_kinds.js";
 import { RegularFiles, type System } from "../files/regular_files.js";
 import { urlOfPath } from "../files/urls.js";
-import { Configurations, type Options } from "./configurations.js";
-import { ConfiguredNames } from "./configured_names.js";
+import { Configurations, ConfiguredNames, type Options } from "./configurations.js";
 import { ImportMaps } from "./import_maps.js";
 import { packageOf, schemeOf } from "./names.js";
 import { fileAt } from "./node_rules.js";
-import { type Format as Mode, PackageManifests, packagesIn, projectsOf } from "./package_manifests.js";
+import { type Format as Mode, PackageManifests, projectsOf } from "./package_manifests.js";
 import { type Named, type Syntax, namedBy } from "./references.js";
 import { type Importer, type Name, type Run, Search } from "./search.js";
 import { TypeScriptTypes } from "./typescript_types.js";
 import type { ModuleInfo, PositionRange } from "modinfo";
 import type { ResolveOptions } from "../options.cjs";
-import type { Resolution, Rules } from "./graph.cjs";
+import type { Ends, Resolution, Rules } from "./graph.cjs";
 
-/** The most characters of a name. */
 const MAX_LENGTH = 4096;
-
 /** How many names are kept, and the most characters of one. */
 const MAX_KNOWN = 500_000;
 const MAX_KNOWN_LENGTH = 200;
-
-/** The members of a package.json that list packages. */
-const LISTS = ["dependencies", "devDependencies", "peerDependencies"];
-
 /** What a package that isn't installed may be called. */
 const PACKAGE_NAME = /^(?:@[^/!]+\/)?[^.@/!][^/!]*$/;
 
@@ -51,12 +44,12 @@ export interface ResolverOptions extends Pick<ResolveOptions, "conditions" | "ty
 
 /** A resolver looks at each file once: what changes after that isn't seen. */
 export class Resolver {
+  readonly manifests;
+  readonly search;
   private readonly files;
-  private readonly manifests;
   private readonly configurations;
   private readonly importMaps;
   private readonly names;
-  private readonly search;
   private readonly types;
   private readonly projectOf;
   /** By what decides where names lead. */
@@ -81,19 +74,17 @@ export class Resolver {
 
   /** What a name leads to, in the module at an absolute path. */
   resolve(
-    specifier: string, from: string, options: { kind?: Syntax, mode?: Mode, isScript?: boolean } = {},
+    specifier: string, from: string,
+    { kind: syntax = "import", mode, isScript = false }: { kind?: Syntax, mode?: Mode, isScript?: boolean } = {},
   ): Resolution {
-    const { kind = "import", mode, isScript = false } = options;
-    return this.resolution({ specifier, syntax: kind, mode }, this.importer(from, isScript));
+    return this.resolution({ specifier, syntax, mode }, this.importer(from, isScript));
   }
 
   /** Sets `resolved` in all that names a module, and returns these objects; `real` is the path without links. */
   resolveInfo(info: ModuleInfo, path: string, real?: string): Named[] {
     const importer = this.importer(path, info.script === true, real);
     const all = [...namedBy(info), ...this.jsxOf(info, importer)];
-    for (const named of all) {
-      named.node.resolved = this.resolution(named, importer);
-    }
+    all.forEach((named) => (named.node.resolved = this.resolution(named, importer)));
     return all;
   }
 
@@ -106,26 +97,6 @@ export class Resolver {
   /** The files that a name leads to where other conditions hold; `path` is the file that it leads to else. */
   others(specifier: string, from: string, path?: string): string[] {
     return this.search.others(specifier, this.importer(from, false), path);
-  }
-
-  /** @returns the path of the file that a module was compiled from, by a configuration; both without links */
-  sourceOf(path: string): string | undefined {
-    return isInstalled(path) ? undefined : this.search.sourceOf(path);
-  }
-
-  /** @returns the paths, without endings, at which the source of a module may be that no configuration has */
-  likelySources(path: string): string[] {
-    return isInstalled(path) ? [] : this.search.likelySources(path);
-  }
-
-  /** The folder of the nearest package.json, for an absolute path. */
-  packageOf(path: string): string | undefined {
-    return this.manifests.scopeOfFile(path)?.folder;
-  }
-
-  /** The names of the packages that the nearest package.json lists, for an absolute path. */
-  listedFor(path: string): string[] {
-    return packagesIn(this.manifests.scopeOfFile(path), LISTS);
   }
 
   /** What was found wrong with manifests and configurations since the last call. */
@@ -162,7 +133,6 @@ export class Resolver {
     return this.configurations.of(path).configuration?.options ?? {};
   }
 
-  /** Adds the project of a folder once. */
   private readonly addProject = memoized((folder: string) => {
     const { project, isWhole } = this.projectOf(folder);
     if (project !== undefined) {
@@ -205,11 +175,10 @@ export class Resolver {
   private typesBeside({ found }: Run): string | undefined {
     const { declarations = true } = this.options;
     const path = declarations && found.kind === "file" ? declarationOf(found.path) : undefined;
-    const beside = path === undefined ? undefined : fileAt(path, this.files);
-    return beside?.kind === "file" ? beside.path : undefined;
+    const beside = path && fileAt(path, this.files);
+    return beside && beside.kind === "file" ? beside.path : undefined;
   }
 
-  /** What `/// <reference path="..." />` names. */
   private referenced(specifier: string, { path }: Importer): Resolution {
     const found = fileAt(absolute(dirname(path), specifier), this.files);
     return found.kind === "outside" ? { class: "outside", target: urlOfPath(found.path) }
@@ -219,11 +188,9 @@ export class Resolver {
   /** @param types the path of what has the types */
   private classified(specifier: string, importer: Importer, run: Run, types: string | undefined): Resolution {
     const { found, by } = run;
-    if (found.kind === "outside") {
-      return { class: "outside", target: urlOfPath(found.path) };
-    }
     if (found.kind !== "file" && found.kind !== "none") {
-      return { class: found.kind };
+      const { kind } = found;
+      return kind === "outside" ? { class: kind, target: urlOfPath(found.path) } : { class: kind };
     }
     const { name } = packageOf(specifier) ?? {};
     const path = found.kind === "file" ? found.path : undefined;
@@ -234,17 +201,13 @@ export class Resolver {
     }
     const files = filesOf(path, types, by);
     const all = { ...files, ...(by && { by }) };
-    if (name !== undefined && isInstalled(first)) {
-      return { class: "package", package: name, ...all };
-    }
-    return files.file && isAsset(first) ? { class: "asset", file: files.file, ...all } : { class: "file", ...all };
+    return name !== undefined && isInstalled(first) ? { class: "package", package: name, ...all }
+      : files.file && isAsset(first) ? { class: "asset", file: files.file, ...all } : { class: "file", ...all };
   }
 }
 
 /** @returns URLs. A declaration file has types alone, unless it is named as it is */
-function filesOf(
-  run: string | undefined, types: string | undefined, by: Rules | undefined,
-): { file?: string, types?: string } {
+function filesOf(run?: string, types?: string, by?: Rules): Pick<Ends, "file" | "types"> {
   const file = run === undefined || (isDeclaration(run) && by !== "node") ? undefined : run;
   const other = types ?? (file === undefined ? run : undefined);
   return { ...(file && { file: urlOfPath(file) }), ...(other && other !== file && { types: urlOfPath(other) }) };

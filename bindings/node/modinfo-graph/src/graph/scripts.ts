@@ -1,6 +1,6 @@
 /**
- * Components and pages as modules: their scripts, each as a text of its own, and what they name, together. What is
- * outside of a script is blank, so each position in it is that in the file.
+ * Components and pages as modules: their scripts, each as a text of its own, and what they name, together.
+ * What is outside of a script is blank, so each position in it is that in the file.
  */
 
 import { extname, resolve as absolute } from "node:path";
@@ -18,25 +18,17 @@ import type { Read } from "../files/read_files.js";
 
 /** The `src` of a script, with the range of its quotes. */
 export type Source = Range & { name: string };
-
 /** The text of each script up to its end, and the JSON of each import map. */
 type Scripts = { scripts: { text: string, mediaType: MediaType }[], sources: Source[], importMaps: string[] };
-
-/** The most characters of all texts of a file. */
 const MOST_CHARACTERS = 2 ** 26;
-
 const NO_LINE_BREAK = /[^\r\n\u2028\u2029]/gu;
 const FRONT_MATTER = /^(\ufeff?\s*---[^\S\n]*\r?\n)([^]*?)^---[^\S\n]*$/m;
-
 /** The beginning of code in Markdown, and that of an import or an export in MDX. */
 const FENCE = /^\s*(`{3,}|~{3,})/;
 const DECLARATION = /^(?:import|export)(?=[\s{*"'])/;
-
 /** Those of a page, and those of MDX. */
 const COMMENTS = [/<!--[^]*?(-->|$)/g, /\{\/\*[^]*?(\*\/\}|$)/g];
-
 const REPORT = /^<!DOCTYPE html>\n<html lang="en">\n[^]{0,1000}<title>Dependencies of /;
-
 /** The media types of the scripts that have no word for it. */
 const STANDARD = new Map<string, MediaType>([[".astro", "TypeScript"], [".mdx", "Jsx"]]);
 
@@ -46,25 +38,19 @@ export function scriptsOf(text: string, path: string): Scripts {
   const standard = STANDARD.get(ending) ?? "JavaScript";
   const all: Scripts = { scripts: [], sources: [], importMaps: [] };
   const add = (ranges: Range[], mediaType: MediaType) => {
-    all.scripts.push({ text: textOf(text, ranges), mediaType });
+    all.scripts.push(...ranges.length > 0 ? [{ text: textOf(text, ranges), mediaType }] : []);
   };
   if (ending === ".mdx") {
     // They are one module.
-    const blocks = blocksOf(COMMENTS.reduce(withoutComments, text));
-    if (blocks.length > 0) {
-      add(blocks, standard);
-    }
+    add(blocksOf(COMMENTS.reduce(withoutComments, text)), standard);
     return all;
   }
   const [before = "", opening = "", front = ""] = (ending === ".astro" && FRONT_MATTER.exec(text)) || [];
-  if (before !== "") {
-    add([{ start: opening.length, end: opening.length + front.length }], standard);
-  }
+  add(before === "" ? [] : [{ start: opening.length, end: opening.length + front.length }], standard);
   let length = 0;
   for (const { attributes, start, end } of scriptTags(text, before.length, ending !== ".vue")) {
     const source = attributes.get("src");
-    const type = attributes.get("type")?.value ?? "";
-    const language = attributes.get("lang")?.value ?? "";
+    const [type, language] = ["type", "lang"].map((name) => attributes.get(name)?.value ?? "");
     const ofType = type === "" || type === "module" ? standard : mediaTypeOfMime(type);
     // Without one it is no script of a module.
     const mediaType = language === "" ? ofType : mediaTypeOfLanguage(language);
@@ -128,16 +114,13 @@ function withoutComments(text: string, comments: RegExp): string {
   return text.replace(comments, (comment, end) => (end === "" ? comment : comment.replace(/[^\n]/g, " ")));
 }
 
-/** Whether a text begins as the page of a report does. */
 export const isReport = (text: string): boolean => REPORT.test(text);
 
 /** Returns what finds the line and character, from zero, of an offset in UTF-16 units, ascending ones quickest. */
 export function positionsIn(text: string): (offset: number) => [number, number] {
   let [at, line, character] = [0, 0, 0];
   return (offset) => {
-    if (offset < at) {
-      [at, line, character] = [0, 0, 0];
-    }
+    [at, line, character] = offset < at ? [0, 0, 0] : [at, line, character];
     const lines = text.slice(at, offset).split("\n");
     character = (lines.length > 1 ? 0 : character) + [...lines[lines.length - 1]].length;
     line += lines.length - 1;
@@ -146,21 +129,14 @@ export function positionsIn(text: string): (offset: number) => [number, number] 
   };
 }
 
-/** Offsets in a text. */
 type Range = { start: number, end: number };
-
 /** Attributes by their names in lower case, whose ranges have the quotes, and the range of what is in the tag. */
 type ScriptTag = Range & { attributes: Map<string, Range & { value: string }> };
-
 /** A comment, or a tag whose content isn't searched for others. */
 const RAW = /<!--|<(script|style|textarea|title|xmp)(?=[\s/>])/gi;
-
-/** A comment, or a tag of any name. */
 const ANY = /<!--|<([a-z][\w.:-]*)(?=[\s/>])/gi;
-
 const ATTRIBUTE = /[\s/]*([^\s"'<>/=]+)(?:\s*=\s*("[^"]*"|'[^']*'|[^\s"'>][^\s>]*))?/y;
 const TAG_END = /\s*\/?>/y;
-
 /** After how many tags without an end no more are looked at. */
 const MOST_OPEN = 100;
 
@@ -202,9 +178,8 @@ function tagAt(text: string, from: number) {
     attributes.set(key, attributes.get(key) ?? { value, start: end - written.length, end });
   }
   TAG_END.lastIndex = end;
-  const [mark] = TAG_END.exec(text) ?? [];
-  const isEmpty = mark?.endsWith("/>") ?? false;
-  return { attributes, end: end + (mark ?? "").length, isEnded: mark !== undefined, isEmpty };
+  const [mark = ""] = TAG_END.exec(text) ?? [];
+  return { attributes, end: end + mark.length, isEnded: mark !== "", isEmpty: mark.endsWith("/>") };
 }
 
 /** The offsets of the end of what is in a tag's element, and of that after it; nothing where it has none. */
@@ -222,22 +197,20 @@ function contentAt(text: string, start: number, name: string, isWhole: boolean):
   return undefined;
 }
 
-/** The most bytes of a component or a page. */
 const MOST_BYTES = 2 ** 24;
-
 /** The members of a `ModuleInfo` that are lists, and those of which the first script's counts. */
 const LISTS = ["dependencies", "tsReferences", "jsdocImports"] as const;
 const SINGLE = ["selfTypesSpecifier", "jsxImportSource", "jsxImportSourceTypes"] as const;
 
 /**
- * Reads a component or a page. `value` is a `ModuleInfo` of the scripts that can be read, with `isUrl` in what the
- * `src` of a page's script names; `fault` is that of the first script that can't be read. A page without scripts,
- * and a report that was made before, has neither.
+ * Reads a component or a page. `value` is a `ModuleInfo` of the scripts that can be read, with `isUrl` in
+ * what the `src` of a page's script names; `fault` is that of the first script that can't be read. A page
+ * without scripts, and a report that was made before, has neither.
  */
 export async function readComponent(path: string, infoOf: ReturnType<typeof textReader>): Promise<Read> {
   try {
     const text = readRegularText(path, MOST_BYTES);
-    const { scripts, sources } = isReport(text) ? { scripts: [], sources: [] } : scriptsOf(text, path);
+    const { scripts, sources } = scriptsOf(isReport(text) ? "" : text, path);
     if (isPage(path) && scripts.length + sources.length === 0) {
       return {};
     }
@@ -252,12 +225,12 @@ export async function readComponent(path: string, infoOf: ReturnType<typeof text
   }
 }
 
-/** The information of several texts as that of one. */
 function merged(infos: ModuleInfo[]): ModuleInfo {
   const lists = LISTS.map((name) => [name, infos.flatMap((info): unknown[] => info[name] ?? [])] as const);
   const single = SINGLE.map((name) => [name, infos.find((info) => info[name])?.[name]] as const);
-  const found = [...lists.filter(([, value]) => value.length > 0), ...single.filter(([, value]) => value)];
-  return Object.fromEntries(found);
+  return Object.fromEntries([...lists, ...single].filter(([, value]) => {
+    return Array.isArray(value) ? value.length > 0 : value;
+  }));
 }
 
 /** @param isUrl whether sources, which are in the order of the text, are URLs and not names of modules */

@@ -1,7 +1,7 @@
 /**
- * What runs for a name: `browser` and configurations come first, then node's rules, and then those of
- * compilers and bundlers. In a TypeScript file a relative name leads to a TypeScript file before. The names
- * of a configuration that doesn't include the file come last, and other `rootDirs`.
+ * What runs for a name: `browser` and configurations come first, in TypeScript then a TypeScript file, then
+ * node's rules, those of bundlers, other `rootDirs`, and the names of a configuration that doesn't include
+ * the file.
  */
 
 import { isBuiltin } from "node:module";
@@ -15,23 +15,21 @@ import { type Found, type Missing, NONE, NodeRules, firstOf } from "./node_rules
 import { PackageFolders, Workspaces } from "./package_folders.js";
 import { allTargets } from "./package_targets.js";
 import type { RegularFiles } from "../files/regular_files.js";
-import type { ConfiguredNames } from "./configured_names.js";
+import type { ConfiguredNames } from "./configurations.js";
 import type { Resolution, Rules } from "./graph.cjs";
 import type { Configured } from "./import_maps.js";
 import type { Format as Mode, PackageManifests } from "./package_manifests.js";
 import type { Syntax } from "./references.js";
 
 type Target = Found | { kind: "disabled" | "data" | "npm" | "jsr" | "url" };
-
-/** What runs, and by which rules it was found */
 export type Run = { found: Target, by?: Rules };
-
 /** `mode` is what an attribute or a comment asks for */
 export type Name = { specifier: string, syntax: Syntax, mode?: Mode };
 
 /**
- * The file that has a name, by its path without links. `isTypeScript` is false for a declaration file, and for an
- * installed one; `isScript` is whether it has no syntax of ES modules, `format` what an `import` in it becomes.
+ * The file that has a name, by its path without links. `isTypeScript` is false for a declaration file, and
+ * for an installed one; `isScript` is whether it has no syntax of ES modules, `format` what an `import` in it
+ * becomes.
  */
 export interface Importer extends Source {
   path: string;
@@ -84,16 +82,11 @@ export class Search {
   }
 
   find(named: Name, importer: Importer): Run {
-    if (named.syntax === "url") {
-      return this.ofPage(named.specifier, importer);
-    }
-    const run = this.replaced(named.specifier, importer) ?? this.byRules(named, importer);
-    if (!this.isBrowser || run.found.kind !== "file") {
-      return run;
-    }
-    const { path } = run.found;
-    const other = this.bundler.replacement(this.manifests.scopeOfFile(path), path);
-    return other === undefined ? run : this.instead(other, path, importer);
+    const run = named.syntax === "url" ? this.ofPage(named.specifier, importer)
+      : this.replaced(named.specifier, importer) ?? this.byRules(named, importer);
+    const { found } = run;
+    return this.isBrowser && named.syntax !== "url" && found.kind === "file"
+      ? this.instead(found.path, found.path, importer, found.path) ?? run : run;
   }
 
   /** Whether a package is there, with or without the file that is looked for. */
@@ -107,8 +100,8 @@ export class Search {
   }
 
   /**
-   * Paths that a name leads to where other conditions hold: by `imports`, by `exports` of packages of the project,
-   * and by `browser`, also in the place of the file at `path`, which the name leads to.
+   * Paths that a name leads to where other conditions hold: by `imports`, by `exports` of packages of the
+   * project, and by `browser`, also in the place of the file at `path`, which the name leads to.
    */
   others(specifier: string, importer: Importer, path?: string): string[] {
     const scope = this.manifests.scopeOfFile(importer.path);
@@ -125,7 +118,6 @@ export class Search {
     return found.flatMap((each) => (each.kind === "file" ? each.path : []));
   }
 
-  /** The files of a package of the project that a name may lead to. */
   private allExports(specifier: string, { path }: Importer): URL[] {
     const { name = "", rest } = packageOf(specifier) ?? {};
     const scope = this.manifests.scopeOfFile(path);
@@ -172,20 +164,18 @@ export class Search {
     }
     const hasPath = isPath(specifier);
     const key = hasPath ? absolute(dirname(importer.path), specifier) : specifier;
-    const other = this.bundler.replacement(this.manifests.scopeOfFile(hasPath ? key : importer.path), key);
-    if (other !== undefined) {
-      return this.instead(other, importer.path, importer);
-    }
     const { name, rest } = packageOf(specifier) ?? {};
     const folder = name && rest === "" ? this.packages.required(name, dirname(importer.path)) : undefined;
     const own = folder && this.manifests.of(folder);
     const hasMain = own && typeof own.members.browser === "string" && !own.exports;
-    return hasMain ? { found: this.bundler.inPackage(own.folder, "", importer), by: "bundler" } : undefined;
+    return this.instead(key, hasPath ? key : importer.path, importer) ??
+      (hasMain ? { found: this.bundler.inPackage(own.folder, "", importer), by: "bundler" } : undefined);
   }
 
-  /** What is at the path or the name that `browser` has instead, in the package of a file. */
-  private instead(other: string | false, from: string, importer: Importer): Run {
-    return other === false ? { found: { kind: "disabled" } } : {
+  /** What is at the path or the name that `browser` of the package of a file has in the place of another one. */
+  private instead(key: string, file: string, importer: Importer, from = importer.path): Run | undefined {
+    const other = this.bundler.replacement(this.manifests.scopeOfFile(file), key);
+    return other === undefined ? undefined : other === false ? { found: { kind: "disabled" } } : {
       found: other.startsWith("/") ? this.bundler.atPath(other, importer) : this.node.import(other, from),
       by: "bundler",
     };
@@ -203,13 +193,10 @@ export class Search {
   private byConfiguration(configured: Configured | undefined, importer: Importer): Run | undefined {
     const { by, paths = [], name } = configured ?? {};
     const found = firstOf(paths, (path) => this.bundler.atPath(path, importer));
-    if (found || name === undefined) {
-      return found && { found, by };
-    }
-    return byScheme(name) ?? { ...this.byNodeAndBundlers({ specifier: name, syntax: "import" }, importer), by };
+    return found || name === undefined ? found && { found, by }
+      : byScheme(name) ?? { ...this.byNodeAndBundlers({ specifier: name, syntax: "import" }, importer), by };
   }
 
-  /** The TypeScript file of a relative name in one. */
   private bySource(specifier: string, importer: Importer): Run | undefined {
     const isMeant = importer.isTypeScript && isRelative(specifier);
     const wanted = pathOf(specifier, dirname(importer.path));
@@ -226,8 +213,8 @@ export class Search {
       }
       missing.push(run.found);
     }
-    const found = missing.find((each) => each.package !== undefined) ?? NONE;
-    return this.bySources(missing, importer) ?? { found };
+    return this.bySources(missing, importer) ??
+      { found: missing.find((each) => each.package !== undefined) ?? NONE };
   }
 
   private *tries(named: Name, importer: Importer): Generator<Run> {
@@ -249,12 +236,9 @@ export class Search {
     const path = pathOf(name, dirname(importer.path));
     const { folder } = this.manifests.scopeOfFile(importer.path) ?? {};
     const found = this.bundler.atPath(path, importer);
-    if (found.kind !== "none") {
-      return found;
-    }
     // A server of a bundler has the project's folder as its root.
-    return name.startsWith("/") && folder !== undefined
-      ? this.bundler.atPath(pathOf(`.${name}`, folder), importer)
+    return found.kind !== "none" ? found
+      : name.startsWith("/") && folder !== undefined ? this.bundler.atPath(pathOf(`.${name}`, folder), importer)
       : this.bundler.ofPlatform(path, importer) ?? found;
   }
 
@@ -276,10 +260,8 @@ export class Search {
 
   private inPackage(folder: string | undefined, rest: string, importer: Importer): Found {
     const found = folder === undefined ? NONE : this.anyCondition.ofPackage(folder, rest, "import");
-    if (folder === undefined || found.kind !== "none" || this.manifests.of(folder)?.exports) {
-      return found;
-    }
-    const other = this.bundler.inPackage(folder, rest, importer);
+    const isOther = folder !== undefined && found.kind === "none" && !this.manifests.of(folder)?.exports;
+    const other = isOther ? this.bundler.inPackage(folder, rest, importer) : NONE;
     return other.kind === "none" ? found : other;
   }
 
@@ -297,13 +279,10 @@ export class Search {
   }
 
   /** The path at which a file isn't, without links. */
-  private wanted({ wanted, package: folder }: Missing): string[] {
-    if (wanted === undefined) {
-      return [];
-    }
+  private wanted({ wanted = "", package: folder }: Missing): string[] {
     const isIn = folder !== undefined && wanted.startsWith(`${folder}/`);
     const path = isIn ? this.files.at(folder).path + wanted.slice(folder.length) : wanted;
-    return path.includes("/node_modules/") ? [] : [path];
+    return path === "" || path.includes("/node_modules/") ? [] : [path];
   }
 }
 
@@ -313,22 +292,15 @@ export class Search {
  * looked for as a `require`.
  */
 function nodeModes({ syntax, mode }: Name, { isTypeScript: isSource, isScript, format }: Importer): Mode[] {
-  if (mode || syntax === "require") {
-    return [mode ?? "require"];
-  }
-  if (format === "import" || (syntax === "dynamic" && isScript)) {
-    return ["import"];
-  }
-  return syntax === "import" && isSource && format === "require" ? ["require"] : ["import", "require"];
+  return mode || syntax === "require" ? [mode ?? "require"]
+    : format === "import" || (syntax === "dynamic" && isScript) ? ["import"]
+    : syntax === "import" && isSource && format === "require" ? ["require"] : ["import", "require"];
 }
 
-/** @returns nothing for a path and for a name */
 function byScheme(specifier: string): Run | undefined {
   const scheme = schemeOf(specifier);
-  if (scheme === "node") {
-    return { found: isBuiltin(specifier) ? { kind: "builtin" } : NONE };
-  }
-  return scheme === undefined || scheme === "file" ? undefined : { found: atUrl(specifier) };
+  return scheme === undefined || scheme === "file" ? undefined
+    : { found: scheme !== "node" ? atUrl(specifier) : isBuiltin(specifier) ? { kind: "builtin" } : NONE };
 }
 
 function atUrl(url: string): Target {

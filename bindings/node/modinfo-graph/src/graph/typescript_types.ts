@@ -6,7 +6,7 @@ import { memoized } from "../files/by_folder.js";
 import { isTypeScript } from "../files/file_kinds.js";
 import { loadTypeScript } from "../files/program.js";
 import { unlessThrown } from "../runtime/faults.js";
-import { Notices } from "./members.js";
+import { Notices } from "./package_manifests.js";
 import { fileAt } from "./node_rules.js";
 import type ts from "typescript";
 import type { RegularFiles } from "../files/regular_files.js";
@@ -15,7 +15,6 @@ import type { Importer, Name } from "./search.js";
 
 /** Diagnostics of a file that can't be read, which are reported without TypeScript. */
 const OF_FILES = new Set([5012, 5083, 6053]);
-
 type Settings = { options: ts.CompilerOptions, cache: ts.ModuleResolutionCache };
 
 export class TypeScriptTypes {
@@ -56,11 +55,9 @@ export class TypeScriptTypes {
   /** Before 5.0 TypeScript finds no file by a name with TypeScript's ending, but by that of its JavaScript. */
   private findByJavaScriptName(name: string, find: (name: string) => string | undefined) {
     const [ending, kind, jsx] = /\.([cm]?)ts(x?)$/.exec(name) ?? [];
-    if (ending === undefined || Number.parseInt(this.compiler.version) >= 5) {
-      return undefined;
-    }
-    const found = find(`${name.slice(0, -ending.length)}.${kind}js${jsx}`);
-    return found?.endsWith(ending) ? found : undefined;
+    const isMeant = ending !== undefined && Number.parseInt(this.compiler.version) < 5;
+    const found = isMeant ? find(`${name.slice(0, -ending.length)}.${kind}js${jsx}`) : undefined;
+    return found?.endsWith(String(ending)) ? found : undefined;
   }
 
   /** The settings for a file. Names of a configuration that doesn't include the file come last. */

@@ -1,14 +1,13 @@
 /**
- * The modules that no entry reaches by what runs, in three classes: unreached, perhaps reached, and reached
- * by types alone. A module is perhaps reached where something that isn't known as a whole, or is in a text
- * alone, may lead to it.
+ * The modules that no entry reaches by what runs: unreached ones; those that may be reached, by what isn't
+ * known as a whole, or is in a text alone; and those that types alone reach.
  */
 
-import { dirname, extname, join, relative, resolve as absolute } from "node:path";
+import { dirname, extname, relative, resolve as absolute } from "node:path";
 import { fileURLToPath, pathToFileURL } from "node:url";
 
 import { memoized } from "../files/by_folder.js";
-import { describedBeside, isComponent, isDeclaration, isPage } from "../files/file_kinds.js";
+import { describedBeside, isComponent, isDeclaration, isInstalled, isPage } from "../files/file_kinds.js";
 import { globMatcher } from "../files/globs.js";
 import { readRegularFile } from "../files/regular_files.js";
 import { urlOfPath } from "../files/urls.js";
@@ -16,6 +15,7 @@ import { unlessThrown } from "../runtime/faults.js";
 import { type Parts, commentsOf, literalOf, literalsOf, looseCalls, looseImports } from "./loose_references.js";
 import { type Among, Candidates, filesNamed } from "./named_paths.js";
 import { isAlias, isRelative, tailOf } from "./names.js";
+import { LISTS, type Manifest, packagesIn } from "./package_manifests.js";
 import { isRunKind } from "./references.js";
 import { isReport, positionsIn, searchedText } from "./scripts.js";
 import type { Perhaps } from "./entry_points.js";
@@ -34,10 +34,7 @@ export function unreachedOf(graph: ModuleGraph, listed: string[], project: Proje
   const asked = [...new Set(listed)].filter((key) => {
     return (graph.hasTypes || !isDeclaration(key)) && !isReached(key) && graph.module(key);
   });
-  if (asked.length === 0) {
-    return { unreached: [], mayBeReached: [], byTypes: [] };
-  }
-  const reasons = reasonsOf(graph, reached, project, [...reached]);
+  const reasons = asked.length > 0 ? reasonsOf(graph, reached, project, [...reached]) : new Map<string, Reason>();
   return classed(asked, reasons, typeMentions(graph, [...entries, ...reasons.keys()]));
 }
 
@@ -47,14 +44,13 @@ export function unledOf(graph: ModuleGraph, listed: string[], project: Project):
   const keys = graph.modules.map(({ specifier }) => specifier);
   const led = new Set(keys.flatMap((key) => all.edgesFrom(key).map(({ to }) => to).filter((to) => to !== key)));
   const reasons = reasonsOf(graph, led, project, keys);
-  return classed(listed.filter((key) => !led.has(key)), reasons, new Map());
+  return classed(listed.filter((key) => !led.has(key)), reasons, () => undefined);
 }
 
-function classed(asked: string[], reasons: Map<string, Reason>, byTypes: Map<string, Mention>): Unreached {
+function classed(asked: string[], reasons: Map<string, Reason>, byTypes: Mentions): Unreached {
   const found: Unreached = { unreached: [], mayBeReached: [], byTypes: [] };
   for (const module of asked) {
-    const reason = reasons.get(module);
-    const by = byTypes.get(module);
+    const [reason, by] = [reasons.get(module), byTypes(module)];
     if (reason) {
       found.mayBeReached.push({ module, reason });
     } else if (by) {
@@ -66,39 +62,32 @@ function classed(asked: string[], reasons: Map<string, Reason>, byTypes: Map<str
   return found;
 }
 
-/** The URLs of what reached modules name that is no module. */
 function assetsOf(graph: ModuleGraph, reached: Set<string>): Set<string> {
   const references = [...reached].flatMap((key) => graph.module(key)?.references ?? []);
   return new Set(references.flatMap(({ resolved }) => (resolved.class === "asset" ? resolved.file : [])));
 }
 
+type Mentions = (key: string) => Mention | undefined;
+
 /** What leads first to each module that is reached from some keys where types count too. */
-function typeMentions(graph: ModuleGraph, starts: string[]): Map<string, Mention> {
+function typeMentions(graph: ModuleGraph, starts: string[]): Mentions {
   const all = graph.withTypes();
   const keys = all.reached(starts);
-  const found: Map<string, Mention> = new Map();
-  for (const edge of [...keys].flatMap((key) => all.edgesFrom(key))) {
-    if (keys.has(edge.to) && !found.has(edge.to)) {
-      found.set(edge.to, all.mentionOf(edge));
-    }
-  }
-  return found;
+  const edges = [...keys].flatMap((key) => all.edgesFrom(key)).filter(({ to }) => keys.has(to));
+  // The first one of several is kept.
+  const byTarget = new Map(edges.reverse().map((edge) => [edge.to, edge]));
+  return (key) => [byTarget.get(key) ?? []].flat().map((edge) => all.mentionOf(edge))[0];
 }
 
-/** The keys of entries, what package.json names for other conditions, and the paths of what isn't parsed. */
-export interface Project {
-  entries: string[];
-  perhaps: Perhaps[];
-  pages: string[];
-  /** Whether a file isn't read as a module */
-  isIgnored: (path: string) => boolean;
-  resolver: Resolver;
-}
+/**
+ * The keys of entries, what package.json names for other conditions, the paths of what isn't parsed, and whether a
+ * file isn't read as a module.
+ */
+export type Project = Record<"entries" | "pages", string[]>
+  & { perhaps: Perhaps[], isIgnored: (path: string) => boolean, resolver: Resolver };
 
 /** Where and for what is searched; `isOpen` returns whether a module is neither reached nor found */
 type Search = Among & { graph: ModuleGraph, isOpen: (key: string) => boolean };
-
-/** The keys of what something may lead to. */
 type Hint = Reason & { keys: string[] };
 
 /** Why each module may be reached, by their keys; `starts` are keys of modules that are taken for reached. */
@@ -139,24 +128,21 @@ export function reasonsOf(
   return reasons;
 }
 
-/** What frameworks load by its path. */
 function* ofConventions(keys: string[], { resolver, isOpen }: Search): Generator<Hint, void> {
-  const loaderIn = memoized((folder: string) => loaderOf(resolver.listedFor(join(folder, "package.json"))));
+  const loaderIn = memoized((manifest: Manifest) => loaderOf(packagesIn(manifest, LISTS)));
   for (const key of keys.filter(isOpen)) {
     const path = fileURLToPath(key);
-    const folder = resolver.packageOf(path) ?? "";
-    const text = folder && loaderIn(folder)(relative(folder, path));
+    const manifest = resolver.manifests.scopeOfFile(path);
+    const text = manifest && loaderIn(manifest)(relative(manifest.folder, path));
     if (text) {
-      yield { keys: [key], kind: "convention", module: urlOfPath(join(folder, "package.json")), text };
+      yield { keys: [key], kind: "convention", module: urlOfPath(manifest.path), text };
     }
   }
 }
 
-/** What a package.json names for other conditions, or in a text. */
 function ofManifest({ kind, path, from, text }: Perhaps, search: Search): Hint {
-  const literals = path === undefined ? [literalOf(text)].flat() : [];
-  const paths = path === undefined ? literals.flatMap((each) => filesNamed(from, each, search)) : [path];
-  return { keys: paths.map(urlOfPath), kind, module: urlOfPath(from), text };
+  const paths = path ?? [literalOf(text)].flat().flatMap((each) => filesNamed(from, each, search));
+  return { keys: [paths].flat().map(urlOfPath), kind, module: urlOfPath(from), text };
 }
 
 /** What a module names that isn't reached itself. */
@@ -171,7 +157,8 @@ function* ofEdges({ specifier: key, isExcluded }: GraphModule, { graph }: Search
 /** What is built of other files: those are in use that have the same path below `src`. */
 function ofSources(key: string, { graph, resolver, candidates }: Search): Hint {
   const { source } = graph.module(key) ?? {};
-  const likely = source === undefined ? resolver.likelySources(fileURLToPath(key)) : [];
+  const path = fileURLToPath(key);
+  const likely = source === undefined && !isInstalled(path) ? resolver.search.likelySources(path) : [];
   const paths = likely.flatMap((each) => candidates.named(each, "/"));
   return { keys: [source ?? [], paths.map(urlOfPath)].flat(), kind: "output", module: key };
 }
@@ -182,7 +169,7 @@ function* ofReference(
 ): Generator<Hint, void> {
   const path = fileURLToPath(key);
   const { file } = resolved as Ends;
-  const target = file === undefined ? [] : [fileURLToPath(file)];
+  const target = file ? [fileURLToPath(file)] : [];
   const hint = (kind: Reason["kind"], paths: string[], text = specifier) => {
     return { keys: paths.map(urlOfPath), kind, module: key, position, text };
   };
@@ -225,15 +212,13 @@ function* ofText(key: string, search: Search): Generator<Hint, void> {
 
 /** Whether a literal is in no comment of a text, and isn't the name of a reference. */
 function otherLiterals(text: string, references: Reference[]) {
-  const named = references.filter(({ specifier }) => specifier !== undefined);
-  const known = new Set(named.map(({ range: [start] }) => start.join(":")));
+  const known = new Set(references.map((each) => each.specifier !== undefined && String(each.range[0])));
   const isInComment = commentsOf(text);
-  return (offset: number, position: number[]) => !known.has(position.join(":")) && !isInComment(offset);
+  return (offset: number, position: number[]) => !known.has(String(position)) && !isInComment(offset);
 }
 
 const shown = (parts: Parts) => parts.map((each) => each ?? "${..}").join("");
 
-/** The text of a file, empty where it can't be read. */
 function textOf(path: string): string {
   const text = unlessThrown(() => String(readRegularFile(path))) ?? "";
   // The scripts of an earlier report are no part of the project.
@@ -261,8 +246,6 @@ const LOADED = new Map([
 
 /** Returns which of the packages that a package.json lists loads the file at a path from its folder. */
 export function loaderOf(packages: string[]): (path: string) => string | undefined {
-  const loaders = packages.flatMap((name) => (LOADED.get(name) ?? []).map((glob) => {
-    return { name, matches: globMatcher(glob) };
-  }));
-  return (path) => loaders.find(({ matches }) => matches(path))?.name;
+  const loaders = packages.map((name) => ({ name, all: (LOADED.get(name) ?? []).map(globMatcher) }));
+  return (path) => loaders.find(({ all }) => all.some((matches) => matches(path)))?.name;
 }

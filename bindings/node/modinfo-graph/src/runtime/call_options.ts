@@ -6,11 +6,16 @@ import type { Signal } from "modinfo/internal/types/calls.cjs";
 
 export { checkKnown, readSignal } from "modinfo/internal/core/input.cjs";
 
-/** How many processes run at once: one for each processor, where the number is missing. @throws {TypeError} */
-export function readJobs(jobs: unknown = os.availableParallelism?.() ?? os.cpus().length): number {
-  if (!Number.isInteger(jobs) || Number(jobs) < 1) {
-    throw new TypeError(`jobs must be a whole number from 1 on, not ${String(jobs)}`);
+/** @throws {TypeError} */
+export function checkThat(isMet: unknown, message: string): asserts isMet {
+  if (!isMet) {
+    throw new TypeError(message);
   }
+}
+
+export function readJobs(jobs: unknown = os.availableParallelism?.() ?? os.cpus().length): number {
+  const isCount = Number.isInteger(jobs) && Number(jobs) >= 1;
+  checkThat(isCount, `jobs must be a whole number from 1 on, not ${String(jobs)}`);
   return Number(jobs);
 }
 

@@ -1,7 +1,6 @@
 /**
- * Why nothing is known of a file, and texts as messages show them. The name of a file may have any character
- * but two, among them those that move a terminal's cursor, begin a line that looks like another message, or
- * turn the direction of a text.
+ * Why nothing is known of a file, and texts as messages show them: a file's name may have characters that
+ * move a terminal's cursor, begin a line that looks like another message, or turn the direction of a text.
  */
 
 import { ModinfoFault, ProgramEnd } from "modinfo/internal/core/errors.cjs";
@@ -70,7 +69,6 @@ export function printable(text: string): string {
 export const printableLines = (text: string): string => text.replace(/[^\n\t]+/g, printable);
 
 function escaped(character: string) {
-  const code = character.codePointAt(0) ?? 0;
-  const digits = code.toString(16);
-  return code < 0x100 ? `\\x${digits.padStart(2, "0")}` : `\\u{${digits}}`;
+  const digits = Number(character.codePointAt(0)).toString(16);
+  return digits.length > 2 ? `\\u{${digits}}` : `\\x${digits.padStart(2, "0")}`;
 }

@@ -1,8 +1,3 @@
-/** Tasks, of which some run at once. */
-
-/** What a promise ends with, once that is known: `end` returns its value, or throws its error */
-type Settling<T> = { end?: () => T };
-
 /**
  * The results of tasks in the order of the tasks, of which some run at once.
  * @param most how many run, or wait for the result of an earlier one, at most
@@ -12,25 +7,21 @@ export async function* inOrder<Task, Result>(
   tasks: AsyncIterable<Task>, most: number, run: (task: Task) => Promise<Result> | Result, finish = () => {},
 ): AsyncGenerator<Result, void> {
   const iterator = tasks[Symbol.asyncIterator]();
-  let wake = () => {};
-  const onSettled = () => wake();
-  const results: Settling<Result>[] = [];
-  let coming: Settling<IteratorResult<Task, unknown>> | undefined = settling(iterator.next(), onSettled);
+  const next = () => kept(iterator.next().then((task) => ({ task })));
+  const running: Promise<{ result: Result }>[] = [];
+  let coming: ReturnType<typeof next> | undefined = next();
   try {
-    while (coming !== undefined || results.length > 0) {
-      if (results[0]?.end) {
-        yield results[0].end();
-        results.shift();
-      } else if (coming?.end && results.length < most) {
-        const next: IteratorResult<Task, unknown> = coming.end();
-        coming = next.done ? undefined : settling(iterator.next(), onSettled);
-        if (!next.done) {
-          results.push(settling(run(next.value), onSettled));
-        }
+    while (coming !== undefined || running.length > 0) {
+      const settled = await Promise.race([running[0] ?? [], running.length < most ? coming ?? [] : []].flat());
+      if ("result" in settled) {
+        yield settled.result;
+        running.shift();
+      } else if (settled.task.done) {
+        coming = undefined;
       } else {
-        await new Promise<void>((resolve) => {
-          wake = resolve;
-        });
+        coming = next();
+        const { value } = settled.task;
+        running.push(kept((async () => ({ result: await run(value) }))()));
       }
     }
   } finally {
@@ -38,17 +29,8 @@ export async function* inOrder<Task, Result>(
   }
 }
 
-function settling<T>(result: Promise<T> | T, onSettled: () => void): Settling<T> {
-  if (!(result instanceof Promise)) {
-    return { end: () => result };
-  }
-  const state: Settling<T> = {};
-  const settle = (end: () => T) => {
-    state.end = end;
-    onSettled();
-  };
-  result.then((value) => settle(() => value), (error) => settle(() => {
-    throw error;
-  }));
-  return state;
+/** Its error is thrown where it is waited for. */
+function kept<T>(promise: Promise<T>): Promise<T> {
+  promise.catch(() => {});
+  return promise;
 }
