@@ -49,6 +49,25 @@ pub below-all : {C : Type 0} (own : Node → List C) (nodes items : List Node) (
 below-all own nodes items i old new same past are =
     are ∙ ap (λ ns. old ++ below own ns) (take_all i items past ∙ same)
 
+-- What one more node has of itself.
+pub each-more : {C : Type 0} (own : Node → List C) (nodes : List Node) (i : ℕ) (node : Node)
+    (old so_far new : List C) → i < length nodes → node ≡ get_or nodes i node
+    → so_far ≡ old ++ flat_map own (take i nodes) → new ≡ so_far ++ own node
+    → new ≡ old ++ flat_map own (take (i + 1) nodes)
+each-more own nodes i node old so_far new within is before more =
+    let grows : flat_map own (take (i + 1) nodes) ≡ flat_map own (take i nodes) ++ own node =
+    ap (flat_map own) (take_more nodes i node within ∙ ap (λ n. take i nodes ++ n ∷ []) (sym is))
+    ∙ flat_map-append own (take i nodes) (node ∷ [])
+    ∙ ap (λ cs. flat_map own (take i nodes) ++ cs) (append-nil (own node)) in
+    more ∙ ap (λ cs. cs ++ own node) before
+    ∙ append_assoc old (flat_map own (take i nodes)) (own node)
+    ∙ ap (λ cs. old ++ cs) (sym grows)
+
+-- What all nodes have of themselves.
+pub each-all : {C : Type 0} (own : Node → List C) (nodes : List Node) (i : ℕ) (old new : List C)
+    → length nodes ≤ i → new ≡ old ++ flat_map own (take i nodes) → new ≡ old ++ flat_map own nodes
+each-all own nodes i old new past are = are ∙ ap (λ ns. old ++ flat_map own ns) (take_all i nodes past)
+
 -- A node and those below it.
 pub below-node : {C : Type 0} (own : Node → List C) (node : Node) (old with_own new : List C)
     → with_own ≡ old ++ own node → new ≡ with_own ++ below own (children_of node)

@@ -8,7 +8,7 @@ use Rattle.std.proofs.lemmas.List.Elements.{Contains-append_left, Contains-get_o
 use Rattle.modinfo_imports.specs.Claims.{claims_after, form_of, is_same, is_same_kind}
 use Rattle.modinfo_imports.specs.Duties.{met_duty, sight_of}
 use Rattle.modinfo_pieces.specs.Places.{Place, context_of}
-use Rattle.modinfo_imports.specs.Watches.{IsWatchEnd, Watch, Watches, is_gap, specifier_of, watch_after}
+use Rattle.modinfo_imports.specs.Watches.{IsWatchEnd, Watch, Watches, is_gap, watch_after}
 use Rattle.modinfo_imports.specs.Watches.{watch_met, watch_start}
 use Rattle.modinfo_imports.specs.Watches.Watches.{more, none}
 use Rattle.modinfo_imports.specs.declared.claims.Mark.{Mark}
@@ -66,8 +66,7 @@ after_claims : (text : List ℕ) (is_typed : Bool) (context : Context) (piece : 
 after_claims text is_typed context piece watch after is =
     let sight = sight_of text piece piece.kind in
     step_claims (is_gap piece.kind)
-    (met_duty (specifier_of piece.kind (form_of piece watch.marks)) watch.duty sight
-    context.is_after_line_end is_typed) watch
+    (met_duty (form_of piece watch.marks) piece.start watch.duty sight context.is_after_line_end is_typed) watch
     after
     (watch_met text is_typed context piece watch sight) (claims_after piece watch.claims) (λ duty. refl) is
 

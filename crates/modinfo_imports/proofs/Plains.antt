@@ -7,7 +7,7 @@ use Rattle.modinfo_imports.specs.Claims.{claims_after, form_of, is_claimed, mark
 use Rattle.modinfo_imports.specs.Duties.{is_byte, met_by, met_duty, sight_of}
 use Rattle.modinfo_imports.specs.Keywords.{keyword_of}
 use Rattle.modinfo_imports.specs.Watches.{Watch, duty_after, duty_after_word, is_gap, is_name}
-use Rattle.modinfo_imports.specs.Watches.{parentheses_after, specifier_of, watch_after}
+use Rattle.modinfo_imports.specs.Watches.{is_decorated_after, parentheses_after, watch_after}
 use Rattle.modinfo_imports.specs.declared.claims.Form.{Form}
 use Rattle.modinfo_imports.specs.declared.claims.Mark.{Mark}
 use Rattle.modinfo_imports.specs.declared.duty.Duty.{Duty}
@@ -119,19 +119,20 @@ marks-unmet piece (mark ∷ marks) unmet = marks-same (piece.start == mark.start
     marks-same true mark marks unmet = cc
     marks-same false mark marks unmet = refl
 
-no_specifier : (kind : PieceKind) → specifier_of kind None ≡ None
-no_specifier kinds.String = refl
-no_specifier kinds.Space = refl
-no_specifier kinds.LineComment = refl
-no_specifier kinds.BlockComment = refl
-no_specifier kinds.HtmlComment = refl
-no_specifier kinds.Hashbang = refl
-no_specifier kinds.Word = refl
-no_specifier kinds.Template = refl
-no_specifier kinds.RegularExpression = refl
-no_specifier kinds.JsxText = refl
-no_specifier kinds.JsxString = refl
-no_specifier kinds.Punctuation = refl
+undecorated : (piece : Piece) (kind : PieceKind) (watch : Watch) → is_claimed piece watch.claims ≡ false
+    → is_decorated_after piece kind watch ≡ watch.is_decorated
+undecorated piece kinds.Punctuation watch unclaimed = rw unclaimed refl
+undecorated piece kinds.String watch unclaimed = refl
+undecorated piece kinds.Space watch unclaimed = refl
+undecorated piece kinds.LineComment watch unclaimed = refl
+undecorated piece kinds.BlockComment watch unclaimed = refl
+undecorated piece kinds.HtmlComment watch unclaimed = refl
+undecorated piece kinds.Hashbang watch unclaimed = refl
+undecorated piece kinds.Word watch unclaimed = refl
+undecorated piece kinds.Template watch unclaimed = refl
+undecorated piece kinds.RegularExpression watch unclaimed = refl
+undecorated piece kinds.JsxText watch unclaimed = refl
+undecorated piece kinds.JsxString watch unclaimed = refl
 
 -- What a watch sees of a plain token.
 pub seen-plain : (text : List ℕ) (is_typed : Bool) (plain next : Plain) (context : Context) (piece : Piece)
@@ -150,8 +151,8 @@ seen-plain text is_typed plain next context piece parentheses new_parentheses wa
     rw (
       no_gap,
       unmarked,
-      no_specifier piece.kind,
       met_by-plain plain.asked (sight_of text piece piece.kind) context.is_after_line_end is_typed no_star,
+      undecorated piece piece.kind (watch_at text plain parentheses watch) unclaimed,
       duty_is,
       parentheses_is,
       claims-unmet piece watch.claims unclaimed,
@@ -240,32 +241,32 @@ plain-turn text plain kind end before asked in_element around new_around parenth
     }
 
 -- A word that is no keyword asks nothing, whether it is a name by what is before or not.
-pub other_either_way : (is_name : Bool) (keyword : Keyword) (form : Option Form) (braces method : Bool)
+pub other_either_way : (is_name : Bool) (keyword : Keyword) (form : Option Form) (item braces method : Bool)
     (before : Duty)
     → keyword ≡ keywords.Other
-    → duty_after_word (if is_name then keywords.Other else keyword) false form braces method before
+    → duty_after_word (if is_name then keywords.Other else keyword) false form item braces method before
     duties.Nothing ≡ duties.Nothing
 unfolding duty_after_word
-other_either_way true keyword form braces method before is = refl
-other_either_way false keyword form braces method before is = rw is refl
+other_either_way true keyword form item braces method before is = refl
+other_either_way false keyword form item braces method before is = rw is refl
 
 -- After `new` or `function` that is no name, no name is called.
-pub new_asks : (is_name : Bool) (keyword : Keyword) (form : Option Form) (braces method : Bool) (before :
+pub new_asks : (is_name : Bool) (keyword : Keyword) (form : Option Form) (item braces method : Bool) (before :
     Duty)
     → is_name ≡ false → keyword ≡ keywords.New
-    → duty_after_word (if is_name then keywords.Other else keyword) false form braces method before
+    → duty_after_word (if is_name then keywords.Other else keyword) false form item braces method before
     duties.Nothing ≡ duties.NoCall
 unfolding duty_after_word
-new_asks is_name keyword form braces method before no_name is = rw (no_name, is) refl
+new_asks is_name keyword form item braces method before no_name is = rw (no_name, is) refl
 
 -- A turn over a plain word.
 pub word-turn : (text : List ℕ) (plain : Plain) (end : ℕ) (before : Before) (asked : Asked)
     (around : List Opening) (parentheses : List Duty) → is_word_byte (slice_index text plain.at) ≡ true
     → Ends (word_step text) plain.at end → plain.at < end → end ≤ length text
     → before ≡ class_after plain.before (slice_range text plain.at end)
-    → ((last : ℕ) (form : Option Form) (braces method : Bool) (met : Duty)
+    → ((last : ℕ) (form : Option Form) (item braces method : Bool) (met : Duty)
     → duty_after_word (if is_name (plain_context plain around) (slice_index text (plain.at - 1)) last
-    then keywords.Other else keyword_of (slice_range text plain.at end)) false form braces method met
+    then keywords.Other else keyword_of (slice_range text plain.at end)) false form item braces method met
     duties.Nothing ≡ duty_of asked)
     → IsPlainTurn text plain (after_token plain kinds.Word end before asked false) around around parentheses
     parentheses
@@ -276,7 +277,7 @@ word-turn text plain end before asked around parentheses is_word ends on within 
     refl (λ context so_far. refl) (λ outside. sym outside)
     (λ outside past. rw (outside, is_word) refl) (record { inside = end; ends = ends; is = refl }) refl
     before_is refl refl
-    (λ is_typed watch unclaimed. rw unclaimed (duty_is _ _ _ _ _)) refl
+    (λ is_typed watch unclaimed. rw unclaimed (duty_is _ _ _ _ _ _)) refl
 
 -- A turn over white space.
 pub space-turn : (text : List ℕ) (plain : Plain) (end : ℕ) (before : Before) (after : Bool)
@@ -313,9 +314,9 @@ space-turn text plain end before after around parentheses is_kind ends on within
   };
 }
 
-pub typeof_asks : (is_name : Bool) (keyword : Keyword) (form : Option Form) (braces method : Bool)
+pub typeof_asks : (is_name : Bool) (keyword : Keyword) (form : Option Form) (item braces method : Bool)
     (before : Duty) → is_name ≡ false → keyword ≡ keywords.TypeOf
-    → duty_after_word (if is_name then keywords.Other else keyword) false form braces method before
+    → duty_after_word (if is_name then keywords.Other else keyword) false form item braces method before
     duties.Nothing ≡ duties.TypeOf
 unfolding duty_after_word
-typeof_asks is_name keyword form braces method before no_name is = rw (no_name, is) refl
+typeof_asks is_name keyword form item braces method before no_name is = rw (no_name, is) refl

@@ -1,9 +1,11 @@
 -- What a word asks of the tokens after it where a dependency may begin: they show that none begins, or that
--- the tree has its specifier. ⏎ is a line end.
+-- the tree has its specifier and its attributes. ⏎ is a line end.
 use Rattle.std.specs.Prelude.{ℕ, ◌==◌, Bool, true, false, not, ◌&&◌, ◌||◌, List, [], ◌∷◌, Option, Some, None}
 use Rattle.std.specs.Prelude.{codes, if◌then◌else◌, slice_index, slice_range}
 use Rattle.std.specs.List.{list_any}
 use Rattle.std.specs.Str.{bytes_eq}
+use Rattle.modinfo_imports.specs.declared.claims.Form.{Form}
+use Rattle.modinfo_imports.specs.declared.claims.Form.TheVariants as forms
 use Rattle.modinfo_imports.specs.declared.duty.Duty.{Duty}
 use Rattle.modinfo_imports.specs.declared.duty.Duty.TheVariants as duties
 use Rattle.modinfo_imports.specs.declared.duty.Name.{Name}
@@ -28,7 +30,9 @@ name_of word =
     else (if bytes_eq word (codes "type") then names.Type
     else (if bytes_eq word (codes "source") then names.Source
     else (if bytes_eq word (codes "defer") then names.Defer
-    else (if is_among operators word then names.Operator else names.Other))))))
+    else (if bytes_eq word (codes "with") then names.With
+    else (if bytes_eq word (codes "assert") then names.Assert
+    else (if is_among operators word then names.Operator else names.Other))))))))
 
 -- A token, as far as duties tell tokens apart.
 unfoldable pub sight_of : List ℕ → Piece → PieceKind → Sight
@@ -116,6 +120,13 @@ abbrev pub after_phase : Sight → Option Duty
 after_phase (Word name) = Some (duties.Names false true)
 after_phase sight = only (is_byte (codes "{*") sight) (duties.Names false (is_byte (codes "*") sight))
 
+-- After the specifier of a declaration: `with`, or `assert` on its line, where the tree has attributes, as in
+-- `import a from "a" with { type: "json" }`.
+abbrev pub after_specifier : ℕ → Bool → Sight → Bool → Option Duty
+after_specifier at has_with (Word names.With) after = only has_with (duties.With at)
+after_specifier at has_with (Word names.Assert) false = only has_with (duties.With at)
+after_specifier at has_with sight after = only (not has_with) duties.Nothing
+
 -- The duty after a token that meets this duty, if the token meets it, and whether the token is on another
 -- line than the one before. By rows:
 -- * `import`: a member on the next line ends the one before, as in `class A { import⏎ foo() {} }`,
@@ -137,7 +148,9 @@ after_phase sight = only (is_byte (codes "{*") sight) (duties.Names false (is_by
 -- * `new`, `function`: `function *require() {}`.
 -- * `export`: `export type { a } from "a"`, `export { a } from "a"`, `export * from "a"`,
 --   `export * as a from "a"`. It is of types exactly where `type` follows.
+-- * a top level's `export` at which no node begins: `export = a`, `export as namespace A`.
 -- * `module`: a string on its line is a specifier of the tree.
+-- * attributes: `{ a: "b", "c": "d", }`, keys and values that the tree has.
 unfoldable pub met_by : Duty → Sight → Bool → Bool → Option Duty
 met_by (duties.Import true _) (Word name) true _ = Some duties.Nothing
 met_by (duties.Import true _) String true _ = Some duties.Nothing
@@ -183,7 +196,16 @@ met_by duties.ExportStar _ _ _ = None
 met_by duties.ExportAs sight _ _ = only (is_name sight) duties.ExportEnd
 met_by duties.ExportEnd (Word names.From) _ _ = Some duties.From
 met_by duties.From _ _ _ = None
+met_by duties.ExportAlone (Word names.As) _ _ = Some duties.Nothing
+met_by duties.ExportAlone sight _ _ = only (is_byte (codes "=") sight) duties.Nothing
 met_by duties.Module String false _ = None
+met_by (duties.Specifier at has_with) sight after _ = after_specifier at has_with sight after
+met_by (duties.With at) sight _ _ = only (is_byte (codes "{") sight) (duties.Key at)
+met_by (duties.Key at) sight _ _ = only (is_byte (codes "}") sight) duties.Nothing
+met_by (duties.Colon at value) sight _ _ = only (is_byte (codes ":") sight) (duties.Value at value)
+met_by (duties.Value _ _) _ _ _ = None
+met_by (duties.Comma at) sight _ _ =
+    (if is_byte (codes ",") sight then Some (duties.Key at) else only (is_byte (codes "}") sight) duties.Nothing)
 met_by _ _ _ _ = Some duties.Nothing
 
 -- A specifier of the tree is right after `import`, after the `from` of a declaration, or after `module`, and
@@ -196,7 +218,22 @@ takes_specifier has_names duties.From = true
 takes_specifier has_names duties.Module = true
 takes_specifier has_names duty = false
 
--- The duty after a token that is a specifier of the tree, or another.
-unfoldable pub met_duty : Option Bool → Duty → Sight → Bool → Bool → Option Duty
-met_duty (Some has_names) duty sight after is_typed = only (takes_specifier has_names duty) duties.Nothing
-met_duty None duty sight after is_typed = met_by duty sight after is_typed
+-- The duty after a specifier at an offset: `declare module "a"` has no attributes.
+abbrev pub specified : ℕ → Bool → Duty → Duty
+specified at has_with duties.Module = duties.Nothing
+specified at has_with duty = duties.Specifier at has_with
+
+-- The duty after a key or a value of the attributes of the specifier at an offset, by where the value begins.
+abbrev pub attributed : ℕ → ℕ → Duty → Sight → Option Duty
+attributed of value (duties.Key at) sight = only (is_name sight && (at == of)) (duties.Colon of value)
+attributed of value (duties.Value at expected) sight =
+    only ((at == of) && (expected == value)) (duties.Comma of)
+attributed of value duty sight = None
+
+-- The duty after a token at an offset, by what the tree says of the token: that it is a specifier, or a key
+-- or a value of attributes, or something else.
+unfoldable pub met_duty : Option Form → ℕ → Duty → Sight → Bool → Bool → Option Duty
+met_duty (Some (forms.Specifier has_names has_with)) at duty sight _ _ =
+    only (takes_specifier has_names duty) (specified at has_with duty)
+met_duty (Some (forms.Attribute of value)) at duty sight _ _ = attributed of value duty sight
+met_duty form at duty sight after is_typed = met_by duty sight after is_typed

@@ -1,5 +1,7 @@
 pub mod Claims
 pub mod Keywords
+pub mod Spans
+pub mod Attributes
 pub mod Duties
 pub mod Watches
 pub mod Sights

@@ -8,7 +8,7 @@ use Rattle.std.specs.List.Sorted.{IsPermutation}
 use Rattle.std.specs.Option.{option_to_list}
 use Rattle.std.specs.Str.{bytes_eq}
 use Rattle.deno_graph_base.specs.declared.text.position.SourceRange.{SourceRange}
-use Rattle.deno_graph_source.specs.Node.{children_of, kind_of, literal_of, nodes_of, range_of}
+use Rattle.deno_graph_source.specs.Node.{children_of, has_with, kind_of, literal_of, nodes_of, range_of}
 use Rattle.deno_graph_source.specs.declared.tree.node.Callee.TheVariants as callees
 use Rattle.deno_graph_source.specs.declared.tree.node.Kind.{Kind}
 use Rattle.deno_graph_source.specs.declared.tree.node.Kind.TheVariants as kinds
@@ -20,27 +20,15 @@ use Rattle.deno_graph_source.specs.declared.tree.node.ImportPhase.TheVariants as
 use Rattle.modinfo_imports.specs.declared.claims.Form.{Form}
 use Rattle.modinfo_imports.specs.declared.claims.Form.TheVariants as forms
 use Rattle.modinfo_imports.specs.declared.claims.Mark.{Mark}
+use Rattle.modinfo_imports.specs.Attributes.{attribute_marks, entries_of, hidden_claim, key_claims}
 use Rattle.modinfo_imports.specs.Keywords.{has_escape, may_be_require}
+use Rattle.modinfo_imports.specs.Spans.{bytes_at, no_piece, piece_at, word_claim}
 use Rattle.modinfo_pieces.specs.Comments.{has_bytes}
 use Rattle.modinfo_pieces.specs.declared.piece.Piece.{Piece}
 use Rattle.modinfo_pieces.specs.declared.piece.PieceKind.{PieceKind}
 use Rattle.modinfo_pieces.specs.declared.piece.PieceKind.TheVariants.{Punctuation, String, Template, Word}
 
--- The piece of a kind at a range.
-abbrev pub piece_at : PieceKind → SourceRange → Piece
-piece_at kind range = record { kind = kind; start = range.start; end = range.end }
-
--- No text has this piece, since it is empty.
-abbrev pub no_piece : ℕ → Piece
-no_piece at = record { kind = Word; start = at; end = at }
-
--- The word at an offset is this one: `import`.
-abbrev pub word_claim : List ℕ → ℕ → List ℕ → Piece
-word_claim text at word =
-    (if has_bytes text at word then record { kind = Word; start = at; end = at + length word }
-    else no_piece at)
-
--- `export` is at an offset, or the `@` of a decorator before it.
+-- `export` is at an offset, or the `@` of a decorator before it, as in `@a export class B {}`.
 abbrev pub export_claim : List ℕ → ℕ → Piece
 export_claim text at =
     (if slice_index text at == 64 then record { kind = Punctuation; start = at; end = at + 1 }
@@ -51,15 +39,16 @@ abbrev pub module_claim : List ℕ → ℕ → Piece
 module_claim text at =
     word_claim text at (if has_bytes text at (codes "module") then codes "module" else codes "declare")
 
--- What a node begins with: `import "a"`, `export { a } from "b"`, `export * from "a"`,
+-- What a node begins with: `import "a"`, `export { a } from "b"`, `export * from "a"`, `export const a = 1`,
 -- `export import a = require("b")`, `import a = require("b")`, the type `import("a")`,
 -- `declare module "a" {}`, `import("a")` or `import.source("a")`, `import.meta`. Calls of expressions, as
 -- `require("a")`, begin with a node.
 abbrev pub begin_claim : List ℕ → ℕ → Kind → Option Piece
 begin_claim text at (kinds.ImportDecl _ _ _ _ _) = Some (word_claim text at (codes "import"))
-begin_claim text at (kinds.NamedExport _ _ _) = Some (export_claim text at)
-begin_claim text at (kinds.ExportAll _ _ _) = Some (export_claim text at)
-begin_claim text at (kinds.ImportEquals _ true _) = Some (export_claim text at)
+begin_claim text at (kinds.NamedExport _ _ _) = Some (word_claim text at (codes "export"))
+begin_claim text at (kinds.ExportAll _ _ _) = Some (word_claim text at (codes "export"))
+begin_claim text at kinds.ExportOther = Some (export_claim text at)
+begin_claim text at (kinds.ImportEquals _ true _) = Some (word_claim text at (codes "export"))
 begin_claim text at (kinds.ImportEquals _ false _) = Some (word_claim text at (codes "import"))
 begin_claim text at (kinds.ImportType _ _) = Some (word_claim text at (codes "import"))
 begin_claim text at (kinds.ModuleDecl _) = Some (module_claim text at)
@@ -72,12 +61,6 @@ abbrev pub literal_claim : SourceRange → StrLit → Piece
 literal_claim range literal =
     (if nat_le range.start literal.range.start && nat_le literal.range.end range.end
     then piece_at String literal.range else no_piece literal.range.start)
-
--- The bytes at a range, none if the text has no such range.
-abbrev pub bytes_at : List ℕ → SourceRange → List ℕ
-bytes_at text range =
-    (if nat_lt range.start range.end && nat_le range.end (length text)
-    then slice_range text range.start range.end else [])
 
 -- A name is a whole word, spelled as the name or with escapes, and isn't `import`.
 abbrev pub name_claim : List ℕ → SourceRange → List ℕ → Piece
@@ -105,7 +88,9 @@ abbrev pub claims_of : List ℕ → Node → List Piece
 claims_of text node =
     option_to_list (begin_claim text (range_of node).start (kind_of node))
     ++ (option_to_list (option_map (literal_claim (range_of node)) (literal_of (kind_of node)))
-    ++ option_to_list (value_claim text (range_of node) (kind_of node)))
+    ++ (option_to_list (value_claim text (range_of node) (kind_of node))
+    ++ (option_to_list (hidden_claim (range_of node).start (kind_of node) (children_of node))
+    ++ flat_map (key_claims text) (entries_of (kind_of node) (children_of node)))))
 
 -- What a tree says of the token at an offset, if it says something.
 abbrev pub mark_at : ℕ → Option Form → List Mark
@@ -147,15 +132,18 @@ specifier_of (kinds.ImportEquals _ _ _) = None
 specifier_of (kinds.ImportType _ _) = None
 specifier_of kind = literal_of kind
 
-abbrev pub specifier_mark : Bool → Option StrLit → List Mark
-specifier_mark has_names None = []
-specifier_mark has_names (Some literal) = mark_at literal.range.start (Some (forms.Specifier has_names))
+-- The marks of a declaration's specifier, and of its attributes.
+abbrev pub specifier_marks : Kind → List Node → Option StrLit → List Mark
+specifier_marks kind children None = []
+specifier_marks kind children (Some literal) =
+    record { start = literal.range.start; form = forms.Specifier (has_names kind) (has_with kind) }
+    ∷ flat_map (attribute_marks literal.range.start) (entries_of kind children)
 
 -- The marks of a node.
 abbrev pub marks_of : List ℕ → Node → List Mark
 marks_of text node =
     mark_at (range_of node).start (begin_form text (range_of node) (children_of node) (kind_of node))
-    ++ specifier_mark (has_names (kind_of node)) (specifier_of (kind_of node))
+    ++ specifier_marks (kind_of node) (children_of node) (specifier_of (kind_of node))
 
 -- The claims of a tree are those of its nodes, and the parts of its templates, in the order of the text.
 abbrev pub AreClaims : List ℕ → Program → List SourceRange → List Piece → Type 0

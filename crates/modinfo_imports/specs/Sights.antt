@@ -12,6 +12,7 @@ watch_of seen parentheses =
       duty = seen.duty;
       parentheses = parentheses;
       last = seen.last;
+      is_decorated = seen.is_decorated;
       claims = seen.claims.now;
       marks = seen.marks.now;
     }

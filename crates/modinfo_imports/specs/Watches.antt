@@ -23,28 +23,36 @@ use Rattle.modinfo_imports.specs.declared.keyword.Keyword.{Keyword}
 use Rattle.modinfo_imports.specs.declared.keyword.Keyword.TheVariants as keywords
 use Rattle.modinfo_pieces.specs.declared.piece.Piece.{Piece}
 use Rattle.modinfo_pieces.specs.declared.piece.PieceKind.{PieceKind}
-use Rattle.modinfo_pieces.specs.declared.piece.PieceKind.TheVariants.{Hashbang, HtmlComment, Space, String}
-use Rattle.modinfo_pieces.specs.declared.piece.PieceKind.TheVariants.{Word}
+use Rattle.modinfo_pieces.specs.declared.piece.PieceKind.TheVariants.{Hashbang, HtmlComment, Punctuation}
+use Rattle.modinfo_pieces.specs.declared.piece.PieceKind.TheVariants.{Space, Word}
 use Rattle.modinfo_pieces.specs.declared.place.Before.{Before}
 use Rattle.modinfo_pieces.specs.declared.place.Before.TheVariants.{Dot, DotDot, Value}
 use Rattle.modinfo_pieces.specs.declared.place.Context.{Context}
 use Rattle.modinfo_pieces.specs.declared.place.Opening.{Opening}
-use Rattle.modinfo_pieces.specs.declared.place.Opening.TheVariants.{ClosingTag, Tag}
+use Rattle.modinfo_pieces.specs.declared.place.Opening.TheVariants.{ClosingTag, Program, Tag}
 
 -- What is known of the tokens before a place: what the next one must be, what was asked after each open
--- parenthesis, innermost first, the last token's first byte, and the claims and the marks that weren't met
--- yet.
+-- parenthesis, innermost first, the last token's first byte, whether an export began with a decorator, as in
+-- `@a export class B {}`, and the claims and the marks that weren't met yet.
 pub record Watch : Type 0 where
   pub duty : Duty
   pub parentheses : List Duty
   pub last : ℕ
+  pub is_decorated : Bool
   pub claims : List Piece
   pub marks : List Mark
 
 -- At the start of a text.
 abbrev pub watch_start : List Piece → List Mark → Watch
 watch_start claims marks =
-    record { duty = duties.Nothing; parentheses = []; last = 0; claims = claims; marks = marks }
+    record {
+      duty = duties.Nothing;
+      parentheses = [];
+      last = 0;
+      is_decorated = false;
+      claims = claims;
+      marks = marks;
+    }
 
 -- White space, a comment or the `#!` line is no token.
 abbrev pub is_gap : PieceKind → Bool
@@ -99,7 +107,8 @@ may_be_method is_typed context last =
     || (context.is_after_line_end && may_end_member is_typed last)
 
 -- The word that meets a duty is a name: in the list of an import or an export, as in
--- `export { import as require }`, or between `import` and `=`, as in `import require = a.b`.
+-- `export { import as require }`, between `import` and `=`, as in `import require = a.b`, or a key of
+-- attributes.
 abbrev pub is_listed : Duty → Bool
 is_listed duties.AsName = true
 is_listed duties.ExportNames = true
@@ -107,6 +116,7 @@ is_listed duties.ExportEnd = true
 is_listed (duties.Names _ _) = true
 is_listed duties.Name = true
 is_listed duties.Alias = true
+is_listed (duties.Colon _ _) = true
 is_listed _ = false
 
 -- What the tree says of an import by its first word.
@@ -120,26 +130,33 @@ abbrev pub is_of_types : Option Form → Bool
 is_of_types (Some forms.Types) = true
 is_of_types _ = false
 
+-- An item begins at an `export` outside of everything, at which a node begins, or at the decorators before.
+abbrev pub begins_item : Opening → Bool → Bool
+begins_item Program is_decorated = not is_decorated
+begins_item inside is_decorated = false
+
 -- The duty after a word: whether the word is the first of the claims, what the tree says of the word, whether
--- it is in braces, and may name a method, the duty before, and the duty that the word has met. The `import`
--- of `export import a = B.C` is that of a node. A name isn't called in `new require("a")`,
--- `function require() {}`, `import a = require("a")`. TypeScript's `typeof export` is that of a name.
-unfoldable pub duty_after_word : Keyword → Bool → Option Form → Bool → Bool → Duty → Duty → Duty
-duty_after_word keywords.Import true form _ _ _ _ = duties.Start (phase_of form)
-duty_after_word keywords.Import _ _ _ _ duties.Claimed _ = duties.Names true false
-duty_after_word keywords.Import _ _ _ _ (duties.Export _ true _) _ = duties.Names true false
-duty_after_word keywords.Import _ _ in_braces method _ _ = duties.Import in_braces (in_braces && method)
-duty_after_word keywords.Require _ (Some forms.Call) _ _ _ met = met
-duty_after_word keywords.Require _ _ _ _ duties.NoCall met = met
-duty_after_word keywords.Require _ _ in_braces method _ _ = duties.Require (in_braces && method)
-duty_after_word keywords.Export _ _ _ _ duties.TypeOf met = met
-duty_after_word keywords.Export claimed form in_braces _ _ _ =
+-- an item begins if the word is `export`, whether the word is in braces, and may name a method, the duty
+-- before, and the duty that the word has met. The `import` of `export import a = B.C` is that of a node. A
+-- name isn't called in `new require("a")`, `function require() {}`, `import a = require("a")`. TypeScript's
+-- `typeof export` is that of a name.
+unfoldable pub duty_after_word : Keyword → Bool → Option Form → Bool → Bool → Bool → Duty → Duty → Duty
+duty_after_word keywords.Import true form _ _ _ _ _ = duties.Start (phase_of form)
+duty_after_word keywords.Import _ _ _ _ _ duties.Claimed _ = duties.Names true false
+duty_after_word keywords.Import _ _ _ _ _ (duties.Export _ true _) _ = duties.Names true false
+duty_after_word keywords.Import _ _ _ in_braces method _ _ = duties.Import in_braces (in_braces && method)
+duty_after_word keywords.Require _ (Some forms.Call) _ _ _ _ met = met
+duty_after_word keywords.Require _ _ _ _ _ duties.NoCall met = met
+duty_after_word keywords.Require _ _ _ in_braces method _ _ = duties.Require (in_braces && method)
+duty_after_word keywords.Export _ _ _ _ _ duties.TypeOf met = met
+duty_after_word keywords.Export false _ true _ _ _ _ = duties.ExportAlone
+duty_after_word keywords.Export claimed form _ in_braces _ _ _ =
     duties.Export (in_braces && not claimed) claimed (is_of_types form)
-duty_after_word keywords.Module _ _ _ _ _ _ = duties.Module
-duty_after_word keywords.New _ _ _ _ _ _ = duties.NoCall
-duty_after_word keywords.TypeOf _ _ _ _ _ _ = duties.TypeOf
-duty_after_word keywords.Other true _ _ _ _ _ = duties.Claimed
-duty_after_word keywords.Other false _ _ _ _ met = met
+duty_after_word keywords.Module _ _ _ _ _ _ _ = duties.Module
+duty_after_word keywords.New _ _ _ _ _ _ _ = duties.NoCall
+duty_after_word keywords.TypeOf _ _ _ _ _ _ _ = duties.TypeOf
+duty_after_word keywords.Other true _ _ _ _ _ _ = duties.Claimed
+duty_after_word keywords.Other false _ _ _ _ _ met = met
 
 -- The innermost parenthesis is that of the parameters of a method that is named `import` or `require`.
 abbrev pub is_method : List Duty → Bool
@@ -151,8 +168,8 @@ unfoldable pub duty_after : List ℕ → Bool → Context → Piece → PieceKin
 duty_after text is_typed context piece Word watch sight met =
     (if is_listed met then met
     else duty_after_word (keyword_at text context piece watch.last) (is_claimed piece watch.claims)
-    (form_of piece watch.marks) (is_brace context.inside) (may_be_method is_typed context watch.last)
-    watch.duty met)
+    (form_of piece watch.marks) (begins_item context.inside watch.is_decorated) (is_brace context.inside)
+    (may_be_method is_typed context watch.last) watch.duty met)
 duty_after text is_typed context piece kind watch sight met =
     (if is_byte (codes ")") sight && is_method watch.parentheses then duties.Parameters else met)
 
@@ -167,20 +184,21 @@ abbrev pub last_of : ℕ → ℕ → ℕ
 last_of previous byte =
     (if (byte == 62) && (previous == 61) then 61 else (if previous == 64 then 64 else byte))
 
+-- A claimed `@` is that of a decorator with which an export begins.
+abbrev pub is_decorated_after : Piece → PieceKind → Watch → Bool
+is_decorated_after piece Punctuation watch = (if is_claimed piece watch.claims then true else watch.is_decorated)
+is_decorated_after piece kind watch = watch.is_decorated
+
 -- The watch after a token, by the duty that the token has met.
 abbrev pub watch_met : List ℕ → Bool → Context → Piece → Watch → Sight → Duty → Watch
 watch_met text is_typed context piece watch sight met = record {
   duty = duty_after text is_typed context piece piece.kind watch sight met;
   parentheses = parentheses_after sight met watch.parentheses;
   last = last_of (slice_index text (piece.start - 1)) (slice_index text piece.start);
+  is_decorated = is_decorated_after piece piece.kind watch;
   claims = claims_after piece watch.claims;
   marks = marks_after piece watch.marks;
 }
-
--- A string that is a specifier of the tree: whether its declaration names something.
-abbrev pub specifier_of : PieceKind → Option Form → Option Bool
-specifier_of String (Some (forms.Specifier has_names)) = Some has_names
-specifier_of kind form = None
 
 -- The watch after a piece, if the piece meets the duty.
 abbrev pub watch_after : List ℕ → Bool → Context → Piece → Watch → Option Watch
@@ -188,8 +206,7 @@ watch_after text is_typed context piece watch =
     let sight = sight_of text piece piece.kind in
     (if is_gap piece.kind then Some watch
     else option_map (watch_met text is_typed context piece watch sight)
-    (met_duty (specifier_of piece.kind (form_of piece watch.marks)) watch.duty sight
-    context.is_after_line_end is_typed))
+    (met_duty (form_of piece watch.marks) piece.start watch.duty sight context.is_after_line_end is_typed))
 
 -- Pieces lead from one place to another, and a watch goes over them.
 pub data Watches (text : List ℕ) (is_typed : Bool) (from : Place) (watch : Watch)

@@ -28,6 +28,15 @@ pub enum Form {
     Specifier {
         /// Whether the declaration names something that it imports or exports.
         has_names: bool,
+        /// Whether the declaration has attributes.
+        has_with: bool,
+    },
+    /// The key or the value of an attribute of a declaration.
+    Attribute {
+        /// Where the specifier of the declaration begins.
+        specifier: usize,
+        /// Where the value of the attribute begins.
+        value: usize,
     },
     /// The word that a declaration of types alone begins with.
     Types,

@@ -1,35 +1,8 @@
 //! What words that dependencies may begin with ask of the tokens after them.
 
-ghost use Rattle.std.specs.Prelude.{◌≡◌, ◌∷◌, ◌<◌, ◌≤◌, Bool, OnOk, drop, length};
-ghost use Rattle.modinfo_imports.specs.declared.duty.Duty.TheVariants.{
-  Alias,
-  Export,
-  ExportEnd,
-  ExportNames,
-  ExportStar,
-  From,
-  Import,
-  Module,
-  Names,
-  NoCall,
-  NoParenthesis,
-  Parameters,
-  Parenthesis,
-  Require,
-  Start,
-  TypeEnd,
-  TypeName,
-};
+ghost use Rattle.std.specs.Prelude.{◌≡◌, ◌∷◌, ◌<◌, ◌≤◌, OnOk, drop, length};
 ghost use Rattle.modinfo_pieces.specs.WordClasses.{is_among};
 ghost use Rattle.modinfo_imports.specs.Duties.{
-  after_export,
-  after_import,
-  after_name,
-  after_names,
-  after_phase,
-  after_require,
-  after_start,
-  after_type,
   is_byte,
   is_name,
   is_one_of,
@@ -39,9 +12,24 @@ ghost use Rattle.modinfo_imports.specs.Duties.{
   only,
   operators,
   sight_of,
-  takes_specifier,
 };
 
+mod calls;
+mod exports;
+mod imports;
+mod names;
+mod specifiers;
+
+use crate::claims::Form;
+use crate::duty::calls::{met_no_call, met_no_parenthesis, met_require, met_type, met_type_end};
+use crate::duty::exports::{
+    met_export, met_export_alone, met_export_end, met_export_names, met_export_star, met_module,
+};
+use crate::duty::imports::{after_name, after_names, after_phase, after_type, met_start};
+use crate::duty::names::{met_import, met_parameters, met_parenthesis};
+use crate::duty::specifiers::{
+    after_specifier, attributed, met_comma, specified, takes_specifier,
+};
 use modinfo_pieces::befores::bytes_of;
 use modinfo_pieces::bytes::byte_at;
 use modinfo_pieces::piece::{Piece, PieceKind};
@@ -125,8 +113,41 @@ pub enum Duty {
     ExportEnd,
     /// The specifier of an export.
     From,
+    /// `=` or `as`, after a word `export` outside of everything at which no node begins.
+    ExportAlone,
     /// Anything, after `module`: a string is a specifier.
     Module,
+    /// What follows the specifier of a declaration.
+    Specifier {
+        /// Where the specifier begins.
+        at: usize,
+        /// Whether the declaration has attributes.
+        has_with: bool,
+    },
+    /// The brace of the attributes, after `with`, with where the specifier begins, as the next ones.
+    With {
+        at: usize,
+    },
+    /// A key of the attributes, or their end.
+    Key {
+        at: usize,
+    },
+    /// The `:` after a key.
+    Colon {
+        at: usize,
+        /// Where the value begins.
+        value: usize,
+    },
+    /// The value of a key.
+    Value {
+        at: usize,
+        /// Where the value begins.
+        value: usize,
+    },
+    /// A comma or the end of the attributes.
+    Comma {
+        at: usize,
+    },
 }
 
 /// What the word after `import` says of an import, if that is more than a name.
@@ -156,6 +177,8 @@ pub enum Name {
     Type,
     Source,
     Defer,
+    With,
+    Assert,
     /// A word that begins a type, or an expression, and is none.
     Operator,
     Other,
@@ -245,6 +268,10 @@ fn name_of(word: &[u8]) -> Name
         Name::Source
     } else if word == b"defer".as_slice() {
         Name::Defer
+    } else if word == b"with".as_slice() {
+        Name::With
+    } else if word == b"assert".as_slice() {
+        Name::Assert
     } else if is_operator(word) {
         Name::Operator
     } else {
@@ -311,7 +338,16 @@ pub fn met_by(duty: Duty, sight: Sight, is_after_line_end: bool, is_typed: bool)
         Duty::ExportAs => only(is_name(sight), Duty::ExportEnd),
         Duty::ExportEnd => met_export_end(sight),
         Duty::From => None,
+        Duty::ExportAlone => met_export_alone(sight),
         Duty::Module => met_module(sight, is_after_line_end),
+        Duty::Specifier { at, has_with } => {
+            after_specifier(at, has_with, sight, is_after_line_end)
+        }
+        Duty::With { at } => only(is_byte(b"{", sight), Duty::Key { at }),
+        Duty::Key { .. } => only(is_byte(b"}", sight), Duty::Nothing),
+        Duty::Colon { at, value } => only(is_byte(b":", sight), Duty::Value { at, value }),
+        Duty::Value { .. } => None,
+        Duty::Comma { at } => met_comma(at, sight),
     }
 }
 
@@ -349,350 +385,32 @@ fn is_name(sight: Sight) -> bool
     }
 }
 
-/// Returns what the next token must be after a word `import` and a token.
-#[tactic(auto, unfolding(crate::specs::Duties::met_by))]
-fn met_import(
-    in_braces: bool,
-    may_be_method: bool,
-    sight: Sight,
-    is_after_line_end: bool,
-) -> Option<Duty>
-    ensures { (is_typed : Bool) → result ≡ met_by (Import in_braces may_be_method) sight is_after_line_end
-        is_typed }
-{
-    match sight {
-        Sight::Word(_) | Sight::String if in_braces && is_after_line_end => Some(Duty::Nothing),
-        Sight::Word(Name::As) => Some(Duty::As),
-        Sight::Byte(byte) => after_import(may_be_method, in_braces && is_after_line_end, byte),
-        _ => None,
-    }
-}
-
-/// Returns what the next token must be after a word `import` and a byte of punctuation.
-fn after_import(may_be_method: bool, may_end: bool, byte: u8) -> Option<Duty>
-    ensures { result ≡ after_import may_be_method may_end byte }
-{
-    if byte == b'(' {
-        only(may_be_method, Duty::Parenthesis)
-    } else {
-        only(
-            may_end && byte == b'*' || !is_one_of(b"*{.", byte),
-            Duty::Nothing,
-        )
-    }
-}
-
-/// Returns what the next token must be after `import (` and a token.
-#[tactic(auto, unfolding(crate::specs::Duties::met_by))]
-fn met_parenthesis(sight: Sight) -> Option<Duty>
-    ensures { (is_after is_typed : Bool) → result ≡ met_by Parenthesis sight is_after is_typed }
-{
-    match sight {
-        Sight::Word(_) => Some(Duty::Nothing),
-        _ => only(is_byte(b"){[@.", sight), Duty::Nothing),
-    }
-}
-
-/// Returns what the next token must be after the parameters of a method and a token.
-#[tactic(auto, unfolding(crate::specs::Duties::met_by))]
-fn met_parameters(sight: Sight, is_after_line_end: bool, is_typed: bool) -> Option<Duty>
-    ensures { result ≡ met_by Parameters sight is_after_line_end is_typed }
-{
-    only(
-        is_byte(b"{:", sight) || is_typed && (is_after_line_end || is_byte(b";,}", sight)),
-        Duty::Nothing,
-    )
-}
-
-/// Returns what the next token must be after a word `require` and a token.
-#[tactic(auto, unfolding(crate::specs::Duties::met_by))]
-fn met_require(
-    may_be_method: bool,
-    sight: Sight,
-    is_after_line_end: bool,
-    is_typed: bool,
-) -> Option<Duty>
-    ensures { result ≡ met_by (Require may_be_method) sight is_after_line_end is_typed }
-{
-    match sight {
-        Sight::Byte(byte) => after_require(may_be_method, is_after_line_end, is_typed, byte),
-        _ => Some(Duty::Nothing),
-    }
-}
-
-/// Returns what the next token must be after a word `require` and a byte of punctuation.
-fn after_require(
-    may_be_method: bool,
-    is_after_line_end: bool,
-    is_typed: bool,
-    byte: u8,
-) -> Option<Duty>
-    ensures { result ≡ after_require may_be_method is_after_line_end is_typed byte }
-{
-    if byte == b'(' {
-        if may_be_method {
-            Some(Duty::Parenthesis)
-        } else {
-            only(is_after_line_end, Duty::Nothing)
-        }
-    } else if byte == b'<' && is_typed && !(may_be_method || is_after_line_end) {
-        Some(Duty::TypeName)
-    } else {
-        Some(Duty::Nothing)
-    }
-}
-
-/// Returns what the next token must be after `require <` and a token.
-#[tactic(auto, unfolding(crate::specs::Duties::met_by))]
-fn met_type(sight: Sight) -> Option<Duty>
-    ensures { (is_after is_typed : Bool) → result ≡ met_by TypeName sight is_after is_typed }
-{
-    match sight {
-        Sight::Word(Name::Operator) => Some(Duty::Nothing),
-        _ if is_name(sight) => Some(Duty::TypeEnd),
-        _ => Some(Duty::Nothing),
-    }
-}
-
-/// Returns what the next token must be after a type in `require <` and a token.
-#[tactic(auto, unfolding(crate::specs::Duties::met_by))]
-fn met_type_end(sight: Sight) -> Option<Duty>
-    ensures { (is_after is_typed : Bool) → result ≡ met_by TypeEnd sight is_after is_typed }
-{
-    if is_byte(b",|&", sight) {
-        Some(Duty::TypeName)
-    } else if is_byte(b">", sight) {
-        Some(Duty::NoParenthesis)
-    } else {
-        Some(Duty::Nothing)
-    }
-}
-
-/// Returns what the next token must be after `require <type>` and a token.
-#[tactic(auto, unfolding(crate::specs::Duties::met_by))]
-fn met_no_parenthesis(sight: Sight, is_after_line_end: bool) -> Option<Duty>
-    ensures { (is_typed : Bool) → result ≡ met_by NoParenthesis sight is_after_line_end is_typed }
-{
-    only(is_after_line_end || !is_byte(b"(", sight), Duty::Nothing)
-}
-
-/// Returns what the next token must be between `import`, at which a node begins, and the specifier.
-fn after_names(is_next: bool, is_named: bool, sight: Sight) -> Option<Duty>
-    ensures { result ≡ after_names is_next is_named sight }
-{
-    match sight {
-        Sight::String if is_next => None,
-        Sight::Word(Name::From) => Some(names_duty(true, is_named || is_next)),
-        _ if is_name(sight) || is_byte(b"*", sight) => Some(names_duty(false, true)),
-        _ if is_byte(b"{,}", sight) => Some(names_duty(false, is_named || is_next)),
-        _ if is_byte(b"=", sight) => Some(Duty::NoCall),
-        _ => Some(Duty::Nothing),
-    }
-}
-
-/// Returns the duty `Names`.
-fn names_duty(is_before_specifier: bool, is_named: bool) -> Duty
-    ensures { result ≡ Names is_before_specifier is_named }
-{
-    Duty::Names {
-        is_before_specifier,
-        is_named,
-    }
-}
-
-/// Returns what the next token must be after `import`, at which a node begins, and a token.
-#[tactic(auto, unfolding(crate::specs::Duties::met_by))]
-fn met_start(phase: Phase, sight: Sight) -> Option<Duty>
-    ensures { (is_after is_typed : Bool) → result ≡ met_by (Start phase) sight is_after is_typed }
-{
-    match (phase, sight) {
-        (Phase::Plain, _) => after_start(sight),
-        (Phase::Types, Sight::Word(Name::Type)) => Some(Duty::Phase),
-        (Phase::Source, Sight::Word(Name::Source)) => Some(Duty::Phase),
-        (Phase::Defer, Sight::Word(Name::Defer)) => Some(Duty::Phase),
-        _ => None,
-    }
-}
-
-/// Returns what the next token must be after `import` without a phase, at which a node begins, and a token.
-fn after_start(sight: Sight) -> Option<Duty>
-    ensures { result ≡ after_start sight }
-{
-    match sight {
-        Sight::String => None,
-        Sight::Word(Name::Type) => Some(Duty::TypeWord),
-        Sight::Word(_) => Some(Duty::Name),
-        _ => after_names(false, false, sight),
-    }
-}
-
-/// Returns what the next token must be after `import type` without a phase, and a token.
-fn after_type(sight: Sight) -> Option<Duty>
-    ensures { result ≡ after_type sight }
-{
-    match sight {
-        Sight::Word(Name::From) => Some(Duty::TypeFrom),
-        Sight::Word(_) => Some(Duty::Alias),
-        _ => after_names(false, true, sight),
-    }
-}
-
-/// Returns what the next token must be after `import name` and a token.
-fn after_name(sight: Sight) -> Option<Duty>
-    ensures { result ≡ after_name sight }
-{
-    match sight {
-        Sight::Word(Name::From) => Some(names_duty(true, true)),
-        _ if is_byte(b",=", sight) => after_names(false, true, sight),
-        _ => None,
-    }
-}
-
-/// Returns what the next token must be after `import type`, `import source` or `import defer`, and a token.
-fn after_phase(sight: Sight) -> Option<Duty>
-    ensures { result ≡ after_phase sight }
-{
-    match sight {
-        Sight::Word(_) => Some(names_duty(false, true)),
-        _ => only(
-            is_byte(b"{*", sight),
-            names_duty(false, is_byte(b"*", sight)),
-        ),
-    }
-}
-
-/// Returns what the next token must be after a token that is a specifier of the tree, or another; or `None` if
-/// the token doesn't meet a duty.
+/// Returns what the next token must be after a token at an offset, by what the tree says of it, or `None` if the
+/// token doesn't meet a duty.
 #[inline(always)]
 #[tactic(auto, unfolding(crate::specs::Duties::met_duty))]
 pub fn met_duty(
-    specifier: Option<bool>,
+    form: Option<Form>,
+    at: usize,
     duty: Duty,
     sight: Sight,
     is_after_line_end: bool,
     is_typed: bool,
 ) -> Option<Duty>
-    ensures { result ≡ met_duty specifier duty sight is_after_line_end is_typed }
+    ensures { result ≡ met_duty form at duty sight is_after_line_end is_typed }
 {
-    match specifier {
-        Some(has_names) => only(takes_specifier(has_names, duty), Duty::Nothing),
-        None => met_by(duty, sight, is_after_line_end, is_typed),
-    }
-}
-
-/// Returns whether a specifier of the tree meets a duty, that of a declaration that names something or not.
-fn takes_specifier(has_names: bool, duty: Duty) -> bool
-    ensures { result ≡ takes_specifier has_names duty }
-{
-    match duty {
-        Duty::Start {
-            phase: Phase::Plain,
-        } => !has_names,
-        Duty::Names {
-            is_before_specifier: true,
-            is_named,
-        } => if has_names { is_named } else { !is_named },
-        Duty::TypeFrom => has_names,
-        Duty::From | Duty::Module => true,
-        _ => false,
-    }
-}
-
-/// Returns what the next token must be after `new` or `function` and a token.
-#[tactic(auto, unfolding(crate::specs::Duties::met_by))]
-fn met_no_call(sight: Sight) -> Option<Duty>
-    ensures { (is_after is_typed : Bool) → result ≡ met_by NoCall sight is_after is_typed }
-{
-    if is_byte(b"*", sight) {
-        Some(Duty::NoCall)
-    } else {
-        Some(Duty::Nothing)
-    }
-}
-
-/// Returns what the next token must be after a word `export` and a token.
-#[tactic(auto, unfolding(crate::specs::Duties::met_by))]
-fn met_export(
-    may_be_member: bool,
-    is_claimed: bool,
-    is_of_types: bool,
-    sight: Sight,
-    is_after_line_end: bool,
-) -> Option<Duty>
-    ensures { (is_typed : Bool)
-        → result ≡ met_by (Export may_be_member is_claimed is_of_types) sight is_after_line_end is_typed }
-{
-    match sight {
-        Sight::Word(_) if may_be_member && is_after_line_end => Some(Duty::Nothing),
-        Sight::Word(Name::Type) => Some(Duty::Export {
-            may_be_member: false,
-            is_claimed: is_claimed && is_of_types,
-            is_of_types: false,
-        }),
-        Sight::Byte(byte) => after_export(
-            is_claimed && !is_of_types,
-            may_be_member && is_after_line_end,
-            byte,
+    match form {
+        Some(Form::Specifier {
+            has_names,
+            has_with,
+        }) => only(
+            takes_specifier(has_names, duty),
+            specified(at, has_with, duty),
         ),
-        _ => Some(Duty::Nothing),
-    }
-}
-
-/// Returns what the next token must be after a word `export` and a byte of punctuation.
-fn after_export(is_claimed: bool, may_end: bool, byte: u8) -> Option<Duty>
-    ensures { result ≡ after_export is_claimed may_end byte }
-{
-    if byte == b'{' {
-        only(is_claimed, Duty::ExportNames)
-    } else if byte == b'*' && !may_end {
-        only(is_claimed, Duty::ExportStar)
-    } else {
-        Some(Duty::Nothing)
-    }
-}
-
-/// Returns what the next token must be after `export {` and more tokens.
-#[tactic(auto, unfolding(crate::specs::Duties::met_by))]
-fn met_export_names(sight: Sight) -> Option<Duty>
-    ensures { (is_after is_typed : Bool) → result ≡ met_by ExportNames sight is_after is_typed }
-{
-    if is_byte(b"}", sight) {
-        Some(Duty::ExportEnd)
-    } else {
-        only(is_name(sight) || is_byte(b",", sight), Duty::ExportNames)
-    }
-}
-
-/// Returns what the next token must be after `export *` and a token.
-#[tactic(auto, unfolding(crate::specs::Duties::met_by))]
-fn met_export_star(sight: Sight) -> Option<Duty>
-    ensures { (is_after is_typed : Bool) → result ≡ met_by ExportStar sight is_after is_typed }
-{
-    match sight {
-        Sight::Word(Name::From) => Some(Duty::From),
-        Sight::Word(Name::As) => Some(Duty::ExportAs),
-        _ => None,
-    }
-}
-
-/// Returns what the next token must be after the names of an export and a token.
-#[tactic(auto, unfolding(crate::specs::Duties::met_by))]
-fn met_export_end(sight: Sight) -> Option<Duty>
-    ensures { (is_after is_typed : Bool) → result ≡ met_by ExportEnd sight is_after is_typed }
-{
-    match sight {
-        Sight::Word(Name::From) => Some(Duty::From),
-        _ => Some(Duty::Nothing),
-    }
-}
-
-/// Returns what the next token must be after `module` and a token.
-#[tactic(auto, unfolding(crate::specs::Duties::met_by))]
-fn met_module(sight: Sight, is_after_line_end: bool) -> Option<Duty>
-    ensures { (is_typed : Bool) → result ≡ met_by Module sight is_after_line_end is_typed }
-{
-    match sight {
-        Sight::String if !is_after_line_end => None,
-        _ => Some(Duty::Nothing),
+        Some(Form::Attribute {
+            specifier,
+            value,
+        }) => attributed(specifier, value, duty, sight),
+        _ => met_by(duty, sight, is_after_line_end, is_typed),
     }
 }

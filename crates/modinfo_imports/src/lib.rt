@@ -2,6 +2,7 @@
 //! shows that no dependency does.
 #![tactic(auto)]
 
+mod attributes;
 pub mod claims;
 pub mod duty;
 pub mod find;
@@ -9,4 +10,5 @@ pub mod keyword;
 pub mod nodes;
 pub mod plain;
 pub mod plain_piece;
+mod spans;
 pub mod watch;

@@ -10,7 +10,6 @@ ghost use Rattle.modinfo_imports.specs.Nodes.{
   AreClaims,
   begin_claim,
   begin_form,
-  bytes_at,
   call_form,
   marks_of,
   claims_of,
@@ -20,18 +19,24 @@ ghost use Rattle.modinfo_imports.specs.Nodes.{
   mark_at,
   module_claim,
   name_claim,
-  no_piece,
   part_claim,
   phase_form,
-  piece_at,
-  specifier_mark,
+  specifier_marks,
   specifier_of,
   value_claim,
-  word_claim,
 };
+ghost use Rattle.modinfo_imports.specs.Attributes.{
+  attribute_marks,
+  entries_of,
+  hidden_claim,
+  key_claims,
+};
+ghost use Rattle.modinfo_imports.specs.Spans.{no_piece, piece_at, word_claim};
 
+use crate::attributes::{claim_keys, entries_of, hidden_claim, mark_attributes};
 use crate::claims::{Form, Mark};
 use crate::keyword::{has_escape, may_be_require};
+use crate::spans::{bytes_at, no_piece, piece_at, word_claim};
 use deno_graph_base::text::SourceRange;
 use deno_graph_source::tree::{Callee, ImportPhase, Kind, Node, Program, StrLit};
 use modinfo_pieces::bytes::{byte_at, has_bytes};
@@ -115,7 +120,9 @@ fn claim_node(text: &[u8], node: &Node, claims: &mut Vec<Piece>) -> Result<(), A
 {
     claim(begin_claim(text, node.range.start, &node.kind), claims)?;
     claim(literal_of(node.range, &node.kind), claims)?;
-    claim(value_claim(text, node.range, &node.kind), claims)
+    claim(value_claim(text, node.range, &node.kind), claims)?;
+    claim(hidden_claim(node), claims)?;
+    claim_keys(text, entries_of(node), claims)
 }
 
 /// Adds a piece, if there is one.
@@ -136,11 +143,13 @@ fn begin_claim(text: &[u8], at: usize, kind: &Kind) -> Option<Piece>
         Kind::ImportDecl { .. } | Kind::ImportType { .. } | Kind::ImportMeta => {
             Some(import_claim(text, at))
         }
-        Kind::NamedExport { .. } | Kind::ExportAll { .. } => Some(export_claim(text, at)),
-        Kind::ImportEquals {
+        Kind::NamedExport { .. }
+        | Kind::ExportAll { .. }
+        | Kind::ImportEquals {
             is_export: true,
             ..
-        } => Some(export_claim(text, at)),
+        } => Some(word_claim(text, at, b"export")),
+        Kind::ExportOther => Some(export_claim(text, at)),
         Kind::ImportEquals { .. } => Some(import_claim(text, at)),
         Kind::ModuleDecl { .. } => Some(module_claim(text, at)),
         Kind::Call {
@@ -184,32 +193,6 @@ fn module_claim(text: &[u8], at: usize) -> Piece
     }
 }
 
-/// Returns a word at an offset, or no piece if the text has another there.
-fn word_claim(text: &[u8], at: usize, word: &[u8]) -> Piece
-    ensures { result ≡ word_claim text.now at word.now }
-{
-    if has_bytes(text, at, word) {
-        Piece {
-            kind: PieceKind::Word,
-            start: at,
-            end: at + word.len(),
-        }
-    } else {
-        no_piece(at)
-    }
-}
-
-/// Returns a piece that no text has.
-fn no_piece(at: usize) -> Piece
-    ensures { result ≡ no_piece at }
-{
-    Piece {
-        kind: PieceKind::Word,
-        start: at,
-        end: at,
-    }
-}
-
 /// Returns the string that a node of a kind has.
 fn literal_of(range: SourceRange, kind: &Kind) -> Option<Piece>
     ensures { result ≡ option_map (literal_claim range) (literal_of kind.now) }
@@ -228,17 +211,6 @@ fn literal_claim(range: SourceRange, literal: &StrLit) -> Piece
         piece_at(PieceKind::String, literal.range)
     } else {
         no_piece(literal.range.start)
-    }
-}
-
-/// Returns the piece of a kind at a range.
-fn piece_at(kind: PieceKind, range: SourceRange) -> Piece
-    ensures { result ≡ piece_at kind range }
-{
-    Piece {
-        kind,
-        start: range.start,
-        end: range.end,
     }
 }
 
@@ -262,17 +234,6 @@ fn name_claim(text: &[u8], range: SourceRange, name: &[u8]) -> Piece
         no_piece(range.start)
     } else {
         piece_at(PieceKind::Word, range)
-    }
-}
-
-/// Returns the bytes at a range, none if the text has no such range.
-fn bytes_at(text: &[u8], range: SourceRange) -> &[u8]
-    ensures { result.now ≡ bytes_at text.now range }
-{
-    if range.start < range.end && range.end <= text.len() {
-        &text[range.start..range.end]
-    } else {
-        &[]
     }
 }
 
@@ -321,7 +282,7 @@ fn add_mark(text: &[u8], node: &Node, marks: &mut Vec<Mark>) -> Result<(), Alloc
         begin_form(text, node.range, node.children.as_slice(), &node.kind),
         marks,
     )?;
-    mark_specifier(&node.kind, marks)
+    mark_specifier(node, marks)
 }
 
 /// Adds the mark of the token at an offset, if there is one.
@@ -334,22 +295,22 @@ fn mark_token(at: usize, form: Option<Form>, marks: &mut Vec<Mark>) -> Result<()
     }
 }
 
-/// Adds the mark of a declaration's specifier, if a node of a kind is one that has it.
-fn mark_specifier(kind: &Kind, marks: &mut Vec<Mark>) -> Result<(), AllocError>
-    ensures { OnOk result (marks.new.items
-        ≡ marks.old.items ++ specifier_mark (has_names kind.now) (specifier_of kind.now)) }
+/// Adds the marks of a declaration's specifier, and of its attributes, if a node is one that has them.
+fn mark_specifier(node: &Node, marks: &mut Vec<Mark>) -> Result<(), AllocError>
+    ensures { OnOk result (marks.new.items ≡ marks.old.items
+        ++ specifier_marks (kind_of node.now) (children_of node.now) (specifier_of (kind_of node.now))) }
 {
-    match specifier_of(kind) {
-        Some(literal) => {
-            let has_names = has_names(kind);
-            mark_token(
-                literal.range.start,
-                Some(Form::Specifier { has_names }),
-                marks,
-            )
-        }
-        None => Ok(()),
-    }
+    let Some(literal) = specifier_of(&node.kind) else {
+        return Ok(());
+    };
+    marks.push(Mark {
+        start: literal.range.start,
+        form: Form::Specifier {
+            has_names: has_names(&node.kind),
+            has_with: node.kind.has_with(),
+        },
+    })?;
+    mark_attributes(literal.range.start, entries_of(node), marks)
 }
 
 /// Returns the specifier of a declaration, if a node of a kind is one that has it.

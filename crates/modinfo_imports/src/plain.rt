@@ -172,6 +172,7 @@ fn leave<'a>(
         seen: Seen {
             duty: duty_of(plain.asked),
             last,
+            is_decorated: seen.is_decorated,
             claims: seen.claims,
             marks: seen.marks,
         },

@@ -139,10 +139,10 @@ fn after_word(text: &[u8], plain: Plain, around: &Openings) -> Option<Plain>
 /// Returns what a word asks of the next token, `None` if a dependency may begin with the word.
 #[inline(always)]
 fn asked_after(text: &[u8], plain: Plain, word: &[u8], around: &Openings) -> Option<Asked>
-    ensures { (last : ℕ) (form : Option Form) (in_braces may_be_method : Bool) (before : Duty)
+    ensures { (last : ℕ) (form : Option Form) (begins_item in_braces may_be_method : Bool) (before : Duty)
         → IfSome result (λ asked. duty_after_word
         (if is_name (plain_context plain around.now) (slice_index text.now (plain.at - 1)) last then Other
-        else keyword_of word.now) false form in_braces may_be_method before Nothing ≡ duty_of asked) }
+        else keyword_of word.now) false form begins_item in_braces may_be_method before Nothing ≡ duty_of asked) }
 {
     match keyword_of(word) {
         Keyword::Other => Some(Asked::Nothing),

@@ -1,6 +1,6 @@
 //! A watch over the tokens of a text, so that no word that a dependency begins with is lost.
 
-ghost use Rattle.std.specs.Prelude.{[], ◌≡◌, ◌<◌, ◌≤◌, ◌&&◌, IfOk, IfSome, OnOk, codes, length, IsTrue, slice_index, ◌-◌};
+ghost use Rattle.std.specs.Prelude.{List, [], ◌≡◌, ◌<◌, ◌≤◌, ◌&&◌, IfOk, IfSome, OnOk, codes, length, IsTrue, slice_index, ◌-◌};
 ghost use Rattle.modinfo_imports.specs.Claims.{form_of};
 ghost use Rattle.modinfo_imports.specs.Duties.{is_byte, met_by, met_duty, sight_of};
 ghost use Rattle.modinfo_pieces.specs.Openings.{is_brace};
@@ -8,7 +8,9 @@ ghost use Rattle.modinfo_imports.specs.Sights.{watch_of};
 ghost use Rattle.modinfo_imports.specs.Watches.{
   IsWatchEnd,
   duty_after,
+  begins_item,
   duty_after_word,
+  is_decorated_after,
   is_flags,
   is_gap,
   is_listed,
@@ -23,7 +25,6 @@ ghost use Rattle.modinfo_imports.specs.Watches.{
   may_end_member,
   parentheses_after,
   phase_of,
-  specifier_of,
   watch_after,
   watch_start,
 };
@@ -45,6 +46,8 @@ pub struct Seen<'a> {
     pub duty: Duty,
     /// The first byte of the last token, `=` for the second byte of `=>`.
     pub last: u8,
+    /// Whether an export began with a decorator.
+    pub is_decorated: bool,
     /// The claims that weren't met yet.
     pub claims: &'a [Piece],
     /// The marks that weren't met yet.
@@ -58,6 +61,7 @@ pub fn watch_start<'a>(claims: &'a [Piece], marks: &'a [Mark]) -> Seen<'a>
     Seen {
         duty: Duty::Nothing,
         last: 0,
+        is_decorated: false,
         claims,
         marks,
     }
@@ -90,6 +94,7 @@ pub fn watch_piece<'a>(
             byte_at(text, piece.start.saturating_sub(1)),
             byte_at(text, piece.start),
         ),
+        is_decorated: is_decorated_after(piece, seen),
         claims: claims_after(piece, seen.claims),
         marks: marks_after(piece, seen.marks),
     };
@@ -108,15 +113,16 @@ fn met_at(
     seen: Seen<'_>,
 ) -> Option<Duty>
     ensures { piece.start < piece.end → piece.end ≤ length text.now
-        → result ≡ met_duty (specifier_of piece.kind (form_of piece seen.entry.marks.now)) seen.entry.duty
+        → result ≡ met_duty (form_of piece seen.entry.marks.now) piece.start seen.entry.duty
         (sight_of text.now piece piece.kind) context.is_after_line_end is_typed }
 {
-    let specifier = specifier_of(piece, seen.marks);
-    match (seen.duty, specifier) {
+    let form = form_of(piece, seen.marks);
+    match (seen.duty, form) {
         // Nearly every token has none.
         (Duty::Nothing | Duty::Claimed, None) => Some(Duty::Nothing),
         _ => met_duty(
-            specifier,
+            form,
+            piece.start,
             seen.duty,
             sight_of(text, piece),
             context.is_after_line_end,
@@ -125,17 +131,15 @@ fn met_at(
     }
 }
 
-/// Returns whether the declaration of a specifier names something, if a token is a specifier of the tree.
+/// Returns whether an export began with a decorator, after a token.
 #[inline(always)]
-fn specifier_of(piece: Piece, marks: &[Mark]) -> Option<bool>
-    ensures { result ≡ specifier_of piece.kind (form_of piece marks.now) }
+fn is_decorated_after(piece: Piece, seen: Seen<'_>) -> bool
+    ensures { (parentheses : List Duty)
+        → result ≡ is_decorated_after piece piece.kind (watch_of seen.entry parentheses) }
 {
     match piece.kind {
-        PieceKind::String => match form_of(piece, marks) {
-            Some(Form::Specifier { has_names }) => Some(has_names),
-            _ => None,
-        },
-        _ => None,
+        PieceKind::Punctuation if is_claimed(piece, seen.claims) => true,
+        _ => seen.is_decorated,
     }
 }
 
@@ -179,6 +183,7 @@ fn duty_after(
                     keyword_at(text, context, piece, seen.last),
                     is_claimed(piece, seen.claims),
                     form_of(piece, seen.marks),
+                    begins_item(context.inside, seen.is_decorated),
                     is_brace(context.inside),
                     may_be_method(is_typed, context, seen.last),
                     seen.duty,
@@ -217,12 +222,13 @@ fn duty_after_word(
     keyword: Keyword,
     is_claimed: bool,
     form: Option<Form>,
+    begins_item: bool,
     in_braces: bool,
     may_be_method: bool,
     before: Duty,
     met: Duty,
 ) -> Duty
-    ensures { result ≡ duty_after_word keyword is_claimed form in_braces may_be_method before met }
+    ensures { result ≡ duty_after_word keyword is_claimed form begins_item in_braces may_be_method before met }
 {
     match keyword {
         Keyword::Other => { if is_claimed { Duty::Claimed } else { met } }
@@ -255,6 +261,7 @@ fn duty_after_word(
         },
         Keyword::Export => match before {
             Duty::TypeOf => met,
+            _ if begins_item && !is_claimed => Duty::ExportAlone,
             _ => Duty::Export {
                 may_be_member: in_braces && !is_claimed,
                 is_claimed,
@@ -264,6 +271,17 @@ fn duty_after_word(
         Keyword::TypeOf => Duty::TypeOf,
         Keyword::Module => Duty::Module,
         Keyword::New => Duty::NoCall,
+    }
+}
+
+/// Returns whether an item begins at an `export`.
+#[inline(always)]
+fn begins_item(inside: Opening, is_decorated: bool) -> bool
+    ensures { result ≡ begins_item inside is_decorated }
+{
+    match inside {
+        Opening::Program => !is_decorated,
+        _ => false,
     }
 }
 
@@ -317,7 +335,8 @@ fn is_listed(duty: Duty) -> bool
         | Duty::ExportEnd
         | Duty::Names { .. }
         | Duty::Name
-        | Duty::Alias => true,
+        | Duty::Alias
+        | Duty::Colon { .. } => true,
         _ => false,
     }
 }

@@ -110,6 +110,7 @@ watch_at text plain parentheses watch = record {
   duty = duty_of plain.asked;
   parentheses = parentheses;
   last = last_at text plain watch.last;
+  is_decorated = watch.is_decorated;
   claims = watch.claims;
   marks = watch.marks;
 }

@@ -24,3 +24,11 @@ returns-in-NoCall c =
 pub returns-in-ExportNames : goal.returns-in-ExportNames
 returns-in-ExportNames c =
     rw c.in-ExportNames.is (c.met_export_names.ensures c.args.is_after_line_end c.args.is_typed)
+
+pub returns-in-ExportAlone : goal.returns-in-ExportAlone
+returns-in-ExportAlone c =
+    rw c.in-ExportAlone.is (c.met_export_alone.ensures c.args.is_after_line_end c.args.is_typed)
+
+pub returns-in-Comma : goal.returns-in-Comma
+returns-in-Comma c =
+    rw c.in-Comma.is (c.met_comma.ensures c.args.is_after_line_end c.args.is_typed)
