@@ -66,8 +66,8 @@ after_claims : (text : List ℕ) (is_typed : Bool) (context : Context) (piece : 
 after_claims text is_typed context piece watch after is =
     let sight = sight_of text piece piece.kind in
     step_claims (is_gap piece.kind)
-    (met_duty (form_of piece watch.marks) piece.start watch.duty sight context.is_after_line_end is_typed) watch
-    after
+    (met_duty (form_of piece watch.marks) piece.start watch.duty sight context.is_after_line_end is_typed)
+    watch after
     (watch_met text is_typed context piece watch sight) (claims_after piece watch.claims) (λ duty. refl) is
 
 -- each claim is a piece, or is still one of the claims

@@ -1,7 +1,8 @@
 -- What a tree says of the attributes of a declaration, as those of `import a from "a" with { type: "json" }`.
-use Rattle.std.specs.Prelude.{ℕ, ◌+◌, Bool, true, false, not, ◌&&◌, List, [], ◌∷◌, Option, Some, None}
-use Rattle.std.specs.Prelude.{if◌then◌else◌, length}
+use Rattle.std.specs.Prelude.{ℕ, Bool, true, false, not, ◌&&◌, List, [], ◌∷◌, Option, Some, None}
+use Rattle.std.specs.Prelude.{if◌then◌else◌}
 use Rattle.std.specs.List.{list_all}
+use Rattle.deno_graph_base.specs.declared.text.position.SourceRange.{SourceRange}
 use Rattle.deno_graph_source.specs.Node.{children_of, has_with, is_object, kind_of, range_of}
 use Rattle.deno_graph_source.specs.declared.tree.node.Kind.{Kind}
 use Rattle.deno_graph_source.specs.declared.tree.node.Kind.TheVariants as kinds
@@ -54,7 +55,8 @@ entries_of kind (clause ∷ _) = (if is_declaration kind && has_with kind then c
 -- A key that is no string is a word, spelled as the key or with escapes, which end before the value.
 abbrev pub key_claim : List ℕ → ℕ → ℕ → Kind → List Piece
 key_claim text at value (kinds.KeyValue (keys.Ident name)) =
-    (if has_escape (bytes_at text (record { start = at; end = value })) && not (has_bytes text at name) then []
+    let key : SourceRange = record { start = at; end = value } in
+    (if has_escape (bytes_at text key) && not (has_bytes text at name) then []
     else word_claim text at name ∷ [])
 key_claim text at value kind = []
 

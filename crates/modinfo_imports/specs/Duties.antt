@@ -205,7 +205,8 @@ met_by (duties.Key at) sight _ _ = only (is_byte (codes "}") sight) duties.Nothi
 met_by (duties.Colon at value) sight _ _ = only (is_byte (codes ":") sight) (duties.Value at value)
 met_by (duties.Value _ _) _ _ _ = None
 met_by (duties.Comma at) sight _ _ =
-    (if is_byte (codes ",") sight then Some (duties.Key at) else only (is_byte (codes "}") sight) duties.Nothing)
+    (if is_byte (codes ",") sight then Some (duties.Key at)
+    else only (is_byte (codes "}") sight) duties.Nothing)
 met_by _ _ _ _ = Some duties.Nothing
 
 -- A specifier of the tree is right after `import`, after the `from` of a declaration, or after `module`, and

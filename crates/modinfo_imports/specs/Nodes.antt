@@ -2,7 +2,7 @@
 -- a dependency, and each string, name and template of the tree.
 use Rattle.std.specs.Prelude.{ℕ, ◌+◌, ◌-◌, ◌==◌, Bool, true, false, ◌&&◌, ◌||◌, List, [], ◌∷◌, ◌++◌, Option}
 use Rattle.std.specs.Prelude.{Some, None, codes, if◌then◌else◌, length, map, nat_le, nat_lt, not, option_map}
-use Rattle.std.specs.Prelude.{slice_index, slice_range}
+use Rattle.std.specs.Prelude.{slice_index}
 use Rattle.std.specs.List.{flat_map}
 use Rattle.std.specs.List.Sorted.{IsPermutation}
 use Rattle.std.specs.Option.{option_to_list}
@@ -25,7 +25,6 @@ use Rattle.modinfo_imports.specs.Keywords.{has_escape, may_be_require}
 use Rattle.modinfo_imports.specs.Spans.{bytes_at, no_piece, piece_at, word_claim}
 use Rattle.modinfo_pieces.specs.Comments.{has_bytes}
 use Rattle.modinfo_pieces.specs.declared.piece.Piece.{Piece}
-use Rattle.modinfo_pieces.specs.declared.piece.PieceKind.{PieceKind}
 use Rattle.modinfo_pieces.specs.declared.piece.PieceKind.TheVariants.{Punctuation, String, Template, Word}
 
 -- `export` is at an offset, or the `@` of a decorator before it, as in `@a export class B {}`.

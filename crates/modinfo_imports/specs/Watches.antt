@@ -1,7 +1,7 @@
 -- A watch over the tokens of a text: no word that a dependency begins with is lost. A node of the tree begins
 -- there, or what is around the word shows that no dependency does. ⏎ is a line end.
 use Rattle.std.specs.Prelude.{◌≡◌, ℕ, ◌-◌, ◌==◌, Bool, true, false, not, ◌&&◌, ◌||◌, List, [], ◌∷◌, ◌++◌}
-use Rattle.std.specs.Prelude.{Option, Some, None, codes, drop, if◌then◌else◌, is_some, option_map}
+use Rattle.std.specs.Prelude.{Option, Some, codes, drop, if◌then◌else◌, is_some, option_map}
 use Rattle.std.specs.Prelude.{slice_index, slice_range}
 use Rattle.modinfo_imports.specs.Claims.{claims_after, form_of, is_claimed, marks_after}
 use Rattle.modinfo_imports.specs.Duties.{is_byte, is_one_of, met_by, met_duty, sight_of}
@@ -186,7 +186,8 @@ last_of previous byte =
 
 -- A claimed `@` is that of a decorator with which an export begins.
 abbrev pub is_decorated_after : Piece → PieceKind → Watch → Bool
-is_decorated_after piece Punctuation watch = (if is_claimed piece watch.claims then true else watch.is_decorated)
+is_decorated_after piece Punctuation watch =
+    (if is_claimed piece watch.claims then true else watch.is_decorated)
 is_decorated_after piece kind watch = watch.is_decorated
 
 -- The watch after a token, by the duty that the token has met.

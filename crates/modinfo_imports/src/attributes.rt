@@ -179,10 +179,7 @@ fn mark_attribute(specifier: usize, entry: &Node, marks: &mut Vec<Mark>) -> Resu
     ensures { OnOk result (marks.new.items ≡ marks.old.items ++ attribute_marks specifier entry.now) }
 {
     let value = value_start(entry.children.as_slice());
-    let form = Form::Attribute {
-        specifier,
-        value,
-    };
+    let form = Form::Attribute { specifier, value };
     marks.push(Mark {
         start: entry.range.start,
         form,

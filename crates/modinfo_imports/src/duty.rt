@@ -27,9 +27,7 @@ use crate::duty::exports::{
 };
 use crate::duty::imports::{after_name, after_names, after_phase, after_type, met_start};
 use crate::duty::names::{met_import, met_parameters, met_parenthesis};
-use crate::duty::specifiers::{
-    after_specifier, attributed, met_comma, specified, takes_specifier,
-};
+use crate::duty::specifiers::{after_specifier, attributed, met_comma, specified, takes_specifier};
 use modinfo_pieces::befores::bytes_of;
 use modinfo_pieces::bytes::byte_at;
 use modinfo_pieces::piece::{Piece, PieceKind};
@@ -400,17 +398,16 @@ pub fn met_duty(
     ensures { result ≡ met_duty form at duty sight is_after_line_end is_typed }
 {
     match form {
-        Some(Form::Specifier {
-            has_names,
-            has_with,
-        }) => only(
+        Some(
+            Form::Specifier {
+                has_names,
+                has_with,
+            },
+        ) => only(
             takes_specifier(has_names, duty),
             specified(at, has_with, duty),
         ),
-        Some(Form::Attribute {
-            specifier,
-            value,
-        }) => attributed(specifier, value, duty, sight),
+        Some(Form::Attribute { specifier, value }) => attributed(specifier, value, duty, sight),
         _ => met_by(duty, sight, is_after_line_end, is_typed),
     }
 }

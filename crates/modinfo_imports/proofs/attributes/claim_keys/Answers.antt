@@ -1,5 +1,5 @@
 -- Each turn adds the claims of one more attribute.
-use Rattle.std.proofs.Common.{refl, sym}
+use Rattle.std.proofs.Common.{sym}
 use Rattle.std.proofs.lemmas.List.{append-nil}
 use Rattle.modinfo_imports.proofs.ClaimedNodes.{each-all, each-more}
 use Rattle.modinfo_imports.specs.Attributes.{key_claims}
