@@ -248,7 +248,8 @@ fn after_space(text: &[u8], plain: Plain) -> Option<Plain>
     if end <= plain.at || end > text.len() {
         return None;
     }
-    Some(after_gap(plain, end, line_end_after(text, plain, end)))
+    let is_after_line_end = line_end_after(text, plain.at, end, plain.is_after_line_end);
+    Some(after_gap(plain, end, is_after_line_end))
 }
 
 /// Returns the place after white space.
@@ -292,10 +293,10 @@ fn is_solid(byte: u8) -> bool
 
 /// Returns whether a line has ended since the last token, after white space.
 #[inline(always)]
-fn line_end_after(text: &[u8], plain: Plain, end: usize) -> bool
-    ensures { result ≡ (plain.is_after_line_end || has_line_end text.now plain.at (end - plain.at)) }
+pub fn line_end_after(text: &[u8], from: usize, end: usize, is_after_line_end: bool) -> bool
+    ensures { result ≡ (is_after_line_end || has_line_end text.now from (end - from)) }
 {
-    plain.is_after_line_end || has_line_end(text, plain.at, end)
+    is_after_line_end || has_line_end(text, from, end)
 }
 
 /// Returns the place after the string at a place, outside of tags.

@@ -1,8 +1,8 @@
 use Rattle.std.proofs.Common.{◌≤◌, ℕ, ap, subst, sym}
 use Rattle.modinfo_imports.proofs.Gone.{IsGone, IsGone-more, IsGone-none, Turns-gone, unset}
-use Rattle.modinfo_imports.proofs.plain.go_over_plain.Goals as goal
-use Rattle.modinfo_imports.proofs.plain.go_over_plain.Goals.{else-plain-test, then-plain-test+else-not-plain}
-use Rattle.modinfo_imports.proofs.plain.go_over_plain.Goals.{then-plain-test+then-not-plain+in_ok-next+in_default-2}
+use Rattle.modinfo_imports.proofs.plain.go_over_quiet.Goals as goal
+use Rattle.modinfo_imports.proofs.plain.go_over_quiet.Goals.{else-plain-test, then-plain-test+else-not-plain}
+use Rattle.modinfo_imports.proofs.plain.go_over_quiet.Goals.{then-plain-test+then-not-plain+in_ok-next+in_default-2}
 use Rattle.modinfo_imports.specs.internal.Plains.Turns.{none}
 use Rattle.modinfo_pieces.specs.Places.{Place}
 
@@ -12,8 +12,8 @@ plain-init c =
     c.args.parentheses.now c.args.filing.now c.in-Some.asked c.if-spot-lt4.false (rw c.in-Some.is at
     c.asked_by.ensures))
 
-pub returns-then-not-has_token-clause-turns : goal.returns-then-not-has_token-clause-turns
-returns-then-not-has_token-clause-turns c is_typed = none
+pub returns-then-not-is_quiet-clause-turns : goal.returns-then-not-is_quiet-clause-turns
+returns-then-not-is_quiet-clause-turns c is_typed = none
 
 pub plain-preserved : goal.plain-preserved
 plain-preserved c =
