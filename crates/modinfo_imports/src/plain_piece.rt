@@ -157,7 +157,10 @@ fn after_word(text: &[u8], plain: Plain, around: &Openings) -> Option<Plain>
         → IfSome result (λ next.
         IsPlainTurn text.now plain next around.now around.now parentheses parentheses) }
 {
-    let end = word_end(text, plain.at);
+    if plain.at >= text.len() {
+        return None;
+    }
+    let end = word_end(text, plain.at + 1);
     if end <= plain.at || end > text.len() {
         return None;
     }
@@ -184,7 +187,13 @@ fn is_ordinary(word: &[u8]) -> bool
     ensures { result ≡ is_ordinary word.now }
 {
     let first = byte_at(word, 0);
-    if first == b'r' || first == b'\\' {
+    if first == b'\\' {
+        return false;
+    }
+    if word.len() == 1 {
+        return true;
+    }
+    if first == b'r' {
         return false;
     }
     match word.len() {
