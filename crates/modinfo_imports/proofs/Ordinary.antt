@@ -1,5 +1,5 @@
 -- Ordinary words: no keyword that matters here, and no word before an expression.
-use Rattle.std.proofs.Common.{◌≡◌, ℕ, ◌==◌, ◌||◌, Bool, true, false, List, codes, if◌then◌else◌, ap, refl, sym}
+use Rattle.std.proofs.Common.{◌≡◌, ℕ, ◌==◌, Bool, true, false, List, codes, if◌then◌else◌, ap, refl, sym}
 use Rattle.std.proofs.Common.{[], ◌∷◌, ◌&&◌, arith, length, slice_index, true≢false, ◌∙◌}
 use Rattle.std.proofs.lemmas.Bool.{eqb-true}
 use Rattle.std.specs.Str.{bytes_eq}

@@ -1,6 +1,6 @@
 -- Plain pieces: white space, and tokens that any token may follow. A piece is plain by its first byte, where
 -- nothing was chosen and no claim and no mark begins.
-use Rattle.std.specs.Prelude.{◌≡◌, ℕ, ◌+◌, ◌-◌, ◌==◌, ◌<◌, ◌≤◌, Bool, true, false, not, ◌||◌, List, Option, Some, None}
+use Rattle.std.specs.Prelude.{◌≡◌, ℕ, ◌+◌, ◌-◌, ◌==◌, ◌<◌, ◌≤◌, Bool, true, false, not, List, Option, Some, None}
 use Rattle.std.specs.Prelude.{codes, if◌then◌else◌, length, slice_index}
 use Rattle.modinfo_imports.specs.Claims.{form_of, is_claimed}
 use Rattle.modinfo_imports.specs.Duties.{is_one_of}

@@ -1,4 +1,4 @@
-use Rattle.std.proofs.Common.{arith, ◌∙◌, ap, false, refl, sym}
+use Rattle.std.proofs.Common.{arith, ◌∙◌, ap, false, sym}
 use Rattle.modinfo_imports.proofs.PlainBytes.{kind-of_space}
 use Rattle.modinfo_imports.proofs.Plains.{skipped-turns}
 use Rattle.modinfo_imports.proofs.plain.skip_space.Goals as goal

@@ -1,10 +1,9 @@
-use Rattle.std.proofs.Common.{arith, ◌≡◌, ◌<◌, ℕ, List, true, ◌∙◌, MatchOption, IfSome, None, Option, Some, refl, subst, sym}
+use Rattle.std.proofs.Common.{arith, ◌≡◌, ℕ, List, MatchOption, IfSome, None, Option, Some, refl, subst}
 use Rattle.modinfo_imports.proofs.PlainBytes.{free-bytes, more_free-bytes}
 use Rattle.modinfo_imports.proofs.plain_piece.after_punctuation.Goals as goal
 use Rattle.modinfo_imports.specs.declared.plain.Plain.{Plain}
-use Rattle.modinfo_imports.specs.internal.Plains.{IsByteAt, is_plain_byte, plain_context}
+use Rattle.modinfo_imports.specs.internal.Plains.{IsByteAt, plain_context}
 use Rattle.modinfo_pieces.specs.Befores.{before_after_punctuation}
-use Rattle.modinfo_pieces.specs.Openings.{innermost}
 
 some_kept : {A : Type 0} (found : Option A) (Kept : Type 0) (Is : A → Type 0) → Kept → IfSome found Is
     → MatchOption found Kept Is
