@@ -1,5 +1,5 @@
 -- Plain tokens of one byte.
-use Rattle.std.proofs.Common.{◌≡◌, ℕ, ◌+◌, ◌-◌, ◌==◌, ◌<◌, ◌≤◌, Bool, true, false, ◌&&◌, ◌||◌, List, Option}
+use Rattle.std.proofs.Common.{◌≡◌, ℕ, ◌+◌, ◌-◌, ◌==◌, ◌<◌, ◌≤◌, Bool, true, false, ◌&&◌, ◌||◌, ◌⊎◌, inl, inr, subst, List, Option}
 use Rattle.std.proofs.Common.{[], ◌∷◌, MatchOption, drop, true≢false, Some, None, codes, length, slice_index}
 use Rattle.std.proofs.Common.{nat_le, refl, sym, ap, ◌∙◌, arith}
 use Rattle.std.proofs.lemmas.Bool.{eqb-true}
@@ -70,7 +70,7 @@ hashbang-past text at past =
     let three : (at == 3) ≡ false = grind (arith, eqb-true) in
     rw (zero, three) (and_false _)
 
-space_size-none : (text : List ℕ) (at : ℕ) → is_ascii_space (slice_index text at) ≡ false
+pub space_size-none : (text : List ℕ) (at : ℕ) → is_ascii_space (slice_index text at) ≡ false
     → nat_le 128 (slice_index text at) ≡ false → space_size text at ≡ 0
 unfolding space_size
 space_size-none text at no_space narrow =
@@ -172,6 +172,28 @@ plain_byte-turn text plain byte end before around parentheses less at is_plain b
     (around-plain (slice_index text (plain.at - 1)) byte (plain_context plain around) around
     (excludes is_plain_byte is_asked refl byte less is_plain)) before_is closing.1
     (rw closing.0 refl) (rw (counted.0, closing.0) refl)
+
+-- Bytes after which an expression may begin, whatever is before.
+pub free-bytes : (byte : ℕ) (context : Context)
+    → (byte ≡ 38) ⊎ ((byte ≡ 44) ⊎ ((byte ≡ 59) ⊎ ((byte ≡ 63) ⊎ ((byte ≡ 91) ⊎ ((byte ≡ 94) ⊎ ((byte ≡ 124)
+    ⊎ (byte ≡ 126)))))))
+    → (is_plain_byte byte ≡ true) × (Free ≡ before_after_punctuation byte context)
+unfolding before_after_punctuation
+free-bytes byte context (inl is) = rw is (refl, refl)
+free-bytes byte context (inr (inl is)) = rw is (refl, refl)
+free-bytes byte context (inr (inr (inl is))) = rw is (refl, refl)
+free-bytes byte context (inr (inr (inr (inl is)))) = rw is (refl, refl)
+free-bytes byte context (inr (inr (inr (inr (inl is))))) = rw is (refl, refl)
+free-bytes byte context (inr (inr (inr (inr (inr (inl is)))))) = rw is (refl, refl)
+free-bytes byte context (inr (inr (inr (inr (inr (inr (inl is))))))) = rw is (refl, refl)
+free-bytes byte context (inr (inr (inr (inr (inr (inr (inr is))))))) = rw is (refl, refl)
+
+-- More of them.
+pub more_free-bytes : (byte : ℕ) (context : Context) → (byte ≡ 37) ⊎ (byte ≡ 58)
+    → (is_plain_byte byte ≡ true) × (Free ≡ before_after_punctuation byte context)
+unfolding before_after_punctuation
+more_free-bytes byte context (inl is) = rw is (refl, refl)
+more_free-bytes byte context (inr is) = rw is (refl, refl)
 
 -- A turn over one of the bytes that are a token each.
 pub token_byte-turn : (text : List ℕ) (plain : Plain) (byte end : ℕ) (before : Before) (in_element : Bool)
@@ -340,8 +362,7 @@ before-greater-code openings.ClosingTag is = cc
 before-greater-code openings.Angle is = cc
 before-greater-code openings.Element is = cc
 
--- A turn over a `<` or a `>` in code.
-pub less-turn : (text : List ℕ) (plain : Plain) (end : ℕ) (around : List Opening) (parentheses : List Duty)
+less-turn : (text : List ℕ) (plain : Plain) (end : ℕ) (around : List Opening) (parentheses : List Duty)
     → IsByteAt text plain 60 end → is_code (innermost around) ≡ true
     → IsPlainTurn text plain (after_token plain Punctuation end Free asks.Nothing false) around around
     parentheses parentheses
@@ -352,7 +373,7 @@ less-turn text plain end around parentheses at is =
     (rw (less-code (innermost around) plain.before is, angle-code around is) refl)
     (rw (less-code (innermost around) plain.before is) refl) refl refl refl
 
-pub greater-turn : (text : List ℕ) (plain : Plain) (end : ℕ) (around : List Opening) (parentheses : List Duty)
+greater-turn : (text : List ℕ) (plain : Plain) (end : ℕ) (around : List Opening) (parentheses : List Duty)
     → IsByteAt text plain 62 end → is_code (innermost around) ≡ true
     → IsPlainTurn text plain (after_token plain Punctuation end Free asks.Nothing false) around around
     parentheses parentheses
@@ -362,6 +383,16 @@ greater-turn text plain end around parentheses at is =
     (λ outside. sym outside)
     (greater-code (slice_index text (plain.at - 1)) plain.before around is)
     (sym (before-greater-code (innermost around) is)) refl refl refl
+
+-- A turn over a `<` or a `>` in code.
+pub angle-turn : (text : List ℕ) (plain : Plain) (byte end : ℕ) (around : List Opening) (parentheses : List Duty)
+    → IsByteAt text plain byte end → (byte ≡ 60) ⊎ (byte ≡ 62) → is_code (innermost around) ≡ true
+    → IsPlainTurn text plain (after_token plain Punctuation end Free asks.Nothing false) around around
+    parentheses parentheses
+angle-turn text plain byte end around parentheses at (inl less) code =
+    less-turn text plain end around parentheses (subst (λ (b : ℕ). IsByteAt text plain b end) less at) code
+angle-turn text plain byte end around parentheses at (inr greater) code =
+    greater-turn text plain end around parentheses (subst (λ (b : ℕ). IsByteAt text plain b end) greater at) code
 
 quote-code : (inside : Opening) (before : Before) → is_code inside ≡ true
     → kind_of_quote inside before ≡ kinds.String
@@ -402,6 +433,10 @@ kind-of_string text plain around quote is less is_a_quote code outside =
       is_a_quote,
       quote-code (innermost around) plain.before code,
     ) refl
+
+pub quote-is : (byte : ℕ) → (byte ≡ 34) ⊎ (byte ≡ 39) → is_quote byte ≡ true
+quote-is byte (inl is) = rw is refl
+quote-is byte (inr is) = rw is refl
 
 -- A turn over a string in code.
 pub string-turn : (text : List ℕ) (plain : Plain) (quote end : ℕ) (around : List Opening)

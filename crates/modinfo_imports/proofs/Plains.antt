@@ -1,5 +1,5 @@
 -- Turns over plain pieces.
-use Rattle.std.proofs.Common.{◌≡◌, ℕ, ◌-◌, ◌==◌, ◌<◌, ◌≤◌, Bool, true, false, ◌||◌, List, [], ◌∷◌}
+use Rattle.std.proofs.Common.{◌≡◌, ℕ, ◌+◌, ◌-◌, ◌==◌, ◌<◌, ◌≤◌, Bool, true, false, ◌||◌, List, [], ◌∷◌}
 use Rattle.std.proofs.Common.{Option, Some, None, codes, length, slice_index, slice_range, refl, sym, ap, ◌∙◌}
 use Rattle.std.proofs.Common.{arith, if◌then◌else◌, true≢false}
 use Rattle.std.proofs.lemmas.List.{append-nil}
@@ -19,7 +19,8 @@ use Rattle.modinfo_imports.specs.declared.plain.Asked.{Asked}
 use Rattle.modinfo_imports.specs.declared.plain.Asked.TheVariants as asks
 use Rattle.modinfo_imports.specs.declared.plain.Plain.{Plain}
 use Rattle.modinfo_imports.specs.internal.Plains.{IsPlainTurn, after_token, duty_of, place_at, plain_context}
-use Rattle.modinfo_imports.specs.internal.Plains.{so_far_at, token_at, watch_at}
+use Rattle.modinfo_imports.specs.internal.Plains.{Turns, so_far_at, token_at, watch_at}
+use Rattle.modinfo_imports.specs.internal.Plains.Turns.{more, none}
 use Rattle.modinfo_pieces.specs.Ends.{HasEnd}
 use Rattle.modinfo_pieces.specs.Filed.{is_token}
 use Rattle.modinfo_pieces.specs.Filing.{IsQuiet, SoFar, so_far_after, with_last, with_token}
@@ -29,7 +30,9 @@ use Rattle.modinfo_pieces.specs.Openings.{innermost, is_element}
 use Rattle.modinfo_pieces.specs.Places.{IsNext, around_after, before_after, choices_after, chosen, context_of}
 use Rattle.modinfo_pieces.specs.Places.{line_end_after}
 use Rattle.modinfo_pieces.specs.Spaces.{has_line_end, space_step}
+use Rattle.modinfo_pieces.proofs.Reached.{ends_on}
 use Rattle.modinfo_pieces.specs.Steps.{Ends}
+use Rattle.modinfo_pieces.specs.Steps.Reaches.{here, step}
 use Rattle.modinfo_pieces.specs.WordClasses.{class_after}
 use Rattle.modinfo_pieces.specs.Words.{is_word_byte, word_step}
 use Rattle.modinfo_pieces.specs.declared.choice.Choice.{Choice}
@@ -259,6 +262,13 @@ pub new_asks : (is_name : Bool) (keyword : Keyword) (form : Option Form) (item b
 unfolding duty_after_word
 new_asks is_name keyword form item braces method before no_name is = rw (no_name, is) refl
 
+-- The bytes of a word after the first end with the word.
+pub word-Ends : (text : List ℕ) (at end : ℕ) → is_word_byte (slice_index text at) ≡ true
+    → Ends (word_step text) (at + 1) end → Ends (word_step text) at end
+unfolding word_step
+word-Ends text at end is_word ends =
+    ends_on (word_step text) at (at + 1) end (step here (rw is_word refl)) ends
+
 -- A turn over a plain word.
 pub word-turn : (text : List ℕ) (plain : Plain) (end : ℕ) (before : Before) (asked : Asked)
     (around : List Opening) (parentheses : List Duty) → is_word_byte (slice_index text plain.at) ≡ true
@@ -320,3 +330,26 @@ pub typeof_asks : (is_name : Bool) (keyword : Keyword) (form : Option Form) (ite
     duties.Nothing ≡ duties.TypeOf
 unfolding duty_after_word
 typeof_asks is_name keyword form item braces method before no_name is = rw (no_name, is) refl
+
+-- White space leads on, whether a comment waits or not.
+pub skipped-turns : (text : List ℕ) (plain : Plain) (around : List Opening) (choices : List Choice) (end : ℕ)
+    (before : Before) (after is_typed : Bool) (watch : Watch) (so_far : SoFar)
+    → chosen plain.at choices ≡ None → kinds.Space ≡ kind_at text plain.at (plain_context plain around)
+    → Ends (space_step text) plain.at end → plain.at < end → end ≤ length text
+    → before ≡ before_after_gap plain.before
+    → after ≡ (plain.is_after_line_end || has_line_end text plain.at (end - plain.at))
+    → Turns text is_typed (place_at plain around choices) watch so_far (record {
+      at = end;
+      around = around;
+      before = before;
+      is_after_line_end = after;
+      choices = choices;
+    }) watch so_far
+skipped-turns text plain around choices end before after is_typed watch so_far unchosen is_kind ends on within
+    before_is after_is = more none (record {
+      piece = record { kind = kinds.Space; start = plain.at; end = end };
+      is_next = next-plain text plain around around choices kinds.Space end before after unchosen is_kind
+          (record { inside = end; ends = ends; is = refl }) on within refl before_is after_is;
+      is_seen = refl;
+      is_filed = refl;
+    })

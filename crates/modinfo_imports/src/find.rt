@@ -1,7 +1,7 @@
 //! What is found among the pieces of a text.
 
 ghost use Rattle.std.specs.Prelude.{◌≡◌, [], IfOk, IsTrue};
-ghost use Rattle.modinfo_pieces.specs.Places.{chosen, context_of, start};
+ghost use Rattle.modinfo_pieces.specs.Places.{context_of, start};
 ghost use Rattle.modinfo_pieces.specs.Spots.{place_of};
 ghost use Rattle.modinfo_pieces.specs.Tiles.{IsEnd};
 ghost use Rattle.modinfo_imports.specs.Found.{HasFound, begins_at};
@@ -9,10 +9,10 @@ ghost use Rattle.modinfo_imports.specs.Sights.{first_after};
 
 use crate::claims::Mark;
 use crate::duty::Parentheses;
-use crate::plain::go_over_plain;
+use crate::plain::{chosen, go_over_plain};
 use crate::watch::{is_gap, is_watch_end, watch_piece, watch_start};
 use modinfo_pieces::bytes::has_bytes;
-use modinfo_pieces::choice::{Choice, ChoiceKind};
+use modinfo_pieces::choice::Choice;
 use modinfo_pieces::filed::FiledComment;
 use modinfo_pieces::filing::Filing;
 use modinfo_pieces::piece::Piece;
@@ -97,17 +97,6 @@ fn context_of(spot: Spot<'_>, around: &Openings) -> Context
         before: spot.before,
         is_after_line_end: spot.is_after_line_end,
         chosen: chosen(spot.at, spot.choices),
-    }
-}
-
-/// Returns the choice for an offset, if the first of some choices is for the offset.
-#[inline(always)]
-fn chosen(at: usize, choices: &[Choice]) -> Option<ChoiceKind>
-    ensures { result ≡ chosen at choices.now }
-{
-    match choices {
-        [first, ..] if first.offset == at => Some(first.kind),
-        _ => None,
     }
 }
 

@@ -3,6 +3,7 @@
 ghost use Rattle.std.specs.Prelude.{◌≡◌, ◌-◌, ◌≤◌, ◌<◌, ◌||◌, Bool, IfOk, IfSome, List, None, ℕ, false, length};
 ghost use Rattle.modinfo_imports.specs.Claims.{form_of, is_claimed};
 ghost use Rattle.modinfo_imports.specs.Sights.{watch_of};
+ghost use Rattle.modinfo_imports.specs.Watches.{Watch};
 ghost use Rattle.modinfo_imports.specs.declared.duty.Duty.{Duty};
 ghost use Rattle.modinfo_imports.specs.internal.Plains.{
   IsSame,
@@ -14,21 +15,26 @@ ghost use Rattle.modinfo_imports.specs.internal.Plains.{
   watch_at,
 };
 ghost use Rattle.modinfo_pieces.specs.Filed.{is_token};
+ghost use Rattle.modinfo_pieces.specs.Filing.{SoFar};
 ghost use Rattle.modinfo_pieces.specs.Openings.{innermost, is_element};
+ghost use Rattle.modinfo_pieces.specs.Places.{chosen};
 ghost use Rattle.modinfo_pieces.specs.Spots.{place_of};
 ghost use Rattle.modinfo_pieces.specs.declared.piece.PieceKind.TheVariants.{Space};
 ghost use Rattle.modinfo_pieces.specs.declared.place.Opening.{Opening};
 
 use crate::claims::Mark;
 use crate::duty::{Duty, Parentheses};
-use crate::plain_piece::{is_element, next_plain};
+use crate::plain_piece::{is_element, line_end_after, next_plain};
 use crate::watch::{Seen, last_of};
+use modinfo_pieces::befores::before_after_gap;
 use modinfo_pieces::bytes::byte_at;
-use modinfo_pieces::choice::Choice;
+use modinfo_pieces::choice::{Choice, ChoiceKind};
+use modinfo_pieces::classes::is_ascii_space;
 use modinfo_pieces::filing::Filing;
 use modinfo_pieces::piece::{Piece, PieceKind};
 use modinfo_pieces::place::{Before, Openings};
 use modinfo_pieces::places::Spot;
+use modinfo_pieces::scan::spaces::space_end;
 use std::alloc::AllocError;
 
 /// Where pieces lead to, but for the openings and the parentheses.
@@ -67,9 +73,9 @@ pub struct Plain {
     pub end: usize,
 }
 
-/// Goes over plain pieces, as far as they go. `has_token` says whether a token was before; otherwise there are
-/// none to go over.
-#[inline(never)]
+/// Goes over plain pieces, as far as they go, or over white space if a comment waits for a token. `has_token` says
+/// whether a token was before; otherwise there are none to go over.
+#[inline(always)]
 pub fn go_over_plain<'a>(
     text: &[u8],
     has_token: bool,
@@ -87,7 +93,66 @@ pub fn go_over_plain<'a>(
         (place_of spot.entry around.old) (watch_of seen.entry parentheses.old) filing.old
         (place_of reached.spot around.new) (watch_of reached.seen parentheses.new) filing.new) }
 {
-    if !has_token || !filing.is_quiet() || spot.at < 4 {
+    if !has_token {
+        return Ok(Reached { spot, seen });
+    }
+    if filing.is_quiet() {
+        go_over_quiet(text, spot, seen, around, parentheses, filing)
+    } else {
+        Ok(Reached {
+            spot: skip_space(text, spot, around),
+            seen,
+        })
+    }
+}
+
+/// Returns the spot after the white space at a spot, if there is any outside of an element's text.
+#[inline(always)]
+fn skip_space<'a>(text: &[u8], spot: Spot<'a>, around: &Openings) -> Spot<'a>
+    ensures on { spot.entry.at ≤ result.at }
+    ensures turns { (is_typed : Bool) (watch : Watch) (so_far : SoFar) → Turns text.now is_typed
+        (place_of spot.entry around.now) watch so_far (place_of result around.now) watch so_far }
+{
+    if spot.at >= text.len() {
+        return spot;
+    }
+    if is_element(around.innermost()) {
+        return spot;
+    }
+    if !is_ascii_space(text[spot.at]) {
+        return spot;
+    }
+    let None = chosen(spot.at, spot.choices) else {
+        return spot;
+    };
+    let end = space_end(text, spot.at);
+    if end <= spot.at || end > text.len() {
+        return spot;
+    }
+    Spot {
+        at: end,
+        before: before_after_gap(spot.before),
+        is_after_line_end: line_end_after(text, spot.at, end, spot.is_after_line_end),
+        choices: spot.choices,
+    }
+}
+
+/// Goes over plain pieces, as far as they go, if no comment waits for a token.
+#[inline(never)]
+fn go_over_quiet<'a>(
+    text: &[u8],
+    spot: Spot<'a>,
+    seen: Seen<'a>,
+    around: &mut Openings,
+    parentheses: &mut Parentheses,
+    filing: &mut Filing,
+) -> Result<Reached<'a>, AllocError>
+    ensures on { IfOk result (λ reached. spot.entry.at ≤ reached.spot.at) }
+    ensures turns { IfOk result (λ reached. (is_typed : Bool) → Turns text.now is_typed
+        (place_of spot.entry around.old) (watch_of seen.entry parentheses.old) filing.old
+        (place_of reached.spot around.new) (watch_of reached.seen parentheses.new) filing.new) }
+{
+    if !filing.is_quiet() || spot.at < 4 {
         return Ok(Reached { spot, seen });
     }
     let Some(asked) = asked_by(seen.duty) else {
@@ -176,6 +241,17 @@ fn leave<'a>(
             claims: seen.claims,
             marks: seen.marks,
         },
+    }
+}
+
+/// Returns the choice for an offset, if the first of some choices is for the offset.
+#[inline(always)]
+pub fn chosen(at: usize, choices: &[Choice]) -> Option<ChoiceKind>
+    ensures { result ≡ chosen at choices.now }
+{
+    match choices {
+        [first, ..] if first.offset == at => Some(first.kind),
+        _ => None,
     }
 }
 

@@ -4,11 +4,13 @@ ghost use Rattle.std.specs.Prelude.{
   ◌≡◌,
   ◌-◌,
   ◌<◌,
-  ◌==◌,
   ◌||◌,
+  ◌⊎◌,
+  ◌+◌,
   Bool,
   IfOk,
   IfSome,
+  IsTrue,
   List,
   MatchOption,
   None,
@@ -16,6 +18,8 @@ ghost use Rattle.std.specs.Prelude.{
   ℕ,
   false,
   if◌then◌else◌,
+  length,
+  nat_le,
   slice_index,
   true,
 };
@@ -28,15 +32,18 @@ ghost use Rattle.modinfo_imports.specs.declared.keyword.Keyword.TheVariants.{Oth
 ghost use Rattle.modinfo_imports.specs.internal.Plains.{
   IsByteAt,
   IsPlainTurn,
+  after_gap,
   after_token,
   duty_of,
   is_code,
+  is_ordinary,
   is_plain_byte,
   plain_context,
 };
 ghost use Rattle.modinfo_pieces.specs.Befores.{before_after_punctuation};
 ghost use Rattle.modinfo_pieces.specs.Openings.{innermost, is_brace, is_element, is_parenthesis};
-ghost use Rattle.modinfo_pieces.specs.Spaces.{has_line_end, is_ascii_space};
+ghost use Rattle.modinfo_pieces.specs.Spaces.{has_line_end, is_ascii_space, space_step};
+ghost use Rattle.modinfo_pieces.specs.Steps.{Ends};
 ghost use Rattle.modinfo_pieces.specs.Words.{is_word_byte};
 ghost use Rattle.modinfo_pieces.specs.declared.place.Opening.{Opening};
 
@@ -81,17 +88,41 @@ pub fn next_plain(
     if is_ascii_space(byte) {
         return Ok(after_space(text, plain));
     }
-    let end = plain.at + 1;
+    after_punctuation(text, plain, byte, plain.at + 1, around, parentheses)
+}
+
+/// Returns the place after the string or the byte of punctuation at a place, if that is plain.
+#[inline(always)]
+fn after_punctuation(
+    text: &[u8],
+    plain: Plain,
+    byte: u8,
+    end: usize,
+    around: &mut Openings,
+    parentheses: &mut Parentheses,
+) -> Result<Option<Plain>, AllocError>
+    ensures { IsByteAt text.now plain byte end → IfOk result (λ next.
+        MatchOption next ((around.new ≡ around.old) × (parentheses.new ≡ parentheses.old)) (λ next.
+        IsPlainTurn text.now plain next around.old around.new parentheses.old parentheses.new)) }
+{
     match byte {
+        b',' | b';' | b'?' | b'&' | b'|' | b'^' | b'~' | b'[' => {
+            Ok(Some(after_byte(plain, end, Before::Free)))
+        }
+        b':' | b'%' => Ok(Some(after_byte(plain, end, Before::Free))),
+        b']' => Ok(Some(after_byte(plain, end, Before::Value))),
+        b'=' => Ok(Some(after_byte(plain, end, Before::Equal))),
+        b'.' => Ok(Some(after_byte(plain, end, before_after_dot(plain.before)))),
+        b'+' => Ok(Some(after_byte(plain, end, before_after_plus(plain.before, plain.is_after_line_end)))),
+        b'-' => Ok(Some(after_byte(plain, end, before_after_minus(plain.before, plain.is_after_line_end)))),
+        b'!' => Ok(Some(after_byte(plain, end, before_after_bang(plain.before, plain.is_after_line_end)))),
         b'(' => Ok(Some(open_parenthesis(plain, end, around, parentheses)?)),
         b')' => Ok(close_parenthesis(plain, end, around, parentheses)),
         b'{' => Ok(Some(open_brace(plain, end, around)?)),
         b'}' => Ok(close_brace(plain, end, around)),
-        b'"' => Ok(after_string(text, plain, b'"', around)),
-        b'\'' => Ok(after_string(text, plain, b'\'', around)),
-        b'<' => Ok(after_less(plain, end, around)),
-        b'>' => Ok(after_greater(plain, end, around)),
-        _ => Ok(after_byte(plain, byte, end)),
+        b'"' | b'\'' => Ok(after_string(text, plain, byte, around)),
+        b'<' | b'>' => Ok(after_angle(plain, byte, end, around)),
+        _ => Ok(None),
     }
 }
 
@@ -126,14 +157,56 @@ fn after_word(text: &[u8], plain: Plain, around: &Openings) -> Option<Plain>
         → IfSome result (λ next.
         IsPlainTurn text.now plain next around.now around.now parentheses parentheses) }
 {
-    let end = word_end(text, plain.at);
+    if plain.at >= text.len() {
+        return None;
+    }
+    let end = word_end(text, plain.at + 1);
     if end <= plain.at || end > text.len() {
         return None;
     }
     let word = &text[plain.at..end];
+    if is_ordinary(word) {
+        return Some(after_token(
+            plain,
+            PieceKind::Word,
+            end,
+            Before::Value,
+            Asked::Nothing,
+            false,
+        ));
+    }
     let asked = asked_after(text, plain, word, around)?;
     let before = class_after(plain.before, word);
     Some(after_token(plain, PieceKind::Word, end, before, asked, false))
+}
+
+/// Returns whether the length and the first byte of a word show that the word ends an expression and asks nothing.
+#[inline(always)]
+#[tactic(auto, unfolding(crate::specs::internal::Plains::is_ordinary))]
+fn is_ordinary(word: &[u8]) -> bool
+    ensures { result ≡ is_ordinary word.now }
+{
+    let first = byte_at(word, 0);
+    if first == b'\\' {
+        return false;
+    }
+    if word.len() == 1 {
+        return true;
+    }
+    if first == b'r' {
+        return false;
+    }
+    match word.len() {
+        2 => !matches!(first, b'd' | b'i' | b'o'),
+        3 => !matches!(first, b'f' | b'n'),
+        4 => !matches!(first, b'c' | b'e' | b'v' | b'w'),
+        5 => !matches!(first, b'a' | b't' | b'w' | b'y'),
+        6 => !matches!(first, b'd' | b'e' | b'i' | b'm' | b't'),
+        7 => !matches!(first, b'd' | b'e'),
+        8 => first != b'f',
+        10 => first != b'i',
+        _ => true,
+    }
 }
 
 /// Returns what a word asks of the next token, `None` if a dependency may begin with the word.
@@ -177,34 +250,68 @@ fn after_space(text: &[u8], plain: Plain) -> Option<Plain>
         → (around : List Opening) (parentheses : List Duty)
         → IfSome result (λ next. IsPlainTurn text.now plain next around around parentheses parentheses) }
 {
+    if is_one_space(text, plain.at) {
+        return Some(after_gap(plain, plain.at + 1, plain.is_after_line_end));
+    }
     let end = space_end(text, plain.at);
     if end <= plain.at || end > text.len() {
         return None;
     }
-    Some(Plain {
+    let is_after_line_end = line_end_after(text, plain.at, end, plain.is_after_line_end);
+    Some(after_gap(plain, end, is_after_line_end))
+}
+
+/// Returns the place after white space.
+#[inline(always)]
+fn after_gap(plain: Plain, end: usize, is_after_line_end: bool) -> Plain
+    ensures { result ≡ after_gap plain end is_after_line_end }
+{
+    Plain {
         at: end,
         before: before_after_gap(plain.before),
-        is_after_line_end: line_end_after(text, plain, end),
+        is_after_line_end,
         in_element: plain.in_element,
         asked: plain.asked,
         kind: plain.kind,
         start: plain.start,
         end: plain.end,
-    })
+    }
+}
+
+/// Returns whether white space at an offset is one space, by the byte after the space.
+#[inline(always)]
+fn is_one_space(text: &[u8], at: usize) -> bool
+    ensures within { IsTrue result → at < length text.now }
+    ensures ends { IsTrue result → Ends (space_step text.now) at (at + 1) }
+    ensures line { IsTrue result → has_line_end text.now at 1 ≡ false }
+{
+    if at >= text.len() {
+        return false;
+    }
+    text[at] == b' ' && is_solid(byte_at(text, at + 1))
+}
+
+/// Returns whether an ASCII byte is no white space.
+#[inline(always)]
+fn is_solid(byte: u8) -> bool
+    ensures space { IsTrue result → is_ascii_space byte ≡ false }
+    ensures narrow { IsTrue result → nat_le 128 byte ≡ false }
+{
+    matches!(byte, 33..=127)
 }
 
 /// Returns whether a line has ended since the last token, after white space.
 #[inline(always)]
-fn line_end_after(text: &[u8], plain: Plain, end: usize) -> bool
-    ensures { result ≡ (plain.is_after_line_end || has_line_end text.now plain.at (end - plain.at)) }
+pub fn line_end_after(text: &[u8], from: usize, end: usize, is_after_line_end: bool) -> bool
+    ensures { result ≡ (is_after_line_end || has_line_end text.now from (end - from)) }
 {
-    plain.is_after_line_end || has_line_end(text, plain.at, end)
+    is_after_line_end || has_line_end(text, from, end)
 }
 
 /// Returns the place after the string at a place, outside of tags.
 #[inline(always)]
 fn after_string(text: &[u8], plain: Plain, quote: u8, around: &Openings) -> Option<Plain>
-    ensures { slice_index text.now plain.at ≡ quote → ((quote == 34) || (quote == 39)) ≡ true
+    ensures { slice_index text.now plain.at ≡ quote → (quote ≡ 34) ⊎ (quote ≡ 39)
         → (parentheses : List Duty)
         → IfSome result (λ next.
         IsPlainTurn text.now plain next around.now around.now parentheses parentheses) }
@@ -226,71 +333,29 @@ fn after_string(text: &[u8], plain: Plain, quote: u8, around: &Openings) -> Opti
     ))
 }
 
-/// Returns the place after a byte of punctuation that changes no opening.
+/// Returns the place after a byte of punctuation that changes no opening, and is this for what follows.
 #[inline(always)]
-fn after_byte(plain: Plain, byte: u8, end: usize) -> Option<Plain>
-    ensures { (text : List ℕ) (around : List Opening) (parentheses : List Duty) → IsByteAt text plain byte end
-        → IfSome result (λ next. IsPlainTurn text plain next around around parentheses parentheses) }
+fn after_byte(plain: Plain, end: usize, before: Before) -> Plain
+    ensures { (text : List ℕ) (byte : ℕ) (around : List Opening) (parentheses : List Duty)
+        → IsByteAt text plain byte end → byte < 256 → is_plain_byte byte ≡ true
+        → before ≡ before_after_punctuation byte (plain_context plain around)
+        → IsPlainTurn text plain result around around parentheses parentheses }
 {
-    let before = before_after_byte(plain, byte)?;
-    Some(after_token(
+    after_token(
         plain,
         PieceKind::Punctuation,
         end,
         before,
         Asked::Nothing,
         false,
-    ))
+    )
 }
 
-/// Returns what a byte of punctuation that changes no opening is for what follows, `None` for other bytes.
+/// Returns the place after a `<` or a `>` outside of tags.
 #[inline(always)]
-#[tactic(auto, unfolding(modinfo_pieces::specs::Befores::before_after_punctuation))]
-fn before_after_byte(plain: Plain, byte: u8) -> Option<Before>
-    ensures byte { IfSome result (λ before. is_plain_byte byte ≡ true) }
-    ensures before { (inside : Opening) → IfSome result (λ before. before
-        ≡ before_after_punctuation byte (record {
-          inside = inside;
-          before = plain.before;
-          is_after_line_end = plain.is_after_line_end;
-          chosen = None;
-        })) }
-{
-    match byte {
-        b',' | b';' | b':' | b'?' | b'&' | b'|' | b'%' | b'^' | b'~' | b'[' => Some(Before::Free),
-        b']' => Some(Before::Value),
-        b'=' => Some(Before::Equal),
-        b'.' => Some(before_after_dot(plain.before)),
-        b'+' => Some(before_after_plus(plain.before, plain.is_after_line_end)),
-        b'-' => Some(before_after_minus(plain.before, plain.is_after_line_end)),
-        b'!' => Some(before_after_bang(plain.before, plain.is_after_line_end)),
-        _ => None,
-    }
-}
-
-/// Returns the place after a `<` outside of tags.
-#[inline(always)]
-fn after_less(plain: Plain, end: usize, around: &Openings) -> Option<Plain>
-    ensures { (text : List ℕ) (parentheses : List Duty) → IsByteAt text plain 60 end
-        → IfSome result (λ next. IsPlainTurn text plain next around.now around.now parentheses parentheses) }
-{
-    if !is_code(around.innermost()) {
-        return None;
-    }
-    Some(after_token(
-        plain,
-        PieceKind::Punctuation,
-        end,
-        Before::Free,
-        Asked::Nothing,
-        false,
-    ))
-}
-
-/// Returns the place after a `>` outside of tags.
-#[inline(always)]
-fn after_greater(plain: Plain, end: usize, around: &Openings) -> Option<Plain>
-    ensures { (text : List ℕ) (parentheses : List Duty) → IsByteAt text plain 62 end
+fn after_angle(plain: Plain, byte: u8, end: usize, around: &Openings) -> Option<Plain>
+    ensures { (text : List ℕ) (parentheses : List Duty) → IsByteAt text plain byte end
+        → (byte ≡ 60) ⊎ (byte ≡ 62)
         → IfSome result (λ next. IsPlainTurn text plain next around.now around.now parentheses parentheses) }
 {
     if !is_code(around.innermost()) {

@@ -1,7 +1,7 @@
 -- Plain pieces: white space, and tokens that any token may follow. A piece is plain by its first byte, where
 -- nothing was chosen and no claim and no mark begins.
-use Rattle.std.specs.Prelude.{◌≡◌, ℕ, ◌+◌, ◌-◌, ◌<◌, ◌≤◌, Bool, true, false, List, Option, Some, None, codes}
-use Rattle.std.specs.Prelude.{if◌then◌else◌, length, slice_index}
+use Rattle.std.specs.Prelude.{◌≡◌, ℕ, ◌+◌, ◌-◌, ◌==◌, ◌<◌, ◌≤◌, Bool, true, false, not, List, Option, Some, None}
+use Rattle.std.specs.Prelude.{codes, if◌then◌else◌, length, slice_index}
 use Rattle.modinfo_imports.specs.Claims.{form_of, is_claimed}
 use Rattle.modinfo_imports.specs.Duties.{is_one_of}
 use Rattle.modinfo_imports.specs.Watches.{Watch, last_of, watch_after}
@@ -11,6 +11,7 @@ use Rattle.modinfo_imports.specs.declared.duty.Duty.TheVariants as duties
 use Rattle.modinfo_imports.specs.declared.plain.Asked.{Asked}
 use Rattle.modinfo_imports.specs.declared.plain.Asked.TheVariants as asks
 use Rattle.modinfo_imports.specs.declared.plain.Plain.{Plain}
+use Rattle.modinfo_pieces.specs.Befores.{before_after_gap}
 use Rattle.modinfo_pieces.specs.Filed.{is_token}
 use Rattle.modinfo_pieces.specs.Filing.{IsQuiet, SoFar, so_far_after, with_last}
 use Rattle.modinfo_pieces.specs.Openings.{innermost, is_element}
@@ -137,6 +138,35 @@ after_token plain kind end before asked in_element = record {
   start = plain.at;
   end = end;
 }
+
+-- The place after white space.
+abbrev pub after_gap : Plain → ℕ → Bool → Plain
+after_gap plain end is_after_line_end = record {
+  at = end;
+  before = before_after_gap plain.before;
+  is_after_line_end = is_after_line_end;
+  in_element = plain.in_element;
+  asked = plain.asked;
+  kind = plain.kind;
+  start = plain.start;
+  end = plain.end;
+}
+
+-- By its length and its first byte a word is no keyword that matters here, and no word before an expression.
+unfoldable pub is_ordinary : List ℕ → Bool
+is_ordinary word =
+    let first = slice_index word 0 in
+    let size = length word in
+    (if first == 92 then false
+    else (if size == 1 then true
+    else (if first == 114 then false
+    else (if size == 2 then not (is_one_of (codes "dio") first)
+    else (if size == 3 then not (is_one_of (codes "fn") first)
+    else (if size == 4 then not (is_one_of (codes "cevw") first)
+    else (if size == 5 then not (is_one_of (codes "atwy") first)
+    else (if size == 6 then not (is_one_of (codes "deimt") first)
+    else (if size == 7 then not (is_one_of (codes "de") first)
+    else (if size == 8 then not (first == 102) else (if size == 10 then not (first == 105) else true)))))))))))
 
 -- What is said of the openings is right, and no `#!` is at the place.
 pub record IsPlain (plain : Plain) (around : List Opening) : Type 0 where

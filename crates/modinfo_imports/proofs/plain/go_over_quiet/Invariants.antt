@@ -1,7 +1,7 @@
 -- Plain pieces lead from the spot to the place.
 use Rattle.std.proofs.Common.{◌-◌}
 use Rattle.modinfo_imports.proofs.Gone.{IsGone}
-use Rattle.modinfo_imports.proofs.plain.go_over_plain.Given as goal
+use Rattle.modinfo_imports.proofs.plain.go_over_quiet.Given as goal
 
 abbrev pub invariant-plain : goal.invariant-plain
 invariant-plain l =
