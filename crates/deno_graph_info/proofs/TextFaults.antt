@@ -121,8 +121,8 @@ named_float : (key : List ℕ) (ms : Members) → option_has_float (get_member k
     → members_have_float ms ≡ true
 named_float key no_members h = h
 named_float key (member l e ms) h =
-    named_float_at (slice_cmp nat_cmp key l) (get_member key ms) e (members_have_float ms) (named_float key ms)
-    h
+    named_float_at (slice_cmp nat_cmp key l) (get_member key ms) e (members_have_float ms)
+    (named_float key ms) h
 
 items_float : Option Items → Bool
 items_float None = false

@@ -25,5 +25,6 @@ returns-clause-ok c =
     end_object c.in_ok-end_object.ensures in
     chosen_object (record { above = None; below = None; except = Some comments }) ms
     (without comments (members_data c.args.members)) (text_in c.args.out.now)
-    (text_in c.begin_object.new.self) (text_in c.write_chosen.new.out) (text_in c.end_object.new.self) c.in_ok-write_chosen.ensures.ok
+    (text_in c.begin_object.new.self) (text_in c.write_chosen.new.out) (text_in c.end_object.new.self)
+    c.in_ok-write_chosen.ensures.ok
     (chosen_without comments ms ∙ ap (without comments) c.in_ok-ordered.ensures) opens closes
