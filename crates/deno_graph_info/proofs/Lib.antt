@@ -10,6 +10,7 @@ pub mod Outcomes
 pub mod Reaching
 pub mod ResolutionModes
 pub mod SomeConverted
+pub mod TextFaults
 pub mod Written
 pub mod WrittenInfo
 pub mod WrittenText

@@ -2,13 +2,14 @@
 use Rattle.std.proofs.Common.{◌≡◌, ◌++◌, ◌&&◌, ◌<◌, ◌-◌, ◌+◌, ℕ, suc, Bool, true, false, List, [], ◌∷◌, Some}
 use Rattle.std.proofs.Common.{None, IfSome, length, take, cond, eqb, get_or, refl, sym, ap, subst, ◌∙◌, arith}
 use Rattle.std.proofs.Common.{append_assoc, append-nil, take_all, length-append, eqb-true, ltb-true}
-use Rattle.std.proofs.Common.{true≢false, eq-eqb, lt-ltb, Result, Ok, Err, MatchResult, ◌⊎◌, inl, inr}
+use Rattle.std.proofs.Common.{true≢false, eq-eqb, lt-ltb, Result, Ok, Err, IfOk, MatchResult, ◌⊎◌, inl, inr}
 use Rattle.std.specs.Io.{IsEmptyOrEndsWith, StopsAt}
 use Rattle.std.specs.Io.BufRead.{DropsThrough, drop_through, ends_with_byte, strip_last, take_through}
 use Rattle.std.specs.Io.Iter.{u64_saturate}
 use Rattle.std.specs.Io.KnownBytes.{Appends, Consumes, IsAtEnd}
 use Rattle.std.specs.Prelude.{Option, All, ◌≢◌}
 use Rattle.std.specs.Result.{IsErrAnd}
+use Rattle.std.specs.declared.alloc.AllocError.{AllocError}
 use Rattle.std.proofs.BufReadLemmas.{drop_through-append, take_through_nonempty, through_part}
 use Rattle.std.proofs.KnownBytes.{Appends-nil}
 use Rattle.std.proofs.Math.Bool.{and-true, and_assoc}
@@ -293,19 +294,17 @@ pub exits : (r : Result Bool Fault) (P : Bool → Type 0) (Q : Fault → Type 0)
 exits r P Q fault err rest = let p = err_from_is_err_and r err in rw (p.1, p.2) rest
 
 -- A line for whose answer or report an allocation failed.
-pub refused_after : (r : Result Bool Fault) (command : Command) (line old kept new : List ℕ) → kept ≡ old
-    → MatchResult r (λ passes. (passes ≡ passes_without command) × (new ≡ kept ++ fault_line OutOfMemory))
-    (λ fault. fault ≡ OutOfMemory)
-    → MatchResult r (λ passes. (printed : List ℕ) × PrintsLine command line passes printed
-    × (new ≡ old ++ printed))
-    (λ fault. fault ≡ OutOfMemory)
+pub refused_after : (r : Result Bool AllocError) (command : Command) (line old kept new : List ℕ)
+    → kept ≡ old
+    → IfOk r (λ passes. (passes ≡ passes_without command) × (new ≡ kept ++ fault_line OutOfMemory))
+    → IfOk r (λ passes. (printed : List ℕ) × PrintsLine command line passes printed × (new ≡ old ++ printed))
 refused_after (Ok passes) command line old kept new same h = (
   fault_line OutOfMemory,
   subst (λ b. PrintsLine command line b (fault_line OutOfMemory)) (sym h.0)
       (PrintsLine-out_of_memory command line),
   h.1 ∙ ap (λ l. l ++ fault_line OutOfMemory) same,
 )
-refused_after (Err fault) command line old kept new same h = h
+refused_after (Err refused) command line old kept new same h = tt
 
 pub Takes-same : (end : ℕ) (a b c : Option (List ℕ)) (parts : List (List ℕ)) → a ≡ b → Takes end a c parts
     → Takes end b c parts

@@ -218,9 +218,6 @@ impl Command {
         ensures { IfOk result (λ printed. (passes : Bool)
             × PrintsLines self (lines_of documents.now) passes printed.items) }
     {
-        match print_lines(alloc, self, documents) {
-            Ok(printed) => Ok(printed),
-            Err(_) => Err(AllocError),
-        }
+        print_lines(alloc, self, documents)
     }
 }

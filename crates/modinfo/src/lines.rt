@@ -183,8 +183,8 @@ fn skip_rest<R: Read>(input: &mut BufReader<R, Global>, first: Vec<u8>) -> Resul
     }
 }
 
-/// The printed lines for the lines of a text, in the same order. The only fault is `OutOfMemory`.
-pub fn print_lines(alloc: Global, command: Command, documents: &[u8]) -> Result<Vec<u8>, Fault>
+/// The printed lines for the lines of a text, in the same order. The only error is a failed allocation.
+pub fn print_lines(alloc: Global, command: Command, documents: &[u8]) -> Result<Vec<u8>, AllocError>
     ensures { IfOk result (λ printed. (passes : Bool)
         × PrintsLines command (lines_of documents.now) passes printed.items) }
 {
@@ -215,11 +215,10 @@ fn print_line(
     command: Command,
     line: &[u8],
     waiting: &mut Vec<u8>,
-) -> Result<bool, Fault>
-    ensures { MatchResult result
+) -> Result<bool, AllocError>
+    ensures { IfOk result
         (λ passes. (printed : List ℕ) × PrintsLine command line.now passes printed
-        × (waiting.new.items ≡ waiting.old.items ++ printed))
-        (λ fault. fault ≡ Fault.OutOfMemory) }
+        × (waiting.new.items ≡ waiting.old.items ++ printed)) }
 {
     put_printed(command, command.print(alloc, line), waiting)
 }
@@ -230,11 +229,10 @@ fn print_owned(
     command: Command,
     line: Vec<u8>,
     waiting: &mut Vec<u8>,
-) -> Result<bool, Fault>
-    ensures { MatchResult result
+) -> Result<bool, AllocError>
+    ensures { IfOk result
         (λ passes. (printed : List ℕ) × PrintsLine command line.items passes printed
-        × (waiting.new.items ≡ waiting.old.items ++ printed))
-        (λ fault. fault ≡ Fault.OutOfMemory) }
+        × (waiting.new.items ≡ waiting.old.items ++ printed)) }
 {
     put_printed(command, command.print_bytes(alloc, line), waiting)
 }
@@ -244,11 +242,10 @@ fn put_printed(
     command: Command,
     printed: Result<Printed, Fault>,
     waiting: &mut Vec<u8>,
-) -> Result<bool, Fault>
+) -> Result<bool, AllocError>
     ensures { (line : List ℕ) → MatchResult printed (IsPrinted command line) (IsNoResult command line)
-        → MatchResult result (λ passes. (text : List ℕ) × PrintsLine command line passes text
-        × (waiting.new.items ≡ waiting.old.items ++ text))
-        (λ fault. fault ≡ Fault.OutOfMemory) }
+        → IfOk result (λ passes. (text : List ℕ) × PrintsLine command line passes text
+        × (waiting.new.items ≡ waiting.old.items ++ text)) }
 {
     match printed {
         Ok(printed) => match put_framed(command, printed.line.as_str(), waiting) {
@@ -263,11 +260,10 @@ fn put_printed(
 }
 
 /// Appends the line with the fault `OutOfMemory`. Returns whether the line passes.
-fn put_out_of_memory(command: Command, waiting: &mut Vec<u8>) -> Result<bool, Fault>
-    ensures { MatchResult result
+fn put_out_of_memory(command: Command, waiting: &mut Vec<u8>) -> Result<bool, AllocError>
+    ensures { IfOk result
         (λ passes. (passes ≡ passes_without command)
-        × (waiting.new.items ≡ waiting.old.items ++ fault_line Fault.OutOfMemory))
-        (λ fault. fault ≡ Fault.OutOfMemory) }
+        × (waiting.new.items ≡ waiting.old.items ++ fault_line Fault.OutOfMemory)) }
 {
     put_fault(&Fault::OutOfMemory, waiting)?;
     Ok(passes_without(command))

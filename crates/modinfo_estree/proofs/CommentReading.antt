@@ -31,7 +31,8 @@ boundary_test text at boundary =
       | inr after ↦ ap is_char_start (get_or_past text at 0 after)
     ]
 
-range_test : (text : List ℕ) (range : SourceRange) → IsTextRange text range → is_text_range text range ≡ true
+pub range_test : (text : List ℕ) (range : SourceRange) → IsTextRange text range
+    → is_text_range text range ≡ true
 range_test text range is =
     ap (λ t. (t && is_boundary text range.start) && is_boundary text range.end)
     (le-leb range.start range.end is.ordered)

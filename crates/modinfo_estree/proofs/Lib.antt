@@ -1,4 +1,5 @@
 pub mod ByteMarks
+pub mod CommentErrors
 pub mod CommentReading
 pub mod CommentTexts
 pub mod Estrees

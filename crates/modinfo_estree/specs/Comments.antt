@@ -31,11 +31,14 @@ abbrev pub has_close : List ℕ → Bool
 has_close [] = false
 has_close (byte ∷ bytes) = starts_with nat_eq (byte ∷ bytes) (codes "*/") || has_close bytes
 
+-- The bytes after the `/*` of a block comment end with their first `*/`.
+abbrev pub is_whole_block : List ℕ → Bool
+is_whole_block rest = ends_with nat_eq rest (codes "*/") && not (has_close (take (length rest - 2) rest))
+
 -- The text of a block comment by the bytes after its `/*`: what is before their first `*/`, if this is at
 -- their end. Otherwise the text is empty, and the check of the source reports the comment.
 abbrev pub block_text : List ℕ → List ℕ
-block_text rest = let inside = take (length rest - 2) rest in
-    if ends_with nat_eq rest (codes "*/") && not (has_close inside) then inside else []
+block_text rest = if is_whole_block rest then take (length rest - 2) rest else []
 
 -- The bytes begin as a `#!` line or a comment as in HTML does.
 abbrev pub begins_other : List ℕ → Bool

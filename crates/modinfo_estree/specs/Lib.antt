@@ -1,4 +1,5 @@
 pub mod Child
+pub mod CommentError
 pub mod Comments
 pub mod Document
 pub mod Kind

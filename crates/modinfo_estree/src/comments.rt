@@ -1,18 +1,21 @@
 //! Filing the comments of a text, by the tokens around them.
 
 ghost use Rattle.std.specs.Prelude.{◌≡◌, ◌-◌, ◌&&◌, true, false, drop, length, nat_eq, take};
-ghost use Rattle.std.specs.Prelude.{IfOk, OnOk, MatchOption};
+ghost use Rattle.std.specs.Prelude.{IfOk, OnOk, MatchOption, MatchResult};
 ghost use Rattle.std.specs.List.{ends_with, starts_with};
 ghost use Rattle.std.specs.Str.{chars};
 ghost use Rattle.deno_graph_base.specs.SourceRange.{slice_of};
 ghost use Rattle.modinfo_document.specs.Comments.{AreThoseOf};
-ghost use Rattle.modinfo_estree.specs.Comments.{after_space, block_text, comment_at_range};
-ghost use Rattle.modinfo_estree.specs.Comments.{comment_of, comment_with, ends_line, has_close};
+ghost use Rattle.modinfo_estree.specs.Comments.{after_space, comment_at_range};
+ghost use Rattle.modinfo_estree.specs.Comments.{comment_with, ends_line, has_close};
 ghost use Rattle.modinfo_estree.specs.Comments.{is_before_semicolon, is_operator_token, is_semicolon, is_trailed, is_whole_line};
 ghost use Rattle.modinfo_estree.specs.Comments.{place_of, sides_of, trails, trails_token};
+ghost use Rattle.modinfo_estree.specs.CommentError.{IsBlockError, IsBlockOf, IsCommentAt, IsCommentError};
+ghost use Rattle.modinfo_estree.specs.CommentError.{IsCommentOf, IsErrorOf};
 ghost use Rattle.modinfo_estree.specs.Range.{is_text_range, rest_range};
 ghost use Rattle.modinfo_estree.specs.internal.Comments.{IsFiled};
 
+use crate::comment_error::CommentError;
 use crate::last_token::{is_closing, is_name};
 use crate::marks::{has_line_break, is_line_break, is_space};
 use crate::slice::slice_at;
@@ -190,8 +193,9 @@ fn begins_with_semicolon(text: &str) -> bool
     false
 }
 
-/// Returns the comment of a text at a range, an empty line comment if the text doesn't have the range.
-#[tactic(auto, unfolding(crate::specs::Comments::comment_at_range))]
+/// Returns the comment that is filed for a range: the comment of the text at the range, or an empty comment
+/// that the text doesn't have there.
+#[tactic(auto, unfolding(crate::specs::Comments::comment_at_range, crate::specs::Comments::comment_of))]
 fn comment_at_range(
     alloc: Global,
     text: &str,
@@ -199,32 +203,54 @@ fn comment_at_range(
 ) -> Result<DependencyComment, AllocError>
     ensures { IfOk result (λ comment. comment ≡ comment_at_range text.now range) }
 {
-    match slice_at(text, range) {
-        Some(bytes) => comment_of(alloc, text, range, bytes),
-        None => comment_with(alloc, CommentKind::Line, range, ""),
+    match read_comment(alloc, text, range) {
+        Ok(comment) => Ok(comment),
+        Err(CommentError::Range | CommentError::Start) => {
+            comment_with(alloc, CommentKind::Line, range, "")
+        }
+        Err(CommentError::LineEnd | CommentError::BlockEnd) => {
+            comment_with(alloc, CommentKind::Block, range, "")
+        }
+        Err(CommentError::OutOfMemory) => Err(AllocError),
     }
 }
 
-/// Returns the comment with these bytes of a text. Bytes that aren't a comment's are read as an empty one, so
-/// that a check of the source reports the comment.
+/// Reads the comment of a text at a range. Returns `Range`, `Start`, `LineEnd` or `BlockEnd` if the range isn't
+/// the range of a whole comment, and `OutOfMemory` if an allocation fails.
+#[tactic(auto, unfolding(crate::specs::Comments::comment_at_range))]
+fn read_comment(
+    alloc: Global,
+    text: &str,
+    range: SourceRange,
+) -> Result<DependencyComment, CommentError>
+    ensures { MatchResult result (IsCommentAt text.now range) (IsCommentError text.now range) }
+{
+    match slice_at(text, range) {
+        Some(bytes) => read_bytes(alloc, text, range, bytes),
+        None => Err(CommentError::Range),
+    }
+}
+
+/// Like `read_comment`, by the bytes at the range.
 #[tactic(auto, unfolding(crate::specs::Comments::comment_of))]
-fn comment_of(
+fn read_bytes(
     alloc: Global,
     text: &str,
     range: SourceRange,
     bytes: &str,
-) -> Result<DependencyComment, AllocError>
+) -> Result<DependencyComment, CommentError>
     requires { bytes.now ≡ slice_of text.now range }
-    ensures { IfOk result (λ comment. comment ≡ comment_of text.now range bytes.now) }
+    ensures { MatchResult result (IsCommentOf text.now range bytes.now)
+        (IsErrorOf text.now range bytes.now) }
 {
     match after(bytes, "//") {
         Some(rest) if is_whole_line(text, range, bytes) => {
-            comment_with(alloc, CommentKind::Line, range, rest)
+            Ok(comment_with(alloc, CommentKind::Line, range, rest)?)
         }
-        Some(_) => comment_with(alloc, CommentKind::Block, range, ""),
+        Some(_) => Err(CommentError::LineEnd),
         None => match after(bytes, "/*") {
-            Some(rest) => comment_with(alloc, CommentKind::Block, range, block_text(rest)),
-            None => comment_with(alloc, CommentKind::Line, range, ""),
+            Some(rest) => read_block(alloc, range, rest),
+            None => Err(CommentError::Start),
         },
     }
 }
@@ -271,14 +297,20 @@ fn comment_with(
     Ok(DependencyComment { kind, range, text })
 }
 
-/// Returns the text of a block comment by what follows its `/*`, empty if no `*/` follows or more follows its
+/// Reads a block comment by what follows its `/*`. Returns `BlockEnd` if no `*/` follows, or more follows the
 /// first `*/`.
-fn block_text(rest: &str) -> &str
-    ensures { result.now ≡ block_text rest.now }
+fn read_block(
+    alloc: Global,
+    range: SourceRange,
+    rest: &str,
+) -> Result<DependencyComment, CommentError>
+    ensures { MatchResult result (IsBlockOf range rest.now) (IsBlockError rest.now) }
 {
     match before(rest, "*/") {
-        Some(inside) if !has_close(inside) => inside,
-        _ => "",
+        Some(inside) if !has_close(inside) => {
+            Ok(comment_with(alloc, CommentKind::Block, range, inside)?)
+        }
+        _ => Err(CommentError::BlockEnd),
     }
 }
 

@@ -7,6 +7,7 @@ mod candidates;
 mod check;
 mod child;
 mod clause;
+mod comment_error;
 mod comment_order;
 mod comment_ranges;
 mod comments;

@@ -2,11 +2,12 @@
 
 ghost use Rattle.std.specs.Prelude.{codes, IfErr, OnOk};
 ghost use Rattle.serde_json.specs.Data.{Data, Items, array, object, put};
+ghost use Rattle.serde_json.specs.Written.{has_float, items_have_float, members_have_float};
 ghost use Rattle.deno_graph_json.specs.Data.{data_of, elements_data, members_data};
 ghost use Rattle.deno_graph_json.specs.Text.{text_in};
 ghost use Rattle.deno_graph_info.specs.Conversion.{AnyOverflows, AreConverted, DependencyOverflows, IsConvertedDependency, with_types, without, without_value_at};
 ghost use Rattle.deno_graph_info.specs.Json.SpecifierWithRange.{json_of_specifier};
-ghost use Rattle.deno_graph_info.specs.internal.ConvertFault.{IsColumnFault};
+ghost use Rattle.deno_graph_info.specs.internal.ConvertFault.{IsTextFault};
 ghost use Rattle.deno_graph_info.specs.internal.Written.{IsWritten};
 
 use crate::analysis::SpecifierWithRange;
@@ -16,7 +17,7 @@ use crate::conversion::names::Names;
 use crate::conversion::ordered::in_order;
 use crate::conversion::write::{write_chosen, write_value};
 use deno_graph_json::{Element, Elements, Members, Writer, append};
-use std::alloc::{AllocError, Global};
+use std::alloc::Global;
 
 /// The members except the comments.
 const KEPT: Names<'static> = Names {
@@ -40,7 +41,7 @@ const AFTER_TYPES: Names<'static> = Names {
 };
 
 /// Appends the array of the converted dependencies. Returns `ColumnOverflow` if types would end beyond
-/// the largest column.
+/// the largest column, `Float` if a dependency has a float, and `OutOfMemory` if an allocation fails.
 pub fn write_dependencies(
     alloc: Global,
     dependencies: Elements<'_>,
@@ -48,7 +49,8 @@ pub fn write_dependencies(
 ) -> Result<(), ConvertFault>
     ensures ok { OnOk result ((new : Items) × AreConverted (elements_data dependencies.entry) new
         × IsWritten (array new) (text_in out.old) (text_in out.new)) }
-    ensures err { IfErr result (IsColumnFault (AnyOverflows (elements_data dependencies.entry))) }
+    ensures err { IfErr result (IsTextFault (AnyOverflows (elements_data dependencies.entry))
+        (items_have_float (elements_data dependencies.entry))) }
 {
     out.begin_array()?;
     for dependency in dependencies {
@@ -65,11 +67,12 @@ fn write_dependency(
 ) -> Result<(), ConvertFault>
     ensures ok { OnOk result ((after : Data) × IsConvertedDependency (data_of dependency.entry) after
         × IsWritten after (text_in out.old) (text_in out.new)) }
-    ensures err { IfErr result (IsColumnFault (DependencyOverflows (data_of dependency.entry))) }
+    ensures err { IfErr result (IsTextFault (DependencyOverflows (data_of dependency.entry))
+        (has_float (data_of dependency.entry))) }
 {
     match change_of(alloc, dependency)? {
-        Change::Nothing => Ok(write_value(alloc, dependency, out)?),
-        Change::Comments(types) => Ok(write_replaced(alloc, dependency, types, out)?),
+        Change::Nothing => write_value(alloc, dependency, out),
+        Change::Comments(types) => write_replaced(alloc, dependency, types, out),
     }
 }
 
@@ -79,10 +82,11 @@ fn write_replaced(
     dependency: Element<'_>,
     types: Option<SpecifierWithRange>,
     out: &mut Writer,
-) -> Result<(), AllocError>
-    ensures { OnOk result (IsWritten
+) -> Result<(), ConvertFault>
+    ensures ok { OnOk result (IsWritten
         (without_value_at (codes "leadingComments") (with_types types (data_of dependency.entry)))
         (text_in out.old) (text_in out.new)) }
+    ensures err { IfErr result (IsTextFault ⊥ (has_float (data_of dependency.entry))) }
 {
     let Some(members) = dependency.members() else {
         return write_value(alloc, dependency, out);
@@ -99,10 +103,11 @@ fn write_typed(
     members: Members<'_>,
     types: &SpecifierWithRange,
     out: &mut Writer,
-) -> Result<(), AllocError>
-    ensures { OnOk result (IsWritten (object (without (codes "leadingComments")
+) -> Result<(), ConvertFault>
+    ensures ok { OnOk result (IsWritten (object (without (codes "leadingComments")
         (put (codes "typesSpecifier") (json_of_specifier types.now) (members_data members.entry))))
         (text_in out.old) (text_in out.new)) }
+    ensures err { IfErr result (IsTextFault ⊥ (members_have_float (members_data members.entry))) }
 {
     let ordered = in_order(alloc, members)?;
     out.begin_object()?;
@@ -110,17 +115,18 @@ fn write_typed(
     out.key("typesSpecifier")?;
     append(alloc, out, types)?;
     write_chosen(alloc, &ordered, AFTER_TYPES, out)?;
-    out.end_object()
+    Ok(out.end_object()?)
 }
 
 /// Appends an object with these members, without the comments.
-fn write_untyped(alloc: Global, members: Members<'_>, out: &mut Writer) -> Result<(), AllocError>
-    ensures { OnOk result
+fn write_untyped(alloc: Global, members: Members<'_>, out: &mut Writer) -> Result<(), ConvertFault>
+    ensures ok { OnOk result
         (IsWritten (object (without (codes "leadingComments") (members_data members.entry)))
         (text_in out.old) (text_in out.new)) }
+    ensures err { IfErr result (IsTextFault ⊥ (members_have_float (members_data members.entry))) }
 {
     let ordered = in_order(alloc, members)?;
     out.begin_object()?;
     write_chosen(alloc, &ordered, KEPT, out)?;
-    out.end_object()
+    Ok(out.end_object()?)
 }

@@ -1,17 +1,17 @@
 //! The conversion from a flat list to text, without a tree of values.
 
-ghost use Rattle.std.specs.Prelude.{◌≡◌, ◌≢◌, [], codes, false, IfOk, IfErr, OnOk, option_map};
+ghost use Rattle.std.specs.Prelude.{◌≡◌, ◌≢◌, ◌||◌, [], codes, false, IfOk, IfErr, OnOk, option_map};
 ghost use Rattle.std.specs.String.{string_bytes};
 ghost use Rattle.json.specs.Lex.{tokens};
 ghost use Rattle.json.specs.Print.{print};
 ghost use Rattle.serde_json.specs.Data.{Data, Items, array, object, put};
 ghost use Rattle.serde_json.specs.Find.{as_array};
-ghost use Rattle.serde_json.specs.Written.{compact_text, has_float, IsInOrder};
+ghost use Rattle.serde_json.specs.Written.{compact_text, has_float, items_have_float, members_have_float, IsInOrder};
 ghost use Rattle.deno_graph_json.specs.Data.{data_of, elements_data, members_data};
 ghost use Rattle.deno_graph_json.specs.Read.Partial.{member_at};
 ghost use Rattle.deno_graph_json.specs.Text.{text_in};
 ghost use Rattle.deno_graph_info.specs.Conversion.{AnyOverflows, AreConverted, IsConverted, IsConvertFault, Overflows};
-ghost use Rattle.deno_graph_info.specs.internal.ConvertFault.{IsColumnFault};
+ghost use Rattle.deno_graph_info.specs.internal.ConvertFault.{IsTextFault};
 ghost use Rattle.deno_graph_info.specs.internal.Written.{IsWritten};
 
 use crate::conversion::dependency::write_dependencies;
@@ -53,12 +53,13 @@ pub fn converted_text(alloc: Global, value: Element<'_>) -> Result<String, Conve
     }
 }
 
-/// Returns the text of a converted value without floats.
+/// Returns the text of a converted value. Returns `Float` if the value has a float.
 fn write_text(alloc: Global, value: Element<'_>) -> Result<String, ConvertFault>
     ensures ok { IfOk result (λ text. (after : Data) × IsConverted (data_of value.entry) after
         × IsInOrder (string_bytes text) after × (string_bytes text ≡ compact_text after)) }
     ensures compact { IfOk result (λ text. string_bytes text ≡ print (tokens (string_bytes text))) }
-    ensures err { IfErr result (IsColumnFault (Overflows (data_of value.entry))) }
+    ensures err { IfErr result
+        (IsTextFault (Overflows (data_of value.entry)) (has_float (data_of value.entry))) }
 {
     let mut out = new_writer(alloc)?;
     write_converted(alloc, value, &mut out)?;
@@ -74,18 +75,19 @@ fn finished(out: Writer) -> String
     unsafe { String::from_utf8_unchecked(out.into_inner()) }
 }
 
-/// Appends a converted value without floats.
+/// Appends a converted value. Returns `Float` if the value has a float.
 fn write_converted(alloc: Global, value: Element<'_>, out: &mut Writer) -> Result<(), ConvertFault>
     ensures ok { OnOk result ((after : Data) × IsConverted (data_of value.entry) after
         × IsWritten after (text_in out.old) (text_in out.new)) }
-    ensures err { IfErr result (IsColumnFault (Overflows (data_of value.entry))) }
+    ensures err { IfErr result
+        (IsTextFault (Overflows (data_of value.entry)) (has_float (data_of value.entry))) }
 {
     let Some(members) = value.members() else {
-        return Ok(write_value(alloc, value, out)?);
+        return write_value(alloc, value, out);
     };
     match array_at(members, "dependencies") {
         Some(dependencies) => write_members(alloc, members, dependencies, out),
-        None => Ok(write_value(alloc, value, out)?),
+        None => write_value(alloc, value, out),
     }
 }
 
@@ -107,7 +109,9 @@ fn write_members(
     ensures ok { OnOk result ((new : Items) × AreConverted (elements_data dependencies.entry) new
         × IsWritten (object (put (codes "dependencies") (array new) (members_data members.entry)))
         (text_in out.old) (text_in out.new)) }
-    ensures err { IfErr result (IsColumnFault (AnyOverflows (elements_data dependencies.entry))) }
+    ensures err { IfErr result (IsTextFault (AnyOverflows (elements_data dependencies.entry))
+        (items_have_float (elements_data dependencies.entry)
+        || members_have_float (members_data members.entry))) }
 {
     let ordered = in_order(alloc, members)?;
     out.begin_object()?;

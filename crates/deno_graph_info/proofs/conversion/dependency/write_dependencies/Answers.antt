@@ -1,12 +1,13 @@
 use Rattle.std.proofs.Common.{Ok, Some, None, ap}
 use Rattle.json.specs.Token.{begin_array, end_array}
+use Rattle.serde_json.specs.Written.{has_float, items_have_float}
 use Rattle.deno_graph_json.proofs.ArrayElements.{elements_next}
 use Rattle.deno_graph_json.proofs.Texts.{text_written}
 use Rattle.deno_graph_json.specs.Data.{data_of, elements_data}
 use Rattle.deno_graph_json.specs.Text.{text_in}
 use Rattle.deno_graph_info.proofs.ConvertedItems.{converted_all, converted_next, converted_none}
 use Rattle.deno_graph_info.proofs.ConvertedItems.{overflow_next}
-use Rattle.deno_graph_info.proofs.Outcomes.{exits_column}
+use Rattle.deno_graph_info.proofs.TextFaults.{exits_text, float_next}
 use Rattle.deno_graph_info.specs.Conversion.{AnyOverflows, DependencyOverflows}
 use Rattle.deno_graph_info.proofs.conversion.dependency.write_dependencies.Goals as goal
 
@@ -38,9 +39,13 @@ returns-in_err-write_dependency-clause-err c =
     let d = data_of c.in-Some.dependency in
     let first = elements_next c.loop-dependency.dependency-iterator c.next.new.self
     (Some c.in-Some.dependency) c.in-Some.ensures.steps in
-    exits_column (DependencyOverflows d) (AnyOverflows all) _ _
-    (overflow_next all (elements_data c.loop-dependency.dependency-iterator) (elements_data c.next.new.self) d
-    (text_in c.begin_array.new.self) (text_in c.loop-dependency.out) c.loop-dependency.invariant.2 first)
+    let left = elements_data c.loop-dependency.dependency-iterator in
+    let rest = elements_data c.next.new.self in
+    let begun = text_in c.begin_array.new.self in
+    let now = text_in c.loop-dependency.out in
+    exits_text (DependencyOverflows d) (AnyOverflows all) (has_float d) (items_have_float all) _ _
+    (overflow_next all left rest d begun now c.loop-dependency.invariant.2 first)
+    (float_next all left rest d begun now c.loop-dependency.invariant.2 first)
     c.from_residual-in_err-write_dependency.ensures.1 c.in_err-write_dependency.ensures.err
 
 pub returns-clause-ok : goal.returns-clause-ok

@@ -1,5 +1,4 @@
 use Rattle.std.proofs.Common.{[], ◌∷◌, Ok, None, Some, ap, codes, refl, sym, subst, ◌∙◌}
-use Rattle.std.proofs.lemmas.Result.{on_ok_weaker}
 use Rattle.json.specs.Token.{begin_object, end_object, key}
 use Rattle.serde_json.specs.Data.{put}
 use Rattle.deno_graph_json.proofs.Texts.{text_written, with_tokens-twice}
@@ -10,11 +9,12 @@ use Rattle.deno_graph_info.specs.Json.SpecifierWithRange.{json_of_specifier}
 use Rattle.deno_graph_info.specs.internal.Chosen.{chosen}
 use Rattle.deno_graph_info.specs.internal.Ordered.{ordered_data}
 use Rattle.deno_graph_info.proofs.ChosenMembers.{Ascend, Ascend-members_data, around, kept_without}
+use Rattle.deno_graph_info.proofs.TextFaults.{exits_ordered}
 use Rattle.deno_graph_info.proofs.WrittenText.{joined_written, members_object, floatless_specifier}
 use Rattle.deno_graph_info.proofs.conversion.dependency.write_typed.Goals as goal
 
-pub returns : goal.returns
-returns c =
+pub returns-clause-ok : goal.returns-clause-ok
+returns-clause-ok c =
     let ms = ordered_data c.in_ok-ordered.ordered in
     let json = json_of_specifier c.args.types.now in
     let types = codes "typesSpecifier" in
@@ -35,12 +35,21 @@ returns c =
     let written = joined_written types json
     (chosen (record { above = None; below = Some types; except = Some comments }) ms)
     (chosen (record { above = Some types; below = None; except = Some comments }) ms) all begun
-    (text_in c.write_chosen.new.out) (text_in c.append.new.out) inside c.in_ok-write_chosen.ensures
+    (text_in c.write_chosen.new.out) (text_in c.append.new.out) inside c.in_ok-write_chosen.ensures.ok
     typed (floatless_specifier c.args.types.now c.in_ok-append.ensures.held)
-    c.in_ok-write_chosen-2.ensures is in
-    on_ok_weaker c.end_object.result
-    (λ closes. members_object all (text_in c.args.out.now) begun inside
-    (text_in c.end_object.new.self) written
-    opens closes)
-    (text_written c.end_object.result c.write_chosen-2.new.out c.end_object.new.self end_object
-    c.end_object.ensures)
+    c.in_ok-write_chosen-2.ensures.ok is in
+    let closes = text_written (Ok c.in_ok-end_object.field-0) c.write_chosen-2.new.out c.end_object.new.self
+    end_object c.in_ok-end_object.ensures in
+    members_object all (text_in c.args.out.now) begun inside (text_in c.end_object.new.self) written opens
+    closes
+
+pub returns-in_err-write_chosen-clause-err : goal.returns-in_err-write_chosen-clause-err
+returns-in_err-write_chosen-clause-err c =
+    exits_ordered (ordered_data c.in_ok-ordered.ordered) (members_data c.args.members) _ _
+    c.in_ok-ordered.ensures c.from_residual-in_err-write_chosen.ensures.1 c.in_err-write_chosen.ensures.err
+
+pub returns-in_err-write_chosen-2-clause-err : goal.returns-in_err-write_chosen-2-clause-err
+returns-in_err-write_chosen-2-clause-err c =
+    exits_ordered (ordered_data c.in_ok-ordered.ordered) (members_data c.args.members) _ _
+    c.in_ok-ordered.ensures c.from_residual-in_err-write_chosen-2.ensures.1
+    c.in_err-write_chosen-2.ensures.err

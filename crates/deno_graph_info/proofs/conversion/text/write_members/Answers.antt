@@ -34,8 +34,8 @@ returns-clause-ok c =
     let written = joined_written name json
     (chosen (record { above = None; below = Some name; except = None }) ms)
     (chosen (record { above = Some name; below = None; except = None }) ms) all begun before
-    (text_in c.write_dependencies.new.out) inside c.in_ok-write_chosen.ensures value made.2.1
-    c.in_ok-write_chosen-2.ensures is in (
+    (text_in c.write_dependencies.new.out) inside c.in_ok-write_chosen.ensures.ok value made.2.1
+    c.in_ok-write_chosen-2.ensures.ok is in (
       made.0,
       made.1,
       members_object all (text_in c.args.out.now) begun inside (text_in c.end_object.new.self)

@@ -1,6 +1,7 @@
 -- The text so far, with the items or members that are left, is the one at the end.
-use Rattle.std.proofs.Common.{◌≡◌, ◌+◌, ◌*◌, ◌≤◌}
+use Rattle.std.proofs.Common.{◌≡◌, ◌+◌, ◌*◌, ◌≤◌, true}
 use Rattle.serde_json.specs.Data.{depth, items_depth, members_depth}
+use Rattle.serde_json.specs.Written.{items_have_float, members_have_float}
 use Rattle.deno_graph_json.specs.Data.{data_of, elements_data, members_data, named_data}
 use Rattle.deno_graph_json.specs.Text.{text_in, with_tokens}
 use Rattle.deno_graph_json.specs.View.{members_of}
@@ -35,6 +36,8 @@ invariant-write_items-loop-item l = (goal.iterator-write_items-loop-item).can_ne
     × (with_tokens (item_tokens (elements_data l.item-iterator)) (text_in l.out)
     ≡ with_tokens (item_tokens (elements_data l.fn.items)) (text_in l.initial.out))
     × (AreFloatlessItems (elements_data l.item-iterator) → AreFloatlessItems (elements_data l.fn.items))
+    × (items_have_float (elements_data l.item-iterator) ≡ true
+    → items_have_float (elements_data l.fn.items) ≡ true)
 
 abbrev pub invariant-write_listed-loop-name : goal.invariant-write_listed-loop-name
 invariant-write_listed-loop-name l = (goal.iterator-write_listed-loop-name).can_next l.name-iterator
@@ -46,6 +49,8 @@ invariant-write_listed-loop-name l = (goal.iterator-write_listed-loop-name).can_
     (text_in l.initial.out))
     × (AreFloatless (chosen (test_of l.names) (listed (members_of l.name-iterator)))
     → AreFloatless (chosen (test_of l.names) (listed (members_of l.fn.members))))
+    × (members_have_float (listed (members_of l.name-iterator)) ≡ true
+    → members_have_float (listed (members_of l.fn.members)) ≡ true)
 
 abbrev pub invariant-write_sorted-loop-name : goal.invariant-write_sorted-loop-name
 invariant-write_sorted-loop-name l =
@@ -54,3 +59,5 @@ invariant-write_sorted-loop-name l =
     ≡ with_tokens (member_tokens (chosen (test_of l.names) (named_data l.members))) (text_in l.initial.out))
     × (AreFloatless (chosen (test_of l.names) (named_data l.name-iterator))
     → AreFloatless (chosen (test_of l.names) (named_data l.members)))
+    × (members_have_float (named_data l.name-iterator) ≡ true
+    → members_have_float (named_data l.members) ≡ true)
