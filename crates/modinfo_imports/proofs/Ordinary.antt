@@ -53,7 +53,8 @@ not_require false word more no_escape no_r other = rw (no_r more, no_escape) ref
 pub keyword-ordinary : (word : List ℕ) → is_ordinary word ≡ true → keyword_of word ≡ Other
 unfolding keyword_of is_ordinary
 keyword-ordinary word is =
-    let tests = tests-ordinary (slice_index word 0 == 92) (length word == 1) (slice_index word 0 == 114) _ is in
+    let tests = tests-ordinary (slice_index word 0 == 92) (length word == 1) (slice_index word 0 == 114) _ is
+    in
     rw (
       not_require (length word == 1) word refl tests.0 tests.1 (unlike word (codes "require") is refl),
       unlike word (codes "import") is refl,

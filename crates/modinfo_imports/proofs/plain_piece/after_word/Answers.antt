@@ -15,7 +15,9 @@ pub returns-then-is_ordinary : goal.returns-then-is_ordinary
 returns-then-is_ordinary c is_word parentheses =
     let ordinary = sym c.is_ordinary.ensures ∙ c.if-is_ordinary.true in
     rw c.after_token.ensures (word-turn c.args.text.now c.args.plain c.word_end-end.result _ _
-    c.args.around.now parentheses is_word (word-Ends c.args.text.now c.args.plain.at c.word_end-end.result is_word
+    c.args.around.now parentheses is_word (word-Ends c.args.text.now c.args.plain.at c.word_end-end.result
+    is_word
     c.word_end-end.ensures) c.if-end-plain.false c.if-end-text.false
     (class-ordinary c.args.plain.before _ ordinary)
-    (λ last form braces method met. other_either_way _ _ form braces method met (keyword-ordinary _ ordinary)))
+    (λ last form braces method met. other_either_way _ _ form braces method met (keyword-ordinary _
+    ordinary)))
