@@ -159,10 +159,7 @@ fn after_word(text: &[u8], plain: Plain, around: &Openings) -> Option<Plain>
         → IfSome result (λ next.
         IsPlainTurn text.now plain next around.now around.now parentheses parentheses) }
 {
-    if plain.at >= text.len() {
-        return None;
-    }
-    let end = word_end(text, plain.at + 1);
+    let end = word_end(text, plain.at);
     if end <= plain.at || end > text.len() {
         return None;
     }
@@ -189,13 +186,7 @@ fn is_ordinary(word: &[u8]) -> bool
     ensures { result ≡ is_ordinary word.now }
 {
     let first = byte_at(word, 0);
-    if first == b'\\' {
-        return false;
-    }
-    if word.len() == 1 {
-        return true;
-    }
-    if first == b'r' {
+    if first == b'r' || first == b'\\' {
         return false;
     }
     match word.len() {
