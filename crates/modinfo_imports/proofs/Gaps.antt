@@ -1,5 +1,6 @@
 -- One space as a piece.
-use Rattle.std.proofs.Common.{◌≡◌, ℕ, ◌+◌, ◌-◌, ◌||◌, Bool, false, true, List, arith, refl, slice_index, nat_le}
+use Rattle.std.proofs.Common.{◌≡◌, ℕ, ◌+◌, ◌-◌, ◌||◌, Bool, false}
+use Rattle.std.proofs.Common.{true, List, arith, refl, slice_index, nat_le}
 use Rattle.modinfo_imports.proofs.PlainBytes.{space_size-none}
 use Rattle.modinfo_pieces.specs.Spaces.{has_line_end, is_ascii_space, is_line_end, space_size, space_step}
 use Rattle.modinfo_pieces.specs.Steps.{Ends}

@@ -1,10 +1,10 @@
 -- Ordinary words: no keyword that matters here, and no word before an expression.
-use Rattle.std.proofs.Common.{◌≡◌, ℕ, ◌==◌, Bool, true, false, List, codes, if◌then◌else◌, ap, refl, sym}
-use Rattle.std.proofs.Common.{[], ◌∷◌, ◌&&◌, arith, length, slice_index, true≢false, ◌∙◌}
-use Rattle.std.proofs.lemmas.Bool.{eqb-true}
+use Rattle.std.proofs.Common.{◌≡◌, ℕ, ◌==◌, ◌||◌, Bool, true, false}
+use Rattle.std.proofs.Common.{List, codes, if◌then◌else◌, ap, refl, sym}
+use Rattle.std.proofs.Common.{slice_index, true≢false, ◌∙◌}
 use Rattle.std.specs.Str.{bytes_eq}
 use Rattle.std.proofs.lemmas.Slice.Eq.{bytes_eq-Decides}
-use Rattle.modinfo_imports.specs.Keywords.{has_escape, keyword_of, may_be_require}
+use Rattle.modinfo_imports.specs.Keywords.{keyword_of, may_be_require}
 use Rattle.modinfo_imports.specs.declared.keyword.Keyword.TheVariants.{Other}
 use Rattle.modinfo_imports.specs.internal.Plains.{is_ordinary}
 use Rattle.modinfo_pieces.specs.WordClasses.{class_after, class_of}
@@ -22,40 +22,20 @@ unlike : (word other : List ℕ) → is_ordinary word ≡ true → is_ordinary o
     → bytes_eq word other ≡ false
 unlike word other is isnt = unlike_either_way (bytes_eq word other) word other refl is isnt
 
-and_false : (one : Bool) → (one && false) ≡ false
-and_false true = refl
-and_false false = refl
+unless : (test rest : Bool) → (if test then false else rest) ≡ true → test ≡ false
+unless false rest is = refl
+unless true rest is = cc
 
--- The tests of an ordinary word, by whether the word has one byte.
-tests-ordinary : (is_escape is_one is_r rest : Bool)
-    → (if is_escape then false else (if is_one then true else (if is_r then false else rest))) ≡ true
-    → (is_escape ≡ false) × ((is_one ≡ false) → is_r ≡ false)
-tests-ordinary true is_one is_r rest is = cc
-tests-ordinary false true is_r rest is = (refl, λ no. absurd (true≢false no))
-tests-ordinary false false true rest is = cc
-tests-ordinary false false false rest is = (refl, λ no. refl)
-
--- A word of one byte has no escape, unless the byte is one.
-has_escape-one : (word : List ℕ) → length word ≡ 1 → (slice_index word 0 == 92) ≡ false
-    → has_escape word ≡ false
-has_escape-one [] one isnt = refl
-has_escape-one (byte ∷ []) one isnt = rw isnt refl
-has_escape-one (byte ∷ other ∷ word) one isnt = absurd (omega (arith, one))
-
-not_require : (is_one : Bool) (word : List ℕ) → (length word == 1) ≡ is_one
-    → (slice_index word 0 == 92) ≡ false → ((length word == 1) ≡ false → (slice_index word 0 == 114) ≡ false)
-    → bytes_eq word (codes "require") ≡ false → may_be_require word ≡ false
-unfolding may_be_require
-not_require true word one no_escape no_r other =
-    rw (other, has_escape-one word (eqb-true (length word) 1 one) no_escape) (and_false _)
-not_require false word more no_escape no_r other = rw (no_r more, no_escape) refl
+begins-ordinary : (word : List ℕ) → is_ordinary word ≡ true
+    → ((slice_index word 0 == 114) || (slice_index word 0 == 92)) ≡ false
+unfolding is_ordinary
+begins-ordinary word is = unless ((slice_index word 0 == 114) || (slice_index word 0 == 92)) _ is
 
 pub keyword-ordinary : (word : List ℕ) → is_ordinary word ≡ true → keyword_of word ≡ Other
-unfolding keyword_of is_ordinary
+unfolding keyword_of may_be_require is_ordinary
 keyword-ordinary word is =
-    let tests = tests-ordinary (slice_index word 0 == 92) (length word == 1) (slice_index word 0 == 114) _ is in
     rw (
-      not_require (length word == 1) word refl tests.0 tests.1 (unlike word (codes "require") is refl),
+      begins-ordinary word is,
       unlike word (codes "import") is refl,
       unlike word (codes "export") is refl,
       unlike word (codes "module") is refl,

@@ -1,5 +1,6 @@
 -- Plain tokens of one byte.
-use Rattle.std.proofs.Common.{◌≡◌, ℕ, ◌+◌, ◌-◌, ◌==◌, ◌<◌, ◌≤◌, Bool, true, false, ◌&&◌, ◌||◌, ◌⊎◌, inl, inr, subst, List, Option}
+use Rattle.std.proofs.Common.{◌≡◌, ℕ, ◌+◌, ◌-◌, ◌==◌, ◌<◌, ◌≤◌, Bool, true, false}
+use Rattle.std.proofs.Common.{◌&&◌, ◌||◌, ◌⊎◌, inl, inr, subst, List, Option}
 use Rattle.std.proofs.Common.{[], ◌∷◌, MatchOption, drop, true≢false, Some, None, codes, length, slice_index}
 use Rattle.std.proofs.Common.{nat_le, refl, sym, ap, ◌∙◌, arith}
 use Rattle.std.proofs.lemmas.Bool.{eqb-true}
@@ -385,14 +386,16 @@ greater-turn text plain end around parentheses at is =
     (sym (before-greater-code (innermost around) is)) refl refl refl
 
 -- A turn over a `<` or a `>` in code.
-pub angle-turn : (text : List ℕ) (plain : Plain) (byte end : ℕ) (around : List Opening) (parentheses : List Duty)
+pub angle-turn : (text : List ℕ) (plain : Plain) (byte end : ℕ) (around : List Opening)
+    (parentheses : List Duty)
     → IsByteAt text plain byte end → (byte ≡ 60) ⊎ (byte ≡ 62) → is_code (innermost around) ≡ true
     → IsPlainTurn text plain (after_token plain Punctuation end Free asks.Nothing false) around around
     parentheses parentheses
 angle-turn text plain byte end around parentheses at (inl less) code =
     less-turn text plain end around parentheses (subst (λ (b : ℕ). IsByteAt text plain b end) less at) code
 angle-turn text plain byte end around parentheses at (inr greater) code =
-    greater-turn text plain end around parentheses (subst (λ (b : ℕ). IsByteAt text plain b end) greater at) code
+    greater-turn text plain end around parentheses (subst (λ (b : ℕ). IsByteAt text plain b end) greater at)
+    code
 
 quote-code : (inside : Opening) (before : Before) → is_code inside ≡ true
     → kind_of_quote inside before ≡ kinds.String

@@ -1,5 +1,5 @@
 -- Turns over plain pieces.
-use Rattle.std.proofs.Common.{◌≡◌, ℕ, ◌+◌, ◌-◌, ◌==◌, ◌<◌, ◌≤◌, Bool, true, false, ◌||◌, List, [], ◌∷◌}
+use Rattle.std.proofs.Common.{◌≡◌, ℕ, ◌-◌, ◌==◌, ◌<◌, ◌≤◌, Bool, true, false, ◌||◌, List, [], ◌∷◌}
 use Rattle.std.proofs.Common.{Option, Some, None, codes, length, slice_index, slice_range, refl, sym, ap, ◌∙◌}
 use Rattle.std.proofs.Common.{arith, if◌then◌else◌, true≢false}
 use Rattle.std.proofs.lemmas.List.{append-nil}
@@ -30,9 +30,7 @@ use Rattle.modinfo_pieces.specs.Openings.{innermost, is_element}
 use Rattle.modinfo_pieces.specs.Places.{IsNext, around_after, before_after, choices_after, chosen, context_of}
 use Rattle.modinfo_pieces.specs.Places.{line_end_after}
 use Rattle.modinfo_pieces.specs.Spaces.{has_line_end, space_step}
-use Rattle.modinfo_pieces.proofs.Reached.{ends_on}
 use Rattle.modinfo_pieces.specs.Steps.{Ends}
-use Rattle.modinfo_pieces.specs.Steps.Reaches.{here, step}
 use Rattle.modinfo_pieces.specs.WordClasses.{class_after}
 use Rattle.modinfo_pieces.specs.Words.{is_word_byte, word_step}
 use Rattle.modinfo_pieces.specs.declared.choice.Choice.{Choice}
@@ -261,13 +259,6 @@ pub new_asks : (is_name : Bool) (keyword : Keyword) (form : Option Form) (item b
     duties.Nothing ≡ duties.NoCall
 unfolding duty_after_word
 new_asks is_name keyword form item braces method before no_name is = rw (no_name, is) refl
-
--- The bytes of a word after the first end with the word.
-pub word-Ends : (text : List ℕ) (at end : ℕ) → is_word_byte (slice_index text at) ≡ true
-    → Ends (word_step text) (at + 1) end → Ends (word_step text) at end
-unfolding word_step
-word-Ends text at end is_word ends =
-    ends_on (word_step text) at (at + 1) end (step here (rw is_word refl)) ends
 
 -- A turn over a plain word.
 pub word-turn : (text : List ℕ) (plain : Plain) (end : ℕ) (before : Before) (asked : Asked)

@@ -73,8 +73,8 @@ pub struct Plain {
     pub end: usize,
 }
 
-/// Goes over plain pieces, as far as they go, or over white space if a comment waits for a token. `has_token` says
-/// whether a token was before; otherwise there are none to go over.
+/// Goes over plain pieces, as far as they go, or over white space if a comment waits for a token. `has_token`
+/// says whether a token was before; otherwise there are none to go over.
 #[inline(always)]
 pub fn go_over_plain<'a>(
     text: &[u8],

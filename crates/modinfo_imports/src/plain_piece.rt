@@ -105,6 +105,8 @@ fn after_punctuation(
         MatchOption next ((around.new ≡ around.old) × (parentheses.new ≡ parentheses.old)) (λ next.
         IsPlainTurn text.now plain next around.old around.new parentheses.old parentheses.new)) }
 {
+    let before = plain.before;
+    let is_after_line_end = plain.is_after_line_end;
     match byte {
         b',' | b';' | b'?' | b'&' | b'|' | b'^' | b'~' | b'[' => {
             Ok(Some(after_byte(plain, end, Before::Free)))
@@ -112,10 +114,10 @@ fn after_punctuation(
         b':' | b'%' => Ok(Some(after_byte(plain, end, Before::Free))),
         b']' => Ok(Some(after_byte(plain, end, Before::Value))),
         b'=' => Ok(Some(after_byte(plain, end, Before::Equal))),
-        b'.' => Ok(Some(after_byte(plain, end, before_after_dot(plain.before)))),
-        b'+' => Ok(Some(after_byte(plain, end, before_after_plus(plain.before, plain.is_after_line_end)))),
-        b'-' => Ok(Some(after_byte(plain, end, before_after_minus(plain.before, plain.is_after_line_end)))),
-        b'!' => Ok(Some(after_byte(plain, end, before_after_bang(plain.before, plain.is_after_line_end)))),
+        b'.' => Ok(Some(after_byte(plain, end, before_after_dot(before)))),
+        b'+' => Ok(Some(after_byte(plain, end, before_after_plus(before, is_after_line_end)))),
+        b'-' => Ok(Some(after_byte(plain, end, before_after_minus(before, is_after_line_end)))),
+        b'!' => Ok(Some(after_byte(plain, end, before_after_bang(before, is_after_line_end)))),
         b'(' => Ok(Some(open_parenthesis(plain, end, around, parentheses)?)),
         b')' => Ok(close_parenthesis(plain, end, around, parentheses)),
         b'{' => Ok(Some(open_brace(plain, end, around)?)),
@@ -157,10 +159,7 @@ fn after_word(text: &[u8], plain: Plain, around: &Openings) -> Option<Plain>
         → IfSome result (λ next.
         IsPlainTurn text.now plain next around.now around.now parentheses parentheses) }
 {
-    if plain.at >= text.len() {
-        return None;
-    }
-    let end = word_end(text, plain.at + 1);
+    let end = word_end(text, plain.at);
     if end <= plain.at || end > text.len() {
         return None;
     }
@@ -180,20 +179,14 @@ fn after_word(text: &[u8], plain: Plain, around: &Openings) -> Option<Plain>
     Some(after_token(plain, PieceKind::Word, end, before, asked, false))
 }
 
-/// Returns whether the length and the first byte of a word show that the word ends an expression and asks nothing.
+/// Returns whether a word ends an expression and asks nothing, by the word's length and first byte.
 #[inline(always)]
 #[tactic(auto, unfolding(crate::specs::internal::Plains::is_ordinary))]
 fn is_ordinary(word: &[u8]) -> bool
     ensures { result ≡ is_ordinary word.now }
 {
     let first = byte_at(word, 0);
-    if first == b'\\' {
-        return false;
-    }
-    if word.len() == 1 {
-        return true;
-    }
-    if first == b'r' {
+    if first == b'r' || first == b'\\' {
         return false;
     }
     match word.len() {

@@ -1,6 +1,7 @@
 -- Plain pieces: white space, and tokens that any token may follow. A piece is plain by its first byte, where
 -- nothing was chosen and no claim and no mark begins.
-use Rattle.std.specs.Prelude.{◌≡◌, ℕ, ◌+◌, ◌-◌, ◌==◌, ◌<◌, ◌≤◌, Bool, true, false, not, List, Option, Some, None}
+use Rattle.std.specs.Prelude.{◌≡◌, ℕ, ◌+◌, ◌-◌, ◌==◌, ◌<◌, ◌≤◌, Bool, true}
+use Rattle.std.specs.Prelude.{false, not, ◌||◌, List, Option, Some, None}
 use Rattle.std.specs.Prelude.{codes, if◌then◌else◌, length, slice_index}
 use Rattle.modinfo_imports.specs.Claims.{form_of, is_claimed}
 use Rattle.modinfo_imports.specs.Duties.{is_one_of}
@@ -157,16 +158,14 @@ unfoldable pub is_ordinary : List ℕ → Bool
 is_ordinary word =
     let first = slice_index word 0 in
     let size = length word in
-    (if first == 92 then false
-    else (if size == 1 then true
-    else (if first == 114 then false
+    (if (first == 114) || (first == 92) then false
     else (if size == 2 then not (is_one_of (codes "dio") first)
     else (if size == 3 then not (is_one_of (codes "fn") first)
     else (if size == 4 then not (is_one_of (codes "cevw") first)
     else (if size == 5 then not (is_one_of (codes "atwy") first)
     else (if size == 6 then not (is_one_of (codes "deimt") first)
     else (if size == 7 then not (is_one_of (codes "de") first)
-    else (if size == 8 then not (first == 102) else (if size == 10 then not (first == 105) else true)))))))))))
+    else (if size == 8 then not (first == 102) else (if size == 10 then not (first == 105) else true)))))))))
 
 -- What is said of the openings is right, and no `#!` is at the place.
 pub record IsPlain (plain : Plain) (around : List Opening) : Type 0 where

@@ -5,5 +5,6 @@ use Rattle.modinfo_imports.specs.internal.Plains.{is_code}
 
 pub returns : goal.returns
 returns c text parentheses at is =
-    rw c.after_token.ensures (angle-turn text c.args.plain c.args.byte c.args.end c.args.around.now parentheses
+    rw c.after_token.ensures (angle-turn text c.args.plain c.args.byte c.args.end c.args.around.now
+    parentheses
     at is (ap is_code (sym c.innermost.ensures) ∙ (sym c.is_code.ensures ∙ c.if-not-is_code.false)))

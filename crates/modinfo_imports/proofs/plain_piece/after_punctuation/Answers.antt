@@ -35,25 +35,29 @@ pub returns-in-46 : goal.returns-in-46
 unfolding before_after_punctuation
 returns-in-46 c at =
     c.after_byte-in-46.ensures c.args.text.now 46 c.args.around.now c.args.parentheses.now
-    (at_byte c.args.text.now c.args.plain c.args.byte 46 c.args.end c.in-46.is at) (omega arith) refl c.before_after_dot.ensures
+    (at_byte c.args.text.now c.args.plain c.args.byte 46 c.args.end c.in-46.is at) (omega arith) refl
+    c.before_after_dot.ensures
 
 pub returns-in-43 : goal.returns-in-43
 unfolding before_after_punctuation
 returns-in-43 c at =
     c.after_byte-in-43.ensures c.args.text.now 43 c.args.around.now c.args.parentheses.now
-    (at_byte c.args.text.now c.args.plain c.args.byte 43 c.args.end c.in-43.is at) (omega arith) refl c.before_after_plus.ensures
+    (at_byte c.args.text.now c.args.plain c.args.byte 43 c.args.end c.in-43.is at) (omega arith) refl
+    c.before_after_plus.ensures
 
 pub returns-in-45 : goal.returns-in-45
 unfolding before_after_punctuation
 returns-in-45 c at =
     c.after_byte-in-45.ensures c.args.text.now 45 c.args.around.now c.args.parentheses.now
-    (at_byte c.args.text.now c.args.plain c.args.byte 45 c.args.end c.in-45.is at) (omega arith) refl c.before_after_minus.ensures
+    (at_byte c.args.text.now c.args.plain c.args.byte 45 c.args.end c.in-45.is at) (omega arith) refl
+    c.before_after_minus.ensures
 
 pub returns-in-33 : goal.returns-in-33
 unfolding before_after_punctuation
 returns-in-33 c at =
     c.after_byte-in-33.ensures c.args.text.now 33 c.args.around.now c.args.parentheses.now
-    (at_byte c.args.text.now c.args.plain c.args.byte 33 c.args.end c.in-33.is at) (omega arith) refl c.before_after_bang.ensures
+    (at_byte c.args.text.now c.args.plain c.args.byte 33 c.args.end c.in-33.is at) (omega arith) refl
+    c.before_after_bang.ensures
 
 pub returns-in-44 : goal.returns-in-44
 returns-in-44 c at =
@@ -64,7 +68,8 @@ returns-in-44 c at =
 pub returns-in-58 : goal.returns-in-58
 returns-in-58 c at =
     let free = more_free-bytes c.args.byte (plain_context c.args.plain c.args.around.now) c.in-58.is in
-    c.after_byte-in-58.ensures c.args.text.now c.args.byte c.args.around.now c.args.parentheses.now at (omega arith)
+    c.after_byte-in-58.ensures c.args.text.now c.args.byte c.args.around.now c.args.parentheses.now at (omega
+    arith)
     free.0 free.1
 
 pub returns-in-60 : goal.returns-in-60

@@ -7,9 +7,11 @@ use Rattle.std.proofs.Common.{arith, ◌+◌, refl}
 pub returns : goal.returns
 returns c is_space less around parentheses =
     rw c.after_gap-2.ensures (space-turn c.args.text.now c.args.plain c.space_end-end.result _
-    c.line_end_after-is_after_line_end.result around parentheses (kind-of_space c.args.text.now c.args.plain around is_space
+    c.line_end_after-is_after_line_end.result around parentheses (kind-of_space c.args.text.now c.args.plain
+    around is_space
     less)
-    c.space_end-end.ensures c.if-end-plain.false c.if-end-text.false refl c.line_end_after-is_after_line_end.ensures)
+    c.space_end-end.ensures c.if-end-plain.false c.if-end-text.false refl
+    c.line_end_after-is_after_line_end.ensures)
 
 pub returns-then-is_one_space : goal.returns-then-is_one_space
 returns-then-is_one_space c is_space less around parentheses =

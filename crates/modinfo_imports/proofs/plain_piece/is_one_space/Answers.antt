@@ -7,4 +7,5 @@ returns-then-text-at-eq32-clause-ends c is =
     (c.is_solid.ensures.space is)) (rw c.byte_at.ensures at (c.is_solid.ensures.narrow is))
 
 pub returns-then-text-at-eq32-clause-line : goal.returns-then-text-at-eq32-clause-line
-returns-then-text-at-eq32-clause-line c is = no_line-one_space c.args.text.now c.args.at c.if-text-at-eq32.true
+returns-then-text-at-eq32-clause-line c is = no_line-one_space c.args.text.now c.args.at
+    c.if-text-at-eq32.true
