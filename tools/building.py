@@ -338,6 +338,24 @@ class Build:
         self._running.clear()
 
 
+def build_lower(closures: list[Closure], kit: Kit, script: str) -> None:
+    """Builds the libraries below the crates of closures that are missing or have changed."""
+    with locked(script), staged():
+        for closure in closures:
+            Build(closure, kit, script, {lower.name for lower in closure.below(closure.crate)}).run()
+
+
+def link_lower(closures: list[Closure], copy: Path, folder: Path) -> None:
+    """Links the libraries below the crates of closures into a folder, as rt ci has built them in a copy of the
+    repository."""
+    for name in {lower.name for closure in closures for lower in closure.below(closure.crate)}:
+        library = copy.resolve() / f"crates/{name}/out/rlib/{name}.rlib"
+        if not library.is_dir():
+            raise BuildError(f"{library}: rt ci has built no such library")
+        if not (folder / library.name).is_symlink():
+            (folder / library.name).symlink_to(library)
+
+
 def stamp_of(crate: Crate) -> Path:
     return BUILT / f"{crate.name}.stamp"
 

@@ -21,10 +21,14 @@ class Part:
 
 @dataclass(frozen=True)
 class Programs:
-    """Where the programs are that the parts test, and the command that builds each."""
+    """Where the programs are that the parts test, the command that builds each, and what it needs of the others."""
 
     places: dict[str, str]
     builds: dict[str, str]
+    needs: dict[str, str]
+
+    def build(self, name: str) -> Part:
+        return Part(f"build_{name}", self.builds[name], (self.needs[name],) if name in self.needs else ())
 
 
 def after(setup: str, command: str) -> str:
@@ -44,13 +48,14 @@ UNCHECKED = Programs(
         "MODINFO_LIB_DIR": "build/unchecked",
         "TEST_REPLAY": "build/unchecked/test_replay",
     },
-    # The program of the test cases is linked from the object of the library.
     {
         "modinfo": "exec tools/build_unchecked modinfo",
         "libmodinfo": "exec tools/build_unchecked libmodinfo",
         "test_replay": "exec tools/build_unchecked libmodinfo",
         "wasm": after("wasm", "exec packaging/wasm/build --unchecked"),
     },
+    # The program of the test cases is linked from the object of the library.
+    {"test_replay": "libmodinfo", "wasm": "libmodinfo"},
 )
 PROVED = Programs(
     {
@@ -66,6 +71,7 @@ PROVED = Programs(
         "test_replay": "[[ -x $TEST_REPLAY ]] || "
         "{ (cd crates/test_replay && rt run) && cp crates/test_replay/out/test_replay build; }",
     },
+    {"wasm": "libmodinfo"},
 )
 
 

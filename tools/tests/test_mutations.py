@@ -1,126 +1,98 @@
 """Tests .ci/mutations and tools/mutations: batches, verdicts, and when mutations are tried again."""
 
-import shutil
-
 import pytest
-from batches import Batch, Mutation, Verdict
 from repository import Repository, copy_tracked
-from sources import ROOT
 
-LIBRARY = """\
-/// Five.
-pub fn five() -> u8
-    ensures { result ≡ 5 }
-{
-    5
-}
-
-#[cycle(both)]
-fn one(n: u8) -> u8 {
-    two(n)
-}
-
-#[cycle(both)]
-fn two(n: u8) -> u8 {
-    one(n)
-}
-
-const fn six() -> u8 {
-    6
-}
+CYCLE = "#[cycle(both)]\n"
+LIBRARY = f"fn five() {{ 5 }}\n{CYCLE}fn one() {{ 1 }}\n{CYCLE}fn two() {{ 2 }}\nfn six() {{ 6 }}\n"
+LOWEST = "crates/lowest/out/rlib/lowest.rlib/lang"
+# Prints what the test has for the functions that are changed, and notes these.
+PROVER = """\
+#!/bin/sh
+changed=$(sed -n 's/^fn \\([a-z]*\\)() { 0 }/\\1/p' src/lib.rt | paste -s -d -)
+echo "$changed" >> "$ROOM/checks"
+cat "$ROOM/$changed"
 """
-FIVE = "# function: five\nfile: src/lib.rt\nold:     5\nnew:     4\n"
-ONE = "# function: one\nfile: src/lib.rt\nold:     two(n)\nnew:     one(n)\n"
-TWO = "# function: two\nfile: src/lib.rt\nold:     one(n)\nnew:     two(n)\n"
-SIX = "# function: six\nfile: src/lib.rt\nold:     6\nnew:     { 6 }\n"
-# What the prover prints, by function; `six` is the change of must-prove.
-REFUSED = ["fn short::five: not proved", "fn short::six: proved", "only=2 proved=1"]
 
 
 @pytest.fixture
-def repository_with_mutations(repository: Repository) -> Repository:
-    (repository.folder / ".ci").mkdir()
-    shutil.copy(ROOT / ".ci/mutations", repository.folder / ".ci/mutations")
-    copy_tracked(repository, "tools/mutations", "tools/help.bash")
-    shutil.copy(ROOT / "tools/batches.py", repository.folder / "tools")
+def mutated(repository: Repository) -> Repository:
+    """A library with a mutation of `five`, and the change of must-prove in `six`."""
+    copy_tracked(repository, ".ci/mutations", "tools/mutations", "tools/help.bash")
     repository.write("crates/short/src/lib.rt", LIBRARY)
-    repository.write("crates/short/must-fail/another_number.edit", FIVE)
-    repository.write("crates/short/must-fail-rest/another_number.edit", FIVE)
-    repository.write("crates/short/must-prove/in_braces.edit", SIX)
-    repository.prove()
+    repository.write(f"{LOWEST}/src/lib.rt", "pub fn five() -> u8 ensures { result ≡ 5 } ;\n")
+    repository.put_program(repository.bin / "rattle", PROVER)
+    mutate(repository, "must-prove", "six", 6)
+    mutate(repository, "must-fail", "five", 5)
     return repository
 
 
-def tried(repository: Repository, lines: list[str], *words: str, script: str = ".ci/mutations") -> tuple[int, str]:
-    """The status and the output of the script, where the prover prints lines. Its folder is not the crate's."""
-    repository.put_program(repository.bin / "rattle", "#!/bin/sh\necho checked >> $ROOM/checks\ncat $ROOM/printed\n")
-    (repository.room / "printed").write_text("\n".join(lines) + "\n")
-    status, output, errors = repository.run(script, *words, XDG_CACHE_HOME=str(repository.room / "cache"))
-    return status, output + errors
+def mutate(repository: Repository, folder: str, function: str, value: int) -> None:
+    edit = f"# function: {function}\nfile: src/lib.rt\nold: {function}() {{ {value}\nnew: {function}() {{ 0\n"
+    repository.write(f"crates/short/{folder}/{function}.edit", edit)
 
 
-def checks(repository: Repository) -> int:
-    return len((repository.room / "checks").read_text().splitlines())
+def tried(repository: Repository, outputs: dict[str, str], script: str = ".ci/mutations") -> tuple[int, str, list[str]]:
+    """The status and the output of the script, and the functions that each check has changed."""
+    checks = repository.room / "checks"
+    checks.write_text("")
+    for changed, output in outputs.items():
+        (repository.room / changed).write_text(output.replace("fn ", "fn short::"))
+    status, output, errors = repository.run(script, "--built", ".", XDG_CACHE_HOME=str(repository.room / "cache"))
+    return status, output + errors, checks.read_text().split()
 
 
 @pytest.mark.parametrize("script", [".ci/mutations", "tools/mutations"])
-def test_a_refused_mutation(repository_with_mutations: Repository, script: str) -> None:
+def test_a_refused_mutation(mutated: Repository, script: str) -> None:
     """It is tried again after a change of a statement below, and not after that of a proof."""
-    repository, built = repository_with_mutations, ["--built", str(repository_with_mutations.folder)]
-    library = "crates/lowest/out/rlib/lowest.rlib/lang"
-    passed = "short: 1 of 1 refused\n.ci/mutations: 1 of 1 mutations refused\n"
-    repository.write(f"{library}/src/lib.rt", "pub fn five() -> u8 ensures { result ≡ 5 } ;\n")
-    assert tried(repository, REFUSED, *built, script=script) == (0, passed)
-    repository.write(f"{library}/antt/proofs/five/Answers.antt", "")
-    assert tried(repository, REFUSED, *built, script=script) == (0, f"short: refused in an earlier run\n{passed}")
-    assert checks(repository) == 1
-    repository.write(f"{library}/src/lib.rt", "pub fn five() -> u8 ensures { result ≡ 7 } ;\n")
-    assert tried(repository, REFUSED, *built, script=script) == (0, passed)
-    assert checks(repository) == 2
+    mutate(mutated, "must-fail-rest", "five", 5)
+    output = {"five-six": "fn five: not proved\nfn six: proved\nonly=2 proved=1\n"}
+    refused = "short: 1 of 1 refused\n.ci/mutations: 1 of 1 mutations refused\n"
+    assert tried(mutated, output, script) == (0, refused, ["five-six"])
+    mutated.write(f"{LOWEST}/antt/proofs/five/Answers.antt", "")
+    assert tried(mutated, output, script) == (0, f"short: refused in an earlier run\n{refused}", [])
+    mutated.write(f"{LOWEST}/src/lib.rt", "pub fn five() -> u8 ensures { result ≡ 7 } ;\n")
+    assert tried(mutated, output, script) == (0, refused, ["five-six"])
 
 
 @pytest.mark.parametrize(
-    ("lines", "printed"),
+    ("output", "wanted", "printed"),
     [
-        (["fn short::five: proved", *REFUSED[1:]], Verdict.PROVED),
-        (["fn short::other: proved", *REFUSED[1:]], Verdict.UNREAD),
-        (["error[type]: no such name"], Verdict.UNREAD),
+        (
+            "fn fn::five::closure: no proof: expected answers\nfn five: no proof: it calls `x`",
+            0,
+            "short: 1 of 1 refused",
+        ),
+        ("fn five: could not tell", 0, "five.edit: refused only by a limit"),
+        (
+            "fn five: not proved\nproofs/five/Answers.antt:1:2: error: `x` is not in scope",
+            0,
+            "five.edit: refused only since",
+        ),
+        ("fn five: proved", 1, "must-fail short/five.edit: NOT REFUSED"),
+        ("fn five: no proof: it calls `x`, which is not proved", 1, "five.edit: NOT TRIED"),
+        ("fn other: not proved", 1, "five.edit: NOT TRIED"),
+        ("fn five: not proved\nfn six: not proved", 1, "must-prove isn't proved, so nothing is known"),
     ],
 )
-def test_a_mutation_that_is_not_refused(
-    repository_with_mutations: Repository, lines: list[str], printed: Verdict
-) -> None:
-    wanted = f"must-fail short/another_number.edit: {printed.value}\nshort: 0 of 1 refused\n"
-    status, output = tried(repository_with_mutations, lines)
-    assert (status, wanted in output) == (1, True)
+def test_a_verdict(mutated: Repository, output: str, wanted: int, printed: str) -> None:
+    control = "" if "fn six" in output else "fn six: proved\n"
+    status, all_printed, _ = tried(mutated, {"five-six": f"{output}\n{control}only=2 "})
+    assert (status, printed in all_printed) == (wanted, True)
 
 
-def test_a_control_that_is_not_proved(repository_with_mutations: Repository) -> None:
-    status, output = tried(repository_with_mutations, [REFUSED[0], "fn short::six: not proved", REFUSED[2]])
-    assert (status, "must-prove isn't proved, so nothing is known" in output) == (1, True)
-
-
-def test_words(repository_with_mutations: Repository) -> None:
-    assert tried(repository_with_mutations, [], "lowest")[0] == 2
-
-
-def read(room: Repository, **edits: str) -> list[Mutation]:
-    for name, text in edits.items():
-        room.write(f"{name}.edit", text)
-    return [Mutation.read(room.folder / f"{name}.edit") for name in edits]
-
-
-def test_a_batch(repository: Repository) -> None:
-    """Two functions of one cycle go into two batches. A call of a refused function is no verdict."""
-    five, one, two, six = read(repository, five=FIVE, one=ONE, two=TWO, six=SIX)
-    batch = Batch.of([five, one, two], six, {"src/lib.rt": LIBRARY})
-    assert batch.mutations == [five, one]
-    assert batch.texts["src/lib.rt"] == LIBRARY.replace("    5\n", "    4\n").replace("two(n)", "one(n)").replace(
-        "    6\n", "    { 6 }\n"
-    )
-    said = ["fn a::fn::five::closure: no proof: expected answers", "fn a::five: no proof: it calls `a::x`", "only=3 "]
-    calls = "fn a::one: not proved; it calls `a::five`, which is not proved"
-    wanted = {"five": Verdict.REFUSED, "one": Verdict.WAITS, "six": Verdict.UNREAD}
-    assert batch.verdicts("a", "\n".join([*said, calls])) == wanted
-    gone = "./proofs/five/Answers.antt:1:2: error: `x` is not in scope\nfn a::five: not proved\nonly=1 "
-    assert (batch.verdicts("a", gone) or {})["five"] == Verdict.SAYS_LITTLE
+@pytest.mark.parametrize(
+    ("output", "first"),
+    [
+        ("error[type]: no such name", ["five-six"]),
+        ("fn five: not proved\nfn one: no proof: it calls `five`, which is not proved\nfn six: proved\nonly=3 ", []),
+    ],
+)
+def test_batches(mutated: Repository, output: str, first: list[str]) -> None:
+    """Two functions of one cycle are in two batches. A mutated function that calls a refused one is tried again, and a
+    batch that the prover can't read is halved."""
+    mutate(mutated, "must-fail", "one", 1)
+    mutate(mutated, "must-fail", "two", 2)
+    alone = {f"{name}-six": f"fn {name}: not proved\nfn six: proved\nonly=2 " for name in ("five", "one", "two")}
+    status, _, checks = tried(mutated, {"five-one-six": output, **alone})
+    assert (status, checks) == (0, ["five-one-six", *first, "one-six", "two-six"])

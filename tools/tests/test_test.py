@@ -8,15 +8,21 @@ from sources import ROOT
 
 # The lists of tools/parts.py, after its classes.
 LISTS = """
-BUILDS = {"sound": "echo built >> $ROOM/runs", "broken": "echo what is wrong; exit 3"}
-UNCHECKED = Programs({"MODINFO": "unchecked"}, BUILDS)
-PROVED = Programs({"MODINFO": "proved"}, BUILDS)
+BUILDS = {
+    "broken": "echo what is wrong; exit 3",
+    "linked": "echo linked >> $ROOM/runs",
+    "sound": "echo built >> $ROOM/runs",
+    "unlinked": "echo unlinked >> $ROOM/runs",
+}
+NEEDS = {"linked": "sound", "unlinked": "broken"}
+UNCHECKED = Programs({"MODINFO": "unchecked"}, BUILDS, NEEDS)
+PROVED = Programs({"MODINFO": "proved"}, BUILDS, NEEDS)
 UNCHECKED_PARTS = [
-    Part("program", "echo ${MODINFO##*/} >> $ROOM/runs", ("sound",)),
+    Part("program", "echo ${MODINFO##*/} >> $ROOM/runs", ("linked",)),
     Part("passes", "echo 'passes: nothing is passed over'; echo '# SKIP'", ("sound",)),
     Part("fails", "echo what is wrong; exit 3"),
     Part("unavailable", "exit 69"),
-    Part("unbuilt", "echo unbuilt >> $ROOM/runs", ("broken",)),
+    Part("unbuilt", "echo unbuilt >> $ROOM/runs", ("unlinked",)),
 ]
 PROVED_PARTS = [*UNCHECKED_PARTS, Part("long", "sleep 60 & echo $! > $ROOM/process; wait")]
 """
@@ -57,12 +63,12 @@ def test_all_parts(parts: Repository, processors: str) -> None:
     ]
     assert "what is wrong" in errors
     assert (parts.folder / "build/test/fails.log").read_text() == "what is wrong\n"
-    assert sorted(parts.runs()) == ["built", "unchecked"]
+    assert parts.runs() == ["built", "linked", "unchecked"]
 
 
 def test_the_proved_program(parts: Repository) -> None:
     assert lines(parts, "--proved", "program")[0] == 0
-    assert parts.runs() == ["built", "proved"]
+    assert parts.runs() == ["built", "linked", "proved"]
 
 
 def test_names(parts: Repository) -> None:

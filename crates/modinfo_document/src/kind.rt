@@ -74,12 +74,11 @@ fn read_import_decl(object: &ObjectReader<Document>) -> Result<Kind, ReadError>
         &["src", "typeOnly", "hasSpecifiers", "hasWith", "phase"],
         &mut found,
     );
-    let [src, type_only, has_specifiers, has_with, phase] = found;
-    let type_only = object.read_found_or("typeOnly", type_only, false)?;
-    let phase = object.read_found_or("phase", phase, ImportPhase::Evaluation)?;
-    let has_specifiers = object.read_found_or("hasSpecifiers", has_specifiers, false)?;
-    let has_with = object.read_found_or("hasWith", has_with, false)?;
-    let src = object.read_found("src", src)?;
+    let type_only = object.read_found_or("typeOnly", found[1], false)?;
+    let phase = object.read_found_or("phase", found[4], ImportPhase::Evaluation)?;
+    let has_specifiers = object.read_found_or("hasSpecifiers", found[2], false)?;
+    let has_with = object.read_found_or("hasWith", found[3], false)?;
+    let src = object.read_found("src", found[0])?;
     Ok(Kind::ImportDecl {
         type_only,
         phase,
@@ -111,10 +110,9 @@ fn read_export_all(object: &ObjectReader<Document>) -> Result<Kind, ReadError>
 {
     let mut found = [None; 3];
     object.find(&["src", "typeOnly", "hasWith"], &mut found);
-    let [src, type_only, has_with] = found;
-    let type_only = object.read_found_or("typeOnly", type_only, false)?;
-    let has_with = object.read_found_or("hasWith", has_with, false)?;
-    let src = object.read_found("src", src)?;
+    let type_only = object.read_found_or("typeOnly", found[1], false)?;
+    let has_with = object.read_found_or("hasWith", found[2], false)?;
+    let src = object.read_found("src", found[0])?;
     Ok(Kind::ExportAll {
         type_only,
         src,

@@ -38,9 +38,8 @@ impl FromJson<Document> for StrLit {
         let object = ObjectReader::<Document>::new(alloc, value)?;
         let mut found = [None; 2];
         object.find(&["range", "value"], &mut found);
-        let [range, text] = found;
-        let range = object.read_found("range", range)?;
-        let value = object.read_found("value", text)?;
+        let range = object.read_found("range", found[0])?;
+        let value = object.read_found("value", found[1])?;
         Ok(StrLit { value, range })
     }
 }

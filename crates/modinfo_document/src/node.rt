@@ -50,10 +50,9 @@ fn read_node(alloc: Global, value: Element<'_>) -> Result<Node, ReadError>
     let object = ObjectReader::<Document>::new(alloc, value)?;
     let mut found = [None; 3];
     object.find(&["range", "kind", "children"], &mut found);
-    let [range, kind, children] = found;
-    let range = object.read_found("range", range)?;
-    let kind = read_kind(&object, kind)?;
-    let (children, kind) = beside(read_children(alloc, &object, children), kind)?;
+    let range = object.read_found("range", found[0])?;
+    let kind = read_kind(&object, found[1])?;
+    let (children, kind) = beside(read_children(alloc, &object, found[2]), kind)?;
     Ok(Node {
         range,
         kind,

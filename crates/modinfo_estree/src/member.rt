@@ -116,8 +116,7 @@ pub fn read_range(
 {
     let mut found = [None; 3];
     members.find(&["range", "start", "end"], &mut found);
-    let [range, start, end] = found;
-    read_found_range(offsets, members, range, start, end)
+    read_found_range(offsets, members, found[0], found[1], found[2])
 }
 
 /// Like `read_range`, for members that `find` found.

@@ -36,9 +36,8 @@ fn read_node(
     let object = NodeMembers::of_members(alloc, members);
     let mut found = [None; 4];
     object.find(&["type", "range", "start", "end"], &mut found);
-    let [type_name, range, start, end] = found;
-    let name = object.read_found_str("type", type_name)?;
-    let range = read_found_range(&source.offsets, &object, range, start, end)?;
+    let name = object.read_found_str("type", found[0])?;
+    let range = read_found_range(&source.offsets, &object, found[1], found[2], found[3])?;
     let is_jsx = name == "JSXAttribute";
     let mut children = read_children(alloc, source, is_jsx, members)?.into_vec();
     sort_by_start(&mut children)?;
