@@ -15,11 +15,10 @@ import { withProjectOptions } from "modinfo-graph/internal/cli/project_options.j
 import { type GraphRun, type Run, type Values, readRun } from "modinfo-graph/internal/cli/run.js";
 import { gapsNote } from "modinfo-graph/internal/cli/shown.js";
 import { checkProgram, modinfoPath } from "modinfo-graph/internal/files/program.js";
-import { isReplaceable, placeOf, replaceFile } from "modinfo-graph/internal/files/replace_file.js";
 import { dotText, isDot } from "modinfo-graph/internal/graph/pictures.js";
 import { isReport } from "modinfo-graph/internal/graph/scripts.js";
 import { unledOf, unreachedOf } from "modinfo-graph/internal/graph/unreached.js";
-import { printable, printableLines, systemMessage } from "modinfo-graph/internal/runtime/faults.js";
+import { printable, printableLines } from "modinfo-graph/internal/runtime/faults.js";
 import { type Report, indexOf, partsOf } from "./data.js";
 import { type Library, readLibraries } from "./libraries.js";
 import { type Edge, Links, edgesOf } from "./links.js";
@@ -28,6 +27,7 @@ import { REPORT_HELP, REPORT_OPTIONS } from "./options.js";
 import { outsideOf } from "./outside.js";
 import { pageOf } from "./page.js";
 import { type Module, Project } from "./project.js";
+import { isReplaceable, placeOf, replaceFile } from "./replace_file.js";
 import type { ReadFile } from "modinfo-graph/internal/graph/read_graph.js";
 
 /** The modules of a report, and the folder around them */
@@ -53,11 +53,11 @@ async function main(words: Words<ReportValues>): Promise<number> {
   const edges = edgesOf(project.modules, links);
   if (dot !== undefined) {
     const numbers = [...project.modules.keys()];
-    await write(dot, dotText(numbers, edges, (module) => project.modules[module].path));
+    await replaceFile(dot, dotText(numbers, edges, (module) => project.modules[module].path));
   }
   const found = listsFor(project, links, edges, read);
   const libraries = readLibraries();
-  await write(output, drawPage(project, links, { edges, ...found }, libraries));
+  await replaceFile(output, drawPage(project, links, { edges, ...found }, libraries));
   const notes = gapsNote(found.gaps);
   notes.forEach((note) => process.stderr.write(`${NAME}: ${note}\n`));
   return reportAbsent(libraries) || notes.length > 0 ? 1 : read.status;
@@ -123,14 +123,6 @@ function reportAbsent(libraries: Library[]): boolean {
     process.stderr.write(`${NAME}: no ${draws}: ${printableLines(String(fault))}\n`);
   }
   return absent.length > 0;
-}
-
-async function write(path: string, text: string) {
-  try {
-    await replaceFile(path, text);
-  } catch (error) {
-    throw new Error(`${printable(path)}: ${systemMessage(error)}`);
-  }
 }
 
 await runProgram({ name: NAME, help: REPORT_HELP, options: { ...RUN_OPTIONS, ...REPORT_OPTIONS }, main });

@@ -3,10 +3,11 @@
 import { type ParseArgsConfig, parseArgs } from "node:util";
 
 import { GlobFault } from "../files/globs.js";
-import { PROGRAM_HELP, programName, readOwnFile } from "../files/program.js";
+import { PACKAGE, programName, readOwnFile } from "../files/program.js";
 import { EntryFault } from "../graph/entry_points.js";
 import { readJobs as processors } from "../runtime/call_options.js";
 import { printable, printableLines, systemMessage } from "../runtime/faults.js";
+import { PROGRAM_HELP } from "./options.js";
 
 const MOST_JOBS = 9999;
 
@@ -17,10 +18,7 @@ export type ValuesOf<Options> = {
     : Options[Name] extends { multiple: true } ? string[] : string;
 };
 
-/**
- * `options` has `RUN_OPTIONS` too; `choices` are words of options that need no value with one, after `=`; `main`
- * returns the status.
- */
+/** `choices` are words of options that need no value with one, after `=`; `main` returns the status. */
 interface Program<V> extends Required<Pick<ParseArgsConfig, "options">> {
   name: string;
   help: string;
@@ -42,7 +40,7 @@ export async function runProgram<V extends { help?: boolean, version?: boolean }
   try {
     const words = readWords(program);
     if (words.values.help) {
-      await writeOutput(help + PROGRAM_HELP);
+      await writeOutput(help + PROGRAM_HELP.replace("PACKAGE", PACKAGE));
     } else if (words.values.version) {
       const { version } = JSON.parse(readOwnFile(new URL("../../package.json", import.meta.url)));
       await writeOutput(`${name} ${version} (${printable(programName())})\n`);
@@ -86,14 +84,10 @@ export function readJobs(word: string | undefined): number {
   return Math.min(most, processors());
 }
 
+/** `isClosed` is whether the reader of the output has ended, as `head` does. */
 export class OutputFault extends Error {
-  /** Whether its reader has ended, as `head` does. */
-  readonly isClosed;
-
-  constructor(error: NodeJS.ErrnoException) {
-    super(`the standard output: ${systemMessage(error)}`);
-    this.name = "OutputFault";
-    this.isClosed = error.code === "EPIPE";
+  constructor(message: string, readonly isClosed: boolean) {
+    super(message);
   }
 }
 
@@ -132,6 +126,9 @@ export class OutputLines {
 
 export function writeOutput(text: string): Promise<void> {
   return new Promise((resolve, reject) => {
-    process.stdout.write(text, (error) => (error ? reject(new OutputFault(error)) : resolve()));
+    process.stdout.write(text, (error?: NodeJS.ErrnoException | null) => {
+      const message = error ? `the standard output: ${systemMessage(error)}` : "";
+      return error ? reject(new OutputFault(message, error.code === "EPIPE")) : resolve();
+    });
   });
 }

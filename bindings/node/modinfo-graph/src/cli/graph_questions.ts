@@ -124,8 +124,7 @@ function textOf(found: Found[], { json, known, null: isNull }: FilesValues): str
 /** JSON in which a mention has the members of its reference. */
 function jsonOf(value: unknown): string {
   return JSON.stringify(value, (_, each) => {
-    const { reference, ...rest } = each?.reference ? each : { reference: undefined };
-    return reference ? { ...rest, ...reference } : each;
+    return each?.reference ? { ...each, reference: undefined, ...each.reference } : each;
   });
 }
 

@@ -90,3 +90,8 @@ Status 0; 1 for a finding (of the first five questions, no chain, a gap in what 
 file that can't be read or parsed; 2 for a usage error, an entry that can't be read, or no file.
 
 `;
+
+/** What each help ends with, in which PACKAGE stands for the package of the program. */
+export const PROGRAM_HELP = `The program is that of the package PACKAGE; else what the environment variable MODINFO
+names; else, in the repository, the proved one; else WebAssembly, in threads: --version prints which.
+`;
