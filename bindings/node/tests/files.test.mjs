@@ -244,16 +244,18 @@ test("a full disk is an error, a reader that ends isn't", () => {
 
 test("no more files are read once the reader of the output has ended", () => {
   const files = Array.from({ length: 300 }, (_, at) => [`src/${at}.js`, ""]);
+  // After the first answer it waits until the reader has ended, and after ten more it has none.
   const folder = folderOf({ ...Object.fromEntries(files), modinfo: `#!/bin/bash
-while IFS= read -r -d '' path; do
-  echo "$path" >> counted
-  sleep 0.01
+for _ in {0..10}; do
+  IFS= read -r -d '' path || exit 0
   echo '{"specifier":"file:///a","info":{}}'
+  until [[ -e ended ]]; do sleep 0.01; done
 done
+exec cat > /dev/null
 ` });
   chmodSync(join(folder, "modinfo"), 0o755);
-  const { stdout } = shell("MODINFO=./modinfo $node $cli --jobs 1 src | head -1; wc -l < counted", folder);
-  assert.ok(Number(stdout.split("\n")[1]) < 100, stdout);
+  const { stdout } = shell("MODINFO=./modinfo $node $cli --jobs 1 src | { head -1; exec <&-; touch ended; }", folder);
+  assert.equal(linesOf(stdout).length, 1);
 });
 
 test("a program that doesn't read files is named", () => {

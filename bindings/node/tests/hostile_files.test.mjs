@@ -9,8 +9,8 @@ import { test } from "node:test";
 import { readRegularFile } from "../modinfo-graph/dist/files/regular_files.js";
 import { MODINFO, folderOf, linesOf, programOf } from "./run_commands.mjs";
 
-/** More time than any of the commands needs, so that one that never ends is a failure. */
-const TIME = 60_000;
+/** More time than any of the commands needs on any machine, so that one that never ends is a failure. */
+const TIME = 600_000;
 
 /**
  * @param {string} name

@@ -6,11 +6,12 @@ import { fileURLToPath } from "node:url";
 import {
   ProgramEnd, analyze, analyzeEstree, check, checkSource, convert, moduleInfo, reach,
 } from "modinfo";
+import { checkKnown, readSignal } from "modinfo/internal/core/input.cjs";
 import { checkProgram, modinfoPath } from "./files/program.js";
 import { readProject } from "./graph/read_graph.js";
 import { Resolver, type ResolverOptions as ResolverTask } from "./graph/resolver.js";
 import { unledOf, unreachedOf } from "./graph/unreached.js";
-import { checkKnown, checkThat, readJobs, readSignal, unlessAborted } from "./runtime/call_options.js";
+import { checkThat, readJobs, unlessAborted } from "./runtime/call_options.js";
 import type { ModuleInfo, Signal, Url } from "modinfo";
 import type { Graph, ResolvedModuleInfo } from "./graph/graph.cjs";
 import type {

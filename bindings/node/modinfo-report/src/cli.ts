@@ -8,26 +8,26 @@
 import { basename } from "node:path";
 
 import {
-  TEXT, UsageFault, type ValuesOf, type Words, readJobs, runProgram, usageOf,
+  UsageFault, type ValuesOf, type Words, readJobs, runProgram, usageOf,
 } from "modinfo-graph/internal/cli/command_line.js";
+import { RUN_OPTIONS } from "modinfo-graph/internal/cli/options.js";
 import { withProjectOptions } from "modinfo-graph/internal/cli/project_options.js";
-import {
-  ENTRY_HELP, type GraphRun, RESOLUTION_HELP, RUN_OPTIONS, type Run, readRun,
-} from "modinfo-graph/internal/cli/run.js";
+import { type GraphRun, type Run, type Values, readRun } from "modinfo-graph/internal/cli/run.js";
 import { gapsNote } from "modinfo-graph/internal/cli/shown.js";
-import { PROGRAM_HELP, checkProgram, modinfoPath } from "modinfo-graph/internal/files/program.js";
-import { isReplaceable, placeOf, replaceFile } from "modinfo-graph/internal/files/replace_file.js";
+import { checkProgram, modinfoPath } from "modinfo-graph/internal/files/program.js";
 import { dotText, isDot } from "modinfo-graph/internal/graph/pictures.js";
 import { isReport } from "modinfo-graph/internal/graph/scripts.js";
 import { unledOf, unreachedOf } from "modinfo-graph/internal/graph/unreached.js";
-import { printable, printableLines, systemMessage } from "modinfo-graph/internal/runtime/faults.js";
+import { printable, printableLines } from "modinfo-graph/internal/runtime/faults.js";
 import { type Report, indexOf, partsOf } from "./data.js";
 import { type Library, readLibraries } from "./libraries.js";
 import { type Edge, Links, edgesOf } from "./links.js";
 import { listsOf, shownCycles, shownUnreached } from "./lists.js";
+import { REPORT_HELP, REPORT_OPTIONS } from "./options.js";
 import { outsideOf } from "./outside.js";
 import { pageOf } from "./page.js";
 import { type Module, Project } from "./project.js";
+import { isReplaceable, placeOf, replaceFile } from "./replace_file.js";
 import type { ReadFile } from "modinfo-graph/internal/graph/read_graph.js";
 
 /** The modules of a report, and the folder around them */
@@ -35,36 +35,12 @@ type Listed = { folder: string, modules: Module[] };
 
 const NAME = "modinfo-report";
 
-const OPTIONS = { ...RUN_OPTIONS, output: { ...TEXT, short: "o" }, dot: TEXT };
-
-type ReportValues = ValuesOf<typeof OPTIONS>;
-
-const HELP = `usage: ${NAME} [--entry FILE ..] [-o FILE] [--dot FILE] [OPTION ..] PATH ..
-
-Writes a page that shows what the files depend on: their graph, each file's text with its
-specifiers marked, and what is unresolved, unknown, unreached or in a cycle. Example:
-  ${NAME} --entry src/main.ts -o report.html src
-
-  PATH               a file, a folder, or - for paths from the standard input, one a line. A file
-                     that is named twice appears once
-  -o, --output FILE  the page; else report.html
-  --dot FILE         also writes the graph of all modules for Graphviz
-${ENTRY_HELP}  -0, --null         paths from the standard input end with zero bytes
-${RESOLUTION_HELP}  -h, --help, --version
-
-Without --entry the page lists the modules that no other one names, in comments either. The graph
-is laid out in the browser by dagre, and the picture of sizes by d3-hierarchy, which are in the page.
-
-Status 0; 1 if a file can't be read or parsed, with a line on the error output for each, what is
-reached isn't known as a whole, or there is no graph, and the page is written all the same; 1 also if
-it can't be written; 2 for a usage error, or an output that would overwrite no earlier output.
-
-${PROGRAM_HELP}`;
+type ReportValues = Values & ValuesOf<typeof REPORT_OPTIONS>;
 
 async function main(words: Words<ReportValues>): Promise<number> {
   const { values, positionals } = withProjectOptions(words, true);
   if (positionals.length === 0) {
-    throw new UsageFault(usageOf(HELP));
+    throw new UsageFault(usageOf(REPORT_HELP));
   }
   const { output = "report.html", dot } = values;
   readJobs(values.jobs);
@@ -77,11 +53,11 @@ async function main(words: Words<ReportValues>): Promise<number> {
   const edges = edgesOf(project.modules, links);
   if (dot !== undefined) {
     const numbers = [...project.modules.keys()];
-    await write(dot, dotText(numbers, edges, (module) => project.modules[module].path));
+    await replaceFile(dot, dotText(numbers, edges, (module) => project.modules[module].path));
   }
   const found = listsFor(project, links, edges, read);
   const libraries = readLibraries();
-  await write(output, drawPage(project, links, { edges, ...found }, libraries));
+  await replaceFile(output, drawPage(project, links, { edges, ...found }, libraries));
   const notes = gapsNote(found.gaps);
   notes.forEach((note) => process.stderr.write(`${NAME}: ${note}\n`));
   return reportAbsent(libraries) || notes.length > 0 ? 1 : read.status;
@@ -149,12 +125,4 @@ function reportAbsent(libraries: Library[]): boolean {
   return absent.length > 0;
 }
 
-async function write(path: string, text: string) {
-  try {
-    await replaceFile(path, text);
-  } catch (error) {
-    throw new Error(`${printable(path)}: ${systemMessage(error)}`);
-  }
-}
-
-await runProgram({ name: NAME, help: HELP, options: OPTIONS, main });
+await runProgram({ name: NAME, help: REPORT_HELP, options: { ...RUN_OPTIONS, ...REPORT_OPTIONS }, main });

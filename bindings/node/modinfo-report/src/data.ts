@@ -34,7 +34,7 @@ export function indexOf(
     modules: modules.map(({ path }) => posix.basename(path)),
     inFolder: modules.map(({ path }) => numbers.get(posix.dirname(path)) as number),
     bytes: modules.map(({ source }) => (source === undefined ? 0 : Buffer.byteLength(source))),
-    faults: faultsOf(modules),
+    faults: Object.fromEntries(modules.flatMap(({ fault }, at) => (fault ? [[at, fault]] : []))),
     edgeCount: countEdges(edges),
     edges: flatEdges(modules.length, edges),
     entries, lists, outside, starts,
@@ -49,10 +49,6 @@ function flatEdges(count: number, edges: Edge[]): number[][] {
     flat[from].push(to, kinds.indexOf(kind), row, line);
   }
   return flat;
-}
-
-function faultsOf(modules: Module[]) {
-  return Object.fromEntries(modules.flatMap(({ fault }, at) => (fault ? [[at, fault]] : [])));
 }
 
 /** Yields the modules' texts and tables in parts of about the same size. */

@@ -14,14 +14,8 @@ const LIBRARIES = [
 /** The folder in which the package has their scripts; the repository has none. */
 const OWN = fileURLToPath(new URL("../vendor", import.meta.url));
 
-export interface Library {
-  name: string;
-  /** Its script. */
-  text?: string;
-  /** Why the script can't be read. */
-  fault?: string;
-  draws: string;
-}
+/** `text` is its script, `fault` why that can't be read */
+export type Library = { name: string, draws: string, text?: string, fault?: string };
 
 /** @param folders of the package's scripts, and of Debian's modules */
 export function readLibraries([own, debianModules] = [OWN, DEBIAN_MODULES]): Library[] {

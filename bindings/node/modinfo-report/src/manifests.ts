@@ -17,7 +17,7 @@ const MEMBERS = ["dependencies", "peerDependencies", "optionalDependencies", "de
  */
 export function versions(): (name: string, file: string | undefined, user: string) => string | undefined {
   const files = new RegularFiles();
-  files.addAllWithoutLinks();
+  files.hasAllWithoutLinks = true;
   const manifests = new PackageManifests(files);
   /** The members of the nearest package.json of a folder that has a name, else of the root's. */
   const membersOf = nearest((folder) => {

@@ -1,6 +1,6 @@
 /** What the page's script reads: the data that are written into the page, as JSON. */
 
-import type { Kind } from "modinfo-graph/internal/graph/pictures.js";
+import type { DrawnKind } from "modinfo-graph/internal/graph/pictures.js";
 import type { Fault } from "modinfo-graph/internal/runtime/faults.js";
 import type { Target } from "./links.js";
 import type { Lists } from "./lists.js";
@@ -31,12 +31,7 @@ export interface Index {
   absent: Record<string, string>;
 }
 
-export interface ShownKind {
-  kind: Kind;
-  title: string;
-  syntax: string;
-  dash: string;
-}
+export type ShownKind = Pick<DrawnKind, "kind" | "title" | "syntax" | "dash">;
 
 /** A module's text and table, which are read when the module is opened. */
 export interface Details {

@@ -3,19 +3,15 @@
 import { type ParseArgsConfig, parseArgs } from "node:util";
 
 import { GlobFault } from "../files/globs.js";
-import { programName, readOwnFile } from "../files/program.js";
+import { PACKAGE, programName, readOwnFile } from "../files/program.js";
 import { EntryFault } from "../graph/entry_points.js";
 import { readJobs as processors } from "../runtime/call_options.js";
 import { printable, printableLines, systemMessage } from "../runtime/faults.js";
+import { PROGRAM_HELP } from "./options.js";
 
 const MOST_JOBS = 9999;
 
 export class UsageFault extends Error {}
-
-/** Kinds of options, as node's `parseArgs` has them. */
-export const FLAG = { type: "boolean" } as const;
-export const TEXT = { type: "string" } as const;
-export const TEXTS = { type: "string", multiple: true } as const;
 
 export type ValuesOf<Options> = {
   [Name in keyof Options]?: Options[Name] extends { type: "boolean" } ? boolean
@@ -31,13 +27,12 @@ interface Program<V> extends Required<Pick<ParseArgsConfig, "options">> {
 }
 
 export type Words<V> = { values: V, positionals: string[] };
-type Values<V> = V & { help?: boolean, version?: boolean };
 
 /**
  * Runs a program with the words that node was started with. Status 0; 1 where something can't be
  * read or written, with a line on the error output; 2 for a usage error.
  */
-export async function runProgram<V>(program: Program<V>) {
+export async function runProgram<V extends { help?: boolean, version?: boolean }>(program: Program<V>) {
   const { name, help, main } = program;
   // A write that fails rejects its caller's promise; a message that can't be printed is lost.
   process.stdout.on("error", () => {});
@@ -45,7 +40,7 @@ export async function runProgram<V>(program: Program<V>) {
   try {
     const words = readWords(program);
     if (words.values.help) {
-      await writeOutput(help);
+      await writeOutput(help + PROGRAM_HELP.replace("PACKAGE", PACKAGE));
     } else if (words.values.version) {
       const { version } = JSON.parse(readOwnFile(new URL("../../package.json", import.meta.url)));
       await writeOutput(`${name} ${version} (${printable(programName())})\n`);
@@ -64,16 +59,15 @@ export async function runProgram<V>(program: Program<V>) {
   }
 }
 
-function readWords<V>({ help, options, choices = [] }: Program<V>): Words<Values<V>> {
+function readWords<V>({ help, options, choices = [] }: Program<V>): Words<V> {
   const words = process.argv.slice(2);
   const end = words.includes("--") ? words.indexOf("--") : words.length;
   const isChoice = (word: string, at: number) => at < end && choices.includes(word);
   const chosen = Object.fromEntries(words.filter(isChoice).map((word) => word.slice(2).split("=")));
   const args = words.map((word, at) => (isChoice(word, at) ? word.replace(/=.*/s, "") : word));
-  const all = { ...options, help: { ...FLAG, short: "h" }, version: FLAG };
   try {
-    const { values, positionals } = parseArgs({ args, options: all, allowPositionals: true });
-    return { values: { ...values, ...chosen } as Values<V>, positionals };
+    const { values, positionals } = parseArgs({ args, options, allowPositionals: true });
+    return { values: { ...values, ...chosen } as V, positionals };
   } catch (error) {
     throw new UsageFault(`${(error as Error).message.replace(/\. To specify.*$/s, "")}\n${usageOf(help)}`);
   }
@@ -90,14 +84,10 @@ export function readJobs(word: string | undefined): number {
   return Math.min(most, processors());
 }
 
+/** `isClosed` is whether the reader of the output has ended, as `head` does. */
 export class OutputFault extends Error {
-  /** Whether its reader has ended, as `head` does. */
-  readonly isClosed;
-
-  constructor(error: NodeJS.ErrnoException) {
-    super(`the standard output: ${systemMessage(error)}`);
-    this.name = "OutputFault";
-    this.isClosed = error.code === "EPIPE";
+  constructor(message: string, readonly isClosed: boolean) {
+    super(message);
   }
 }
 
@@ -136,6 +126,9 @@ export class OutputLines {
 
 export function writeOutput(text: string): Promise<void> {
   return new Promise((resolve, reject) => {
-    process.stdout.write(text, (error) => (error ? reject(new OutputFault(error)) : resolve()));
+    process.stdout.write(text, (error?: NodeJS.ErrnoException | null) => {
+      const message = error ? `the standard output: ${systemMessage(error)}` : "";
+      return error ? reject(new OutputFault(message, error.code === "EPIPE")) : resolve();
+    });
   });
 }

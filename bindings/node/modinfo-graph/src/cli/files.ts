@@ -9,45 +9,18 @@
 import { resolve as absolute } from "node:path";
 import { pathToFileURL } from "node:url";
 
-import { PROGRAM_HELP, checkProgram, modinfoPath } from "../files/program.js";
+import { checkProgram, modinfoPath } from "../files/program.js";
 import { Resolver } from "../graph/resolver.js";
 import { OutputLines, UsageFault, type Words, runProgram, usageOf } from "./command_line.js";
-import { CHECKS, FILES_OPTIONS, type FilesValues, answerQuestions, questionsOf } from "./graph_questions.js";
+import { CHECKS, type FilesValues, answerQuestions, questionsOf } from "./graph_questions.js";
+import { FILES_HELP, FILES_OPTIONS, RUN_OPTIONS } from "./options.js";
 import { withProjectOptions } from "./project_options.js";
-import { ENTRY_HELP, RESOLUTION_HELP, type Run, resolverOptions, runLines } from "./run.js";
+import { type Run, resolverOptions, runLines } from "./run.js";
 import type { FileResult } from "../files/read_files.js";
 import type { FileReporter } from "./reporter.js";
 
 type FilesWords = Words<FilesValues>;
 const NAME = "modinfo-files";
-
-const HELP = `usage: ${NAME} QUESTION .. [--entry FILE ..] [OPTION ..] PATH ..
-       ${NAME} --entry FILE .. [OPTION ..] [PATH ..]
-       ${NAME} [--resolve] [OPTION ..] PATH ..
-
-Questions; of the first five several at once, each answer below its name:
-  --cycles           modules that lead to each other; =runs: without those that types may close
-  --missing          names that lead nowhere
-  --unreached        files of PATH that no entry reaches; then those that may be reached, and why
-  --packages         packages that are imported and not listed in package.json, or the reverse
-  --forbid FROM:TO   imports of files of a glob (FROM) that lead to those of another one (TO)
-  --why FILE         a shortest chain of imports from an entry, or what may lead there
-  --dependents FILE  the files that lead to the file directly
-  --dot, --mermaid   the graph, for Graphviz or Mermaid
-Without one: the files that the entries reach; without an entry: a line of JSON for each file.
-"modinfo" in package.json can have all of these, "paths" and "known". Example:
-  ${NAME} --entry src/main.ts --unreached src
-
-  PATH               a file, a folder, or - for paths from the standard input, one a line
-${ENTRY_HELP}  -0, --null         paths that are read and printed end with zero bytes
-  --json, --known    answers as JSON; findings as "known" in package.json has them
-${RESOLUTION_HELP}  --resolve          adds "resolved" to all that names a module in lines of JSON
-  -h, --help, --version
-
-Status 0; 1 for a finding (of the first five questions, no chain, a gap in what is reached), or a
-file that can't be read or parsed; 2 for a usage error, an entry that can't be read, or no file.
-
-${PROGRAM_HELP}`;
 
 async function main(words: FilesWords): Promise<number> {
   if (isOfLines(words)) {
@@ -90,7 +63,7 @@ function checkWords({ values, positionals: paths }: FilesWords, questions: strin
   const [needy, broad] = [asked("unreached", "why"), asked("unreached", "packages")];
   const picture = asked("dot", "mermaid");
   const isOther = known && !questions.every((each) => Object.hasOwn(CHECKS, each));
-  const why = paths.length + entries.length === 0 ? usageOf(HELP)
+  const why = paths.length + entries.length === 0 ? usageOf(FILES_HELP)
     : needy && entries.length === 0 ? `--${needy} needs --entry`
     : broad && paths.length === 0 ? `--${broad} needs a PATH`
     : picture && json ? `--json and --${picture} are two forms of the graph: ask for one`
@@ -115,4 +88,5 @@ function lineOf({ path, info, fault }: FileResult, reporter: FileReporter, resol
   return `{"specifier":${JSON.stringify(specifier)},"info":${json}}\n`;
 }
 
-await runProgram({ name: NAME, help: HELP, options: FILES_OPTIONS, choices: ["--cycles=runs"], main });
+const options = { ...RUN_OPTIONS, ...FILES_OPTIONS };
+await runProgram({ name: NAME, help: FILES_HELP, options, choices: ["--cycles=runs"], main });

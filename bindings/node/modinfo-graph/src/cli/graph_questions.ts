@@ -10,19 +10,15 @@ import { packageUse } from "../graph/package_use.js";
 import { dotText, mermaidText } from "../graph/pictures.js";
 import { unreachedOf } from "../graph/unreached.js";
 import { printable } from "../runtime/faults.js";
-import { FLAG, TEXT, TEXTS, UsageFault, type ValuesOf, writeOutput } from "./command_line.js";
-import { type GraphRun, RUN_OPTIONS, type Run, readRun } from "./run.js";
+import { UsageFault, type ValuesOf, writeOutput } from "./command_line.js";
+import { type GraphRun, type Run, type Values, readRun } from "./run.js";
 import {
   byTypesLine, cycleLine, gapsNote, mayBeReachedLine, placeOf, reasonText, shown, stepLine,
 } from "./shown.js";
 import type { Cycle } from "../graph/graph.cjs";
+import type { FILES_OPTIONS } from "./options.js";
 
-export const FILES_OPTIONS = {
-  ...RUN_OPTIONS, resolve: FLAG, unreached: FLAG, cycles: FLAG, missing: FLAG, packages: FLAG, known: FLAG,
-  dot: FLAG, mermaid: FLAG, json: FLAG, forbid: TEXTS, why: TEXT, dependents: TEXT,
-};
-
-export type FilesValues = Omit<ValuesOf<typeof FILES_OPTIONS>, "cycles"> & { cycles?: boolean | "runs" };
+export type FilesValues = Values & Omit<ValuesOf<typeof FILES_OPTIONS>, "cycles"> & { cycles?: boolean | "runs" };
 type Context = GraphRun & { values: FilesValues, paths: string[] };
 /** `key` is what it is known by, which doesn't change with the lines of a file; `value` is added to `member`. */
 type Finding = { member: string, key: string, lines: string[], value: unknown };
@@ -128,8 +124,7 @@ function textOf(found: Found[], { json, known, null: isNull }: FilesValues): str
 /** JSON in which a mention has the members of its reference. */
 function jsonOf(value: unknown): string {
   return JSON.stringify(value, (_, each) => {
-    const { reference, ...rest } = each?.reference ? each : { reference: undefined };
-    return reference ? { ...rest, ...reference } : each;
+    return each?.reference ? { ...each, reference: undefined, ...each.reference } : each;
   });
 }
 

@@ -9,19 +9,17 @@ import { MAX_CONFIGURATION, readRegularFile } from "../files/regular_files.js";
 import { realPath } from "../files/urls.js";
 import { unlessThrown } from "../runtime/faults.js";
 import { UsageFault, type Words } from "./command_line.js";
+import { PROJECT_OPTIONS } from "./options.js";
 
 type Test = (value: unknown) => boolean;
-const isFlag: Test = (value) => typeof value === "boolean";
 const isText: Test = (value) => typeof value === "string";
 const isTexts: Test = (value) => Array.isArray(value) && value.every(isText);
-const isKnown: Test = (value) => {
-  return typeof value === "object" && value !== null && Object.values(value).every(isTexts);
-};
 
-const OPTIONS: Record<string, Test> = {
-  paths: isTexts, entry: isTexts, exclude: isTexts, ignore: isTexts, conditions: isTexts, forbid: isTexts,
-  tsconfig: isText, types: isFlag, "no-dynamic": isFlag, cycles: (value) => isFlag(value) || value === "runs",
-  missing: isFlag, unreached: isFlag, packages: isFlag, known: isKnown,
+/** By the kinds of options. */
+const TESTS: Record<string, Test> = {
+  text: isText, texts: isTexts, flag: (value) => typeof value === "boolean",
+  runs: (value) => typeof value === "boolean" || value === "runs",
+  known: (value) => typeof value === "object" && value !== null && Object.values(value).every(isTexts),
 };
 
 const FILES = ["paths", "entry", "tsconfig"];
@@ -57,12 +55,13 @@ function readMember(): object {
 }
 
 function valueOf(name: string, value: unknown): unknown {
-  if (!Object.hasOwn(OPTIONS, name)) {
-    const all = Object.keys(OPTIONS).join(", ");
+  if (!Object.hasOwn(PROJECT_OPTIONS, name)) {
+    const all = Object.keys(PROJECT_OPTIONS).join(", ");
     throw new UsageFault(`package.json: modinfo has no option ${name}: the options are ${all}`);
   }
-  const all = isText(value) && OPTIONS[name] === isTexts ? [value] : value;
-  if (!OPTIONS[name](all)) {
+  const kind = PROJECT_OPTIONS[name];
+  const all = isText(value) && kind === "texts" ? [value] : value;
+  if (!TESTS[kind](all)) {
     throw new UsageFault(`package.json: the option ${name} of modinfo has an invalid value`);
   }
   if (FILES.includes(name)) {

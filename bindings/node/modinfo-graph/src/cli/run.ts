@@ -7,34 +7,12 @@ import { exclusionsOf } from "../files/exclusions.js";
 import { type Found, findFiles, readPaths } from "../files/find_files.js";
 import { type FileResult, readFiles } from "../files/read_files.js";
 import { type ProjectGraph, type ReadFile, readProject } from "../graph/read_graph.js";
-import { FLAG, TEXT, TEXTS, type ValuesOf, readJobs } from "./command_line.js";
+import { type ValuesOf, readJobs } from "./command_line.js";
 import { FileReporter } from "./reporter.js";
 import type { ResolverOptions } from "../graph/resolver.js";
-
-/** The options of a program that reads many files into a graph, as node's `parseArgs` has them. */
-export const RUN_OPTIONS = {
-  all: FLAG, follow: FLAG, gitignore: FLAG, types: FLAG, "no-dynamic": FLAG, null: { ...FLAG, short: "0" },
-  jobs: TEXT, tsconfig: TEXT, entry: TEXTS, exclude: TEXTS, ignore: TEXTS, conditions: TEXTS,
-};
+import type { RUN_OPTIONS } from "./options.js";
 
 export type Values = ValuesOf<typeof RUN_OPTIONS>;
-
-export const ENTRY_HELP = `\
-  --entry FILE       where a program begins: a module, a page, or a folder with a package.json
-  --exclude GLOB     doesn't list files and folders, as "*.test.ts" or "src/**/old"; follows them
-  --ignore GLOB      neither lists them nor follows them
-  --gitignore        doesn't list what git ignores
-  --all              also what is in node_modules and in folders that begin with a dot
-  --follow           also files outside of PATH that links in it lead to
-  --jobs N           processes that parse; else one for each processor, which is the most
-`;
-export const RESOLUTION_HELP = `\
-  --types            counts types, JSDoc and references too, and not only what runs
-  --no-dynamic       doesn't count import(..)
-  --tsconfig FILE    for all files, in place of the nearest tsconfig.json
-  --conditions NAME  a condition of "exports" and "imports", as browser
-`;
-
 /** How many paths are looked up ahead of the files that are read. */
 const AHEAD = 1_000_000;
 /** The name of a command, the values of its options, and the path of `modinfo` */

@@ -1,11 +1,11 @@
 /** Which files are left out: those that globs match, and those that git ignores. */
 
 import { execFile } from "node:child_process";
-import { join, relative, resolve as absolute, sep } from "node:path";
+import { dirname, join, relative, resolve as absolute, sep } from "node:path";
 import { promisify } from "node:util";
 
 import { inherited } from "./by_folder.js";
-import { foldersOf } from "./find_files.js";
+import { isFolder } from "./find_files.js";
 import { globMatcher } from "./globs.js";
 import type { GraphOptions } from "../options.cjs";
 
@@ -20,7 +20,8 @@ type Words = Pick<GraphOptions, "exclude" | "ignore" | "gitignore">;
 /** Git decides in the repositories of the paths. @returns rejected with a `GlobFault` or a `GitFault` */
 export async function exclusionsOf(words: Words, paths: string[]): Promise<Exclusions> {
   const { exclude = [], ignore = [], gitignore = false } = words;
-  const byGit = new Set((await Promise.all((gitignore ? foldersOf(paths) : []).map(ignoredBelow))).flat());
+  const folders = new Set(gitignore ? paths.map((path) => (isFolder(path) ? path : dirname(path))) : []);
+  const byGit = new Set((await Promise.all([...folders].map(ignoredBelow))).flat());
   const isOfGit = withFolders((path) => byGit.has(path), byGit.size > 0);
   const [isNamed, isIgnored] = [exclude, ignore].map(pathMatcher);
   const isExcluded = (path: string) => isNamed(path) || isOfGit(path);

@@ -6,6 +6,7 @@ import { extname } from "node:path";
 import { DECLARATIONS, ENDINGS, MIME_TYPES } from "./media_types.js";
 import type { MediaType } from "modinfo";
 
+const testOf = (pattern: RegExp) => (path: string) => pattern.test(path);
 const COMPONENTS = ["vue", "svelte", "astro", "mdx"];
 const PAGES = ["html", "htm"];
 const TYPESCRIPT_TYPES = new Set([...DECLARATIONS.keys(), "Tsx"]);
@@ -31,10 +32,6 @@ export const isTypeScript = testOf(ofEndings("", OF_TYPESCRIPT));
 /** @param before an expression */
 function ofEndings(before: string, endings: string[]) {
   return new RegExp(`${before}\\.(?:${endings.join("|")})$`, "i");
-}
-
-function testOf(pattern: RegExp) {
-  return (path: string) => pattern.test(path);
 }
 
 /** The media type of code, by the language of a component's script: an ending, or a word of a MIME type. */

@@ -1,7 +1,7 @@
 /** Finds the files that paths name. */
 
 import { type Dirent, readdirSync, statSync } from "node:fs";
-import { dirname, join, sep } from "node:path";
+import { join, sep } from "node:path";
 
 import { FileFault, unlessThrown } from "../runtime/faults.js";
 import { isComponent, isModule, isPage } from "./file_kinds.js";
@@ -89,20 +89,16 @@ function entriesOf(folder: string, options: Options, roots: string[]): (Found | 
     if (entry.isDirectory()) {
       return all || !(name === "node_modules" || name.startsWith(".")) ? [path] : [];
     }
-    if (!isTaken(name) || !isRegular(entry, path)) {
+    const isLink = entry.isSymbolicLink();
+    // A link to nothing is an error when it is read.
+    if (!isTaken(name) || !(entry.isFile() || (isLink && (statusOf(path)?.isFile() ?? true)))) {
       return [];
     }
-    const isLink = entry.isSymbolicLink();
     const isLeft = isLink && !follow && leadsOut(path, roots);
     const real = isLink || realFolder === undefined ? undefined : beforeReal + name;
     return [{ path, real, ...(isLeft && { isLeft }), ...(isOut && { isExcluded: true }) }];
   };
   return entries.flatMap(takenOf);
-}
-
-/** Whether an entry is a regular file, or a link to one or to nothing, which is an error when it is read. */
-function isRegular(entry: Dirent, path: string) {
-  return entry.isFile() || (entry.isSymbolicLink() && (statusOf(path)?.isFile() ?? true));
 }
 
 /** Whether a link leads to a file that is below none of the roots, which are real paths. */
@@ -128,8 +124,3 @@ const statusOf = (path: string) => unlessThrown(() => statSync(path));
 export const isFolder = (path: string): boolean => statusOf(path)?.isDirectory() ?? false;
 /** @returns false also where nothing is there, or no regular file */
 export const isFile = (path: string): boolean => statusOf(path)?.isFile() ?? false;
-
-/** The folders of some paths, each once: a folder itself, and the folder of a file. */
-export function foldersOf(paths: string[]): string[] {
-  return [...new Set(paths.map((path) => (isFolder(path) ? path : dirname(path))))];
-}

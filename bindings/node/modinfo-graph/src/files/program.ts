@@ -11,14 +11,9 @@ import { compiledModule, modulePath } from "modinfo/internal/wasm_module.js";
 import { unlessThrown } from "../runtime/faults.js";
 
 /** The package that has the program for this system, where there is one. */
-const PACKAGE = `modinfo-${process.platform}-${process.arch}`;
+export const PACKAGE = `modinfo-${process.platform}-${process.arch}`;
 /** The repository, where this package is a part of it. */
 const REPOSITORY = /^(.*\/)bindings\/node\/modinfo-graph\/dist\/files\//.exec(import.meta.url)?.[1];
-
-export const PROGRAM_HELP = `\
-The program is that of the package ${PACKAGE}; else what the environment variable MODINFO
-names; else, in the repository, the proved one; else WebAssembly, in threads: --version prints which.
-`;
 
 /**
  * The absolute path of the program of the package that npm installs beside this one; else what the

@@ -102,10 +102,11 @@ const NONE: Entry = { kind: "none", path: "", isLinked: false };
 const NO_LINK = fs.constants.O_NOFOLLOW ?? 0;
 
 export class RegularFiles {
+  /** Whether all that no link leads to is inside. */
+  hasAllWithoutLinks = false;
   #entries = new Map<string, Entry>();
   #roots = new Set<string>();
   #isInside: (folder: string) => boolean = () => false;
-  #hasAll = false;
   /** Folders above a root: their own package.json and configurations count. */
   #above = new Set<string>();
 
@@ -159,14 +160,9 @@ export class RegularFiles {
     return entry;
   }
 
-  /** Takes all that no link leads to for inside. */
-  addAllWithoutLinks() {
-    this.#hasAll = true;
-  }
-
   /** Whether what a path leads to is in no folder that was added. */
   isOutside({ path, isLinked }: Entry): boolean {
-    return !((this.#hasAll && !isLinked) || this.#roots.has(path) || this.#isInside(dirname(path)));
+    return !((this.hasAllWithoutLinks && !isLinked) || this.#roots.has(path) || this.#isInside(dirname(path)));
   }
 
   /** The text of a package.json or a configuration, in a folder that was added. @throws {FileFault | Error} */

@@ -8,6 +8,7 @@ import { join, resolve as absolute } from "node:path";
 
 import { memoized } from "../files/by_folder.js";
 import { isDeclaration } from "../files/file_kinds.js";
+import { MAIN_FIELDS, PLATFORMS, REPLACING } from "./conventions.js";
 import { isPath, pathOf } from "./names.js";
 import { type Found, fileAt, firstOf } from "./node_rules.js";
 import { isObject } from "./package_targets.js";
@@ -27,11 +28,6 @@ const SCRIPT = /\.[cm]?jsx?$/;
 const QUERY = /(?!^)[?#].*$/s;
 /** What webpack's names have before the module: the loaders for it. */
 const LOADERS = /^.*!/s;
-/** What names of files for one platform alone have before their endings. */
-export const PLATFORMS = [".ios", ".android", ".native", ".web", ".windows", ".macos"];
-/** The members of a package.json that have files in the place of others, that for browsers first. */
-const REPLACING = ["browser", "react-native"];
-const MAIN_FIELDS = ["module", "main", "jsnext:main", "source", "types", "typings"];
 
 /** Whether TypeScript's files come first, and what names may have before their endings */
 export interface Source {

@@ -6,6 +6,7 @@ import { dirname, join, relative, resolve as absolute, sep } from "node:path";
 import { foldersFrom, memoized, nearest } from "../files/by_folder.js";
 import { withoutEnding } from "../files/file_kinds.js";
 import { matchesPath } from "../files/globs.js";
+import { NEVER_INCLUDED, TO_REQUIRE } from "./conventions.js";
 import { isPath, pathOf } from "./names.js";
 import {
   type Format, Notices, type PackageManifests, firstIn, isThere, membersAt, parseWithComments,
@@ -14,14 +15,10 @@ import { isObject, longestPattern } from "./package_targets.js";
 import type { RegularFiles } from "../files/regular_files.js";
 import type { Configured, ImportMaps } from "./import_maps.js";
 
-const TO_REQUIRE = ["commonjs", "amd", "umd", "system", "none"];
 const NAMES = ["tsconfig.json", "jsconfig.json"];
 const MAX_EXTENDED = 32;
 /** After how many merged configurations each is merged once, also where some extend each other in a loop. */
 const MAX_MERGED = 1000;
-const ALL = ["**/*"];
-const MODULES = "node_modules";
-const NEVER = [MODULES, "bower_components", "jspm_packages"];
 const HAS_WILDCARD_OR_EXTENSION = /[*?]|\.[^./]+$/;
 const CONFIG_DIR = /^\$\{configDir\}/i;
 
@@ -85,8 +82,8 @@ export class Configurations {
     const { options: all, members } = this.extended(path, [], { known: new Map(), count: 0 });
     const folder = dirname(path);
     const options: Options = Object.fromEntries(Object.entries(all).filter(([, value]) => value !== null));
-    const include = members.files ? [] : ALL.map((each) => join(folder, each));
-    const exclude = [...NEVER.map((each) => join(folder, each)), ...outDirsOf(options)];
+    const include = members.files ? [] : [join(folder, "**/*")];
+    const exclude = [...NEVER_INCLUDED.map((each) => join(folder, each)), ...outDirsOf(options)];
     const references = this.referencesOf(path, members.references);
     return { path, folder, options, files: [], include, exclude, ...members, references };
   });
@@ -130,7 +127,7 @@ export class Configurations {
     const folder = dirname(path);
     const [places, endings] = isPath(name)
       ? [[absolute(folder, name)], ["", ".json"]]
-      : [foldersFrom(folder).map((each) => join(each, MODULES, name)), ["", ".json", "/tsconfig.json"]];
+      : [foldersFrom(folder).map((each) => join(each, "node_modules", name)), ["", ".json", "/tsconfig.json"]];
     return places.flatMap((place) => endings.map((ending) => place + ending))
       .find((each) => isThere(each, this.files));
   }

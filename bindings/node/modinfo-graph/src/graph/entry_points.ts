@@ -7,10 +7,10 @@ import { findFiles, isFile, isFolder } from "../files/find_files.js";
 import { readRegularFile } from "../files/regular_files.js";
 import { pathOfUrl, urlOfFolder } from "../files/urls.js";
 import { unlessThrown } from "../runtime/faults.js";
+import { NODE_CONDITIONS, NO_TEXTS, OF_ENTRIES, OF_TOOLS, READERS, REPLACING } from "./conventions.js";
 import { looseImports } from "./loose_references.js";
 import { isPath, isRelative } from "./names.js";
 import { allTargets, bySubpath, exportsTarget, isObject, textsIn } from "./package_targets.js";
-import { NODE_CONDITIONS } from "./search.js";
 import type { Resolver } from "./resolver.js";
 
 /** A path that names no entry. The message is for people. */
@@ -20,26 +20,9 @@ export class EntryFault extends Error {}
 type EntryPoints = Record<"files" | "absent" | "texts", string[]> & { perhaps: Perhaps[] };
 /** What the package.json at `from` may lead to: the file at a path; without a path, what the text names. */
 export type Perhaps = { kind: "condition" | "text", path?: string, from: string, text: string };
-/** The members of a package.json that name modules, and of tools, whose files may be missing. */
-const MEMBERS = ["main", "module", "bin", "browser"];
-const OF_TOOLS = ["unpkg", "jsdelivr", "react-native", "source", "svelte", "jsnext:main"];
-
-/** The members whose texts name no modules, or name them by rules of their own. */
-const NO_TEXTS = new Set([
-  ...MEMBERS, ...OF_TOOLS, "exports", "imports", "types", "typings", "typesVersions", "files", "scripts", "name",
-  "version", "description", "keywords", "homepage", "bugs", "license", "author", "contributors", "repository",
-  "directories", "man", "engines", "workspaces", "dependencies", "devDependencies", "peerDependencies",
-  "optionalDependencies", "bundleDependencies", "bundledDependencies", "overrides", "resolutions",
-]);
-
+const TEXTLESS = new Set([...OF_ENTRIES, ...OF_TOOLS, ...NO_TEXTS]);
 const WORD = /[^\s"'`=()<>]+/g;
 const BEFORE = /^\s*(?:(?:\w+=\S*|cross-env|env|exec|npx|yarn|pnpm|bunx|time)\s+)*/;
-
-/** Commands that read files and run none of them. */
-const READERS = new Set([
-  "eslint", "jshint", "jscs", "tslint", "standard", "semistandard", "xo", "prettier", "biome", "oxlint",
-  "stylelint", "rimraf", "rm", "cp", "mv", "git",
-]);
 
 /** The entries of modules, pages, and folders with a package.json, each once. @throws {EntryFault} */
 export async function entryPoints(paths: string[], conditions: readonly string[], resolver: Resolver) {
@@ -59,7 +42,7 @@ async function ofPackage(folder: string, conditions: readonly string[], resolver
   const values = readManifest(manifest);
   const own = (member: string) => (Object.hasOwn(values, member) ? values[member] : undefined);
   const { perhaps: others, ...exported } = await exportedFiles(own("exports"), folder, conditions);
-  const [named, ofTools] = [MEMBERS, OF_TOOLS].map((all) => all.flatMap((each) => namesIn(own(each), each)));
+  const [named, ofTools] = [OF_ENTRIES, OF_TOOLS].map((all) => all.flatMap((each) => namesIn(own(each), each)));
   const names = named.length + exported.files.length + exported.absent.length > 0 ? named : ["./index"];
   const scripts = own("scripts");
   const words = Object.values(isObject(scripts) ? scripts : {}).flatMap(wordsOf);
@@ -70,7 +53,7 @@ async function ofPackage(folder: string, conditions: readonly string[], resolver
     const what = found.absent.length > 0 ? `files not found: ${found.absent.join(", ")}` : "it names no module";
     throw new EntryFault(`${manifest}: ${what}`);
   }
-  const forTools = Object.fromEntries(Object.entries(values).filter(([member]) => !NO_TEXTS.has(member)));
+  const forTools = Object.fromEntries(Object.entries(values).filter(([member]) => !TEXTLESS.has(member)));
   const texts = textsIn(forTools).filter((text) => /[/*]/.test(text));
   const perhaps: Perhaps[] = [
     ...others.map((each) => ({ ...each, kind: "condition" as const, path: absolute(each.path), from })),
@@ -113,14 +96,14 @@ function readManifest(path: string): Record<string, unknown> {
 
 /** The modules that a member of a package.json names; what `browser` has in the place of others is no entry. */
 function namesIn(value: unknown, member: string): string[] {
-  const texts = isObject(value) && ["browser", "react-native"].includes(member) ? [] : textsIn(value);
+  const texts = isObject(value) && REPLACING.includes(member) ? [] : textsIn(value);
   return texts.filter((name) => !isDeclaration(name) && (isModule(name) || !/\.\w+$/.test(name))).map(asPath);
 }
 
 function wordsOf(line: unknown): string[] {
   const commands = typeof line === "string" ? line.split(/[;&|]+/) : [];
   const words = commands.map((command) => command.replace(BEFORE, "").match(WORD) ?? [])
-    .flatMap(([name = "", ...others]) => (READERS.has(name) ? [] : [name, ...others]));
+    .flatMap(([name = "", ...others]) => (READERS.includes(name) ? [] : [name, ...others]));
   return words.filter((word) => isModule(word) || /^[\w.-]+\/[\w./-]*\w$/.test(word)).map(asPath);
 }
 

@@ -118,6 +118,7 @@ const AMD = String.raw`\b(?:define|require|requirejs)\s*\(\s*`;
 /** The parenthesis of a call, with type arguments before. */
 const TYPED_CALL = String.raw`\s*(?:<[^;]{0,100}?>\s*)?\(`;
 
+const pattern = (...parts: string[]) => new RegExp(parts.join(""), "g");
 const CALLS: [call: RegExp, what: What][] = [
   [/\bnew\s+URL\s*\(/g, { kind: "new URL", isFile: true }],
   [/\bnew\s+(?:Shared)?Worker\s*\(/g, { kind: "new Worker", isFile: true }],
@@ -143,10 +144,6 @@ const ANY_CALL = new RegExp([
   String.raw`\b(?:URL|Worker|SharedWorker|meta|resolve|context|jest|vi|vitest|__dirname|fork|addModule)\b`,
   String.raw`\b(?:register|importScripts|define|requirejs|require-(?:dir|directory|all))\b|\brequire\s*\(\s*\[`,
 ].join("|"));
-
-function pattern(...parts: string[]) {
-  return new RegExp(parts.join(""), "g");
-}
 
 export function looseCalls(text: string): LooseReference[] {
   return text.length <= LONGEST_TEXT && ANY_CALL.test(text)

@@ -12,11 +12,7 @@ import { type Counted, counts, edgesOf } from "./references.js";
 import type { Cycle, Edge, Ends, GraphModule, Mention, Reference, Step } from "./graph.cjs";
 
 export class ModuleGraph {
-  constructor(private readonly counted: Counted, private readonly byKey: Map<string, GraphModule>) {}
-
-  get hasTypes() {
-    return this.counted.types ?? false;
-  }
+  constructor(readonly counted: Counted, private readonly byKey: Map<string, GraphModule>) {}
 
   get modules(): GraphModule[] {
     return [...this.byKey.values()];

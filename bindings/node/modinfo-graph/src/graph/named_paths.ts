@@ -9,7 +9,7 @@ import { basename, dirname, join, relative, resolve as absolute } from "node:pat
 import { compiledPath, isModule, isPage, withoutEnding } from "../files/file_kinds.js";
 import { globMatcher, matchesItems } from "../files/globs.js";
 import { unlessThrown } from "../runtime/faults.js";
-import { PLATFORMS } from "./bundler_rules.js";
+import { PLATFORMS, SERVED } from "./conventions.js";
 import { type LooseReference, type Parts, plainGlob } from "./loose_references.js";
 import { isPath, isRelative, tailOf } from "./names.js";
 import type { Resolver } from "./resolver.js";
@@ -20,8 +20,6 @@ export type Among = { candidates: Candidates, resolver: Resolver };
 const ANY = "**";
 /** What jest writes for the folder of its configuration. */
 const ROOT_DIR = /^<rootDir>\//;
-/** The folders that a server may have for its root, in the folder of a package. */
-const SERVED = ["", "public", "static"];
 
 /** The files that a string literal, a call or a tag in the file at a path names. */
 export function filesNamed(from: string, { kind, parts, form, isFile }: LooseReference, among: Among): string[] {

@@ -2,22 +2,17 @@
 
 import { join, resolve as absolute } from "node:path";
 
-const PATH = /^(?:\/|\.{1,2}(?:\/|$))/;
-const RELATIVE = /^\.{1,2}(?:\/|$)/;
-const ALIAS = /^(?:@\/|@@|[~$#]|virtual:)/;
-const FOLDER = /(?:^|\/)\.{0,2}$/;
-const SCHEME = /^([a-z][a-z0-9+.-]+):/i;
 const PACKAGE = /^(@[^/]*\/[^/]*|[^@/][^/]*)(\/.*)?$/s;
 const NO_PACKAGE = /^\.|[%\\?#]/;
 /** Whether a name is a path: `/a`, `./a`, `../a`, `.` or `..`. */
-export const isPath = (name: string): boolean => PATH.test(name);
+export const isPath = (name: string): boolean => /^(?:\/|\.{1,2}(?:\/|$))/.test(name);
 /** Whether a name is a path that doesn't begin with a slash. */
-export const isRelative = (name: string): boolean => RELATIVE.test(name);
+export const isRelative = (name: string): boolean => /^\.{1,2}(?:\/|$)/.test(name);
 /** Whether a name can be no package's, but one of a bundler's alias: `@/a`, `~/a`, `$a/b`, `#a`, `virtual:a`. */
-export const isAlias = (name: string): boolean => ALIAS.test(name);
+export const isAlias = (name: string): boolean => /^(?:@\/|@@|[~$#]|virtual:)/.test(name);
 /** Whether a `require` never takes a file for a name. */
-export const isFolderName = (name: string): boolean => FOLDER.test(name);
-export const schemeOf = (name: string): string | undefined => SCHEME.exec(name)?.[1].toLowerCase();
+export const isFolderName = (name: string): boolean => /(?:^|\/)\.{0,2}$/.test(name);
+export const schemeOf = (name: string) => /^([a-z][a-z0-9+.-]+):/i.exec(name)?.[1].toLowerCase();
 
 /** @returns what follows the first slash of a bare name; without one, the name without marks at its beginning */
 export function tailOf(name: string): string {

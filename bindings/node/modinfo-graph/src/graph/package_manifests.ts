@@ -3,6 +3,7 @@
 import { basename, dirname, extname, join } from "node:path";
 
 import { inherited, memoized, nearest } from "../files/by_folder.js";
+import { PROJECT_FILES } from "./conventions.js";
 import { isObject } from "./package_targets.js";
 import type { RegularFiles } from "../files/regular_files.js";
 
@@ -117,8 +118,7 @@ export class PackageManifests {
   }
 }
 
-/** What the folder of a project may have; that of a repository is never passed. */
-const MARKS = ["package.json", "deno.json", "deno.jsonc", "tsconfig.json", "jsconfig.json", "pnpm-workspace.yaml"];
+/** What the folder of a repository has, which is never passed. */
 const REPOSITORY = [".git", ".hg"];
 const PACKAGES = ["node_modules"];
 /** The folder of a project, and whether no more of it may be above that folder */
@@ -134,7 +134,7 @@ export function projectsOf(files: RegularFiles): (folder: string) => Project {
     if (has(REPOSITORY)) {
       return { project, isWhole: true };
     }
-    const isMarked = !above.isWhole && has(MARKS);
+    const isMarked = !above.isWhole && has(PROJECT_FILES);
     return isMarked || (!above.isWhole && has(PACKAGES)) ? { project, isWhole: isMarked } : above;
   });
 }

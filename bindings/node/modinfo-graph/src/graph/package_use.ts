@@ -11,6 +11,7 @@ import { globalFolders } from "../files/file_kinds.js";
 import { RegularFiles, readRegularFile } from "../files/regular_files.js";
 import { urlOfPath } from "../files/urls.js";
 import { unlessThrown } from "../runtime/faults.js";
+import { CONFIGURATION_FOLDERS, NO_CONFIGURATION } from "./conventions.js";
 import { packageOf, typesOf } from "./names.js";
 import { PackageFolders } from "./package_folders.js";
 import { LISTS, type Manifest, PackageManifests, packagesIn, projectsOf } from "./package_manifests.js";
@@ -52,7 +53,7 @@ export function packageUse(graph: ModuleGraph, project: { pages: string[], paths
 
 function listings() {
   const files = new RegularFiles();
-  files.addAllWithoutLinks();
+  files.hasAllWithoutLinks = true;
   const manifests = new PackageManifests(files);
   const projectOf = projectsOf(files);
   const inFolder: (folder: string) => Manifest[] = memoized((folder) => {
@@ -118,17 +119,10 @@ function packageNamed({ specifier = "", resolved }: Reference, path: string, lis
 type PackageReason = { kind: "types" | "bin" | "configuration" | "peer" | "text", file: string, text?: string };
 type Text = { file: string, text: string };
 const MAX_BYTES = 2 ** 20;
-/** Files that may configure a tool, files of them that only list packages, and the folders with both. */
+/** Files that may configure a tool, and files of them that only list packages. */
 const CONFIGURATION = /^\.|rc$|config|\.(?:jsonc?|ya?ml|toml)$|^(?:Make|Docker|Just|Proc)file/;
 const LOCK = /^(?:package\.json|package-lock\.json|npm-shrinkwrap\.json|pnpm-lock\.yaml|\.package-lock\.json)$/;
-const FOLDERS = ["", ".config", ".github/workflows", ".husky", ".storybook"];
 const STYLES = /\.(?:css|scss|sass|less)$/;
-
-const OTHERS = new Set([
-  "name", "version", "description", "keywords", "license", "author", "files", "scripts", "dependencies",
-  "devDependencies", "peerDependencies", "peerDependenciesMeta", "optionalDependencies", "overrides",
-  "resolutions", "modinfo",
-]);
 
 /** A package that configurations name without its tool, as `eslint-plugin-react` and `@babel/preset-env`. */
 const OF_TOOL = /^(?:(@([^/]+))\/)?(?:([a-z]+)-)?(?:plugin|config|preset)(?:-(.+))?$/;
@@ -189,8 +183,8 @@ function textNaming(name: string, texts: Text[]): string | undefined {
 }
 
 function configurations({ folder, path, members }: Manifest, files: RegularFiles): Text[] {
-  const own = Object.entries(members).filter(([member]) => !OTHERS.has(member));
-  const named = FOLDERS.map((each) => join(folder, each)).flatMap((each) => {
+  const own = Object.entries(members).filter(([member]) => !NO_CONFIGURATION.includes(member));
+  const named = CONFIGURATION_FOLDERS.map((each) => join(folder, each)).flatMap((each) => {
     return files.namesIn(each, "file").filter((name) => CONFIGURATION.test(name) && !LOCK.test(name))
       .map((name) => join(each, name));
   });

@@ -1,7 +1,7 @@
 /** A graph in the languages of programs that draw, and how each kind of dependencies is drawn. */
 
 export type Kind = "static" | "dynamic" | "type" | "require" | "jsdoc" | "pragma";
-type DrawnKind = { kind: Kind } & Record<"title" | "syntax" | "light" | "dark" | "dash" | "dot", string>;
+export type DrawnKind = { kind: Kind } & Record<"title" | "syntax" | "light" | "dark" | "dash" | "dot", string>;
 
 /** The members of each kind in the order of the type, and the kinds in that of the legend. */
 const ROWS: [Kind, ...string[]][] = [

@@ -138,9 +138,7 @@ export class Resolver {
     if (project !== undefined) {
       this.files.addProject(project);
     }
-    if (!isWhole) {
-      this.files.addAllWithoutLinks();
-    }
+    this.files.hasAllWithoutLinks ||= !isWhole;
   });
 
   private resolution(named: Pick<Named, "specifier" | "syntax" | "mode">, importer: Importer): Resolution {

@@ -29,6 +29,7 @@ const DECLARATION = /^(?:import|export)(?=[\s{*"'])/;
 /** Those of a page, and those of MDX. */
 const COMMENTS = [/<!--[^]*?(-->|$)/g, /\{\/\*[^]*?(\*\/\}|$)/g];
 const REPORT = /^<!DOCTYPE html>\n<html lang="en">\n[^]{0,1000}<title>Dependencies of /;
+export const isReport = (text: string): boolean => REPORT.test(text);
 /** The media types of the scripts that have no word for it. */
 const STANDARD = new Map<string, MediaType>([[".astro", "TypeScript"], [".mdx", "Jsx"]]);
 
@@ -113,8 +114,6 @@ function blocksOf(text: string): Range[] {
 function withoutComments(text: string, comments: RegExp): string {
   return text.replace(comments, (comment, end) => (end === "" ? comment : comment.replace(/[^\n]/g, " ")));
 }
-
-export const isReport = (text: string): boolean => REPORT.test(text);
 
 /** Returns what finds the line and character, from zero, of an offset in UTF-16 units, ascending ones quickest. */
 export function positionsIn(text: string): (offset: number) => [number, number] {
@@ -218,8 +217,12 @@ export async function readComponent(path: string, infoOf: ReturnType<typeof text
     const read = await Promise.allSettled(scripts.map((each) => infoOf(each.text, url, each.mediaType)));
     const infos = read.flatMap((each) => (each.status === "fulfilled" ? [each.value] : []));
     const [fault] = read.flatMap((each) => (each.status === "rejected" ? [faultOf(each.reason)] : []));
-    const named = dependenciesOf(text, sources, isPage(path));
-    return { value: merged([{ dependencies: named }, ...infos]), ...(fault && { fault }) };
+    const positionOf = positionsIn(text);
+    const dependencies = sources.map(({ name, start, end }): DependencyDescriptor & { isUrl?: boolean } => ({
+      type: "static", kind: "import", sideEffect: true, specifier: name,
+      specifierRange: [positionOf(start), positionOf(end)], ...(isPage(path) && { isUrl: true }),
+    }));
+    return { value: merged([{ dependencies }, ...infos]), ...(fault && { fault }) };
   } catch (error) {
     return { fault: faultOf(error instanceof RangeError ? new FileFault("Input", error.message) : error) };
   }
@@ -230,15 +233,6 @@ function merged(infos: ModuleInfo[]): ModuleInfo {
   const single = SINGLE.map((name) => [name, infos.find((info) => info[name])?.[name]] as const);
   return Object.fromEntries([...lists, ...single].filter(([, value]) => {
     return Array.isArray(value) ? value.length > 0 : value;
-  }));
-}
-
-/** @param isUrl whether sources, which are in the order of the text, are URLs and not names of modules */
-function dependenciesOf(text: string, sources: Source[], isUrl: boolean): DependencyDescriptor[] {
-  const positionOf = positionsIn(text);
-  return sources.map(({ name, start, end }) => ({
-    type: "static", kind: "import", sideEffect: true, specifier: name,
-    specifierRange: [positionOf(start), positionOf(end)], ...(isUrl && { isUrl }),
   }));
 }
 

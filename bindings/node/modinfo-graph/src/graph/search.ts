@@ -10,6 +10,7 @@ import { dirname, join, relative, resolve as absolute } from "node:path";
 import { isDeclaration, isTypeScript, withoutEnding } from "../files/file_kinds.js";
 import { pathOfUrl, urlOfFolder } from "../files/urls.js";
 import { BundlerRules, type Source, plainNames } from "./bundler_rules.js";
+import { BUILT, BUNDLER_CONDITIONS, NODE_CONDITIONS } from "./conventions.js";
 import { isPath, isRelative, packageOf, pathOf, schemeOf, typesOf } from "./names.js";
 import { type Found, type Missing, NONE, NodeRules, firstOf } from "./node_rules.js";
 import { PackageFolders, Workspaces } from "./package_folders.js";
@@ -39,18 +40,6 @@ export interface Importer extends Source {
   known: Map<string, Resolution>;
 }
 
-/** The conditions of `exports` and `imports` that node sets, for both modes. */
-export const NODE_CONDITIONS = ["node", "node-addons", "module-sync"];
-
-/** Those that a compiler or a bundler may set, and node doesn't. */
-const BUNDLER_CONDITIONS = [
-  ...NODE_CONDITIONS, "import", "require", "module", "browser", "worker", "deno", "bun", "source", "development",
-  "production", "types",
-];
-
-/** The names of folders with what is compiled or bundled. */
-const OUTPUTS = new Set(["dist", "build", "out", "output", "lib", "es", "esm", "cjs", "umd", "types", "typings"]);
-
 export class Search {
   private readonly packages;
   private readonly node;
@@ -78,7 +67,7 @@ export class Search {
     this.bundler = new BundlerRules(files, manifests, this.isBrowser ? ["browser"] : []);
     this.node = rules(NODE_CONDITIONS);
     this.importAsRequire = rules(NODE_CONDITIONS, "import");
-    this.anyCondition = rules(BUNDLER_CONDITIONS);
+    this.anyCondition = rules([...NODE_CONDITIONS, ...BUNDLER_CONDITIONS]);
   }
 
   find(named: Name, importer: Importer): Run {
@@ -152,7 +141,7 @@ export class Search {
     const { folder = path } = this.manifests.scopeOfFile(path) ?? {};
     const isBelow = path.startsWith(`${folder}/`);
     const [output, ...names] = isBelow ? withoutEnding(relative(folder, path)).split("/") : [""];
-    const isMeant = OUTPUTS.has(output) && !(isMissing && this.files.at(join(folder, output)).kind !== "none");
+    const isMeant = BUILT.includes(output) && !(isMissing && this.files.at(join(folder, output)).kind !== "none");
     return isMeant
       ? names.flatMap((_, at) => folders.map((each) => absolute(folder, each, ...names.slice(at))))
       : [];

@@ -12,6 +12,7 @@ import { globMatcher } from "../files/globs.js";
 import { readRegularFile } from "../files/regular_files.js";
 import { urlOfPath } from "../files/urls.js";
 import { unlessThrown } from "../runtime/faults.js";
+import { LOADED } from "./conventions.js";
 import { type Parts, commentsOf, literalOf, literalsOf, looseCalls, looseImports } from "./loose_references.js";
 import { type Among, Candidates, filesNamed } from "./named_paths.js";
 import { isAlias, isRelative, tailOf } from "./names.js";
@@ -27,12 +28,13 @@ import type { Resolver } from "./resolver.js";
 export function unreachedOf(graph: ModuleGraph, listed: string[], project: Project): Unreached {
   const { entries } = project;
   const reached = graph.reached(entries);
-  const assets = graph.hasTypes ? assetsOf(graph, reached) : new Set();
+  const references = graph.counted.types ? [...reached].flatMap((key) => graph.module(key)?.references ?? []) : [];
+  const assets = new Set(references.flatMap(({ resolved }) => (resolved.class === "asset" ? resolved.file : [])));
   const isReached = (key: string) => {
     return [key, ...describedBeside(key)].some((each) => reached.has(each) || assets.has(each));
   };
   const asked = [...new Set(listed)].filter((key) => {
-    return (graph.hasTypes || !isDeclaration(key)) && !isReached(key) && graph.module(key);
+    return (graph.counted.types || !isDeclaration(key)) && !isReached(key) && graph.module(key);
   });
   const reasons = asked.length > 0 ? reasonsOf(graph, reached, project, [...reached]) : new Map<string, Reason>();
   return classed(asked, reasons, typeMentions(graph, [...entries, ...reasons.keys()]));
@@ -60,11 +62,6 @@ function classed(asked: string[], reasons: Map<string, Reason>, byTypes: Mention
     }
   }
   return found;
-}
-
-function assetsOf(graph: ModuleGraph, reached: Set<string>): Set<string> {
-  const references = [...reached].flatMap((key) => graph.module(key)?.references ?? []);
-  return new Set(references.flatMap(({ resolved }) => (resolved.class === "asset" ? resolved.file : [])));
 }
 
 type Mentions = (key: string) => Mention | undefined;
@@ -129,13 +126,16 @@ export function reasonsOf(
 }
 
 function* ofConventions(keys: string[], { resolver, isOpen }: Search): Generator<Hint, void> {
-  const loaderIn = memoized((manifest: Manifest) => loaderOf(packagesIn(manifest, LISTS)));
+  const loadersIn = memoized((manifest: Manifest) => packagesIn(manifest, LISTS).map((name) => {
+    return { name, globs: (LOADED.get(name) ?? []).map(globMatcher) };
+  }));
   for (const key of keys.filter(isOpen)) {
     const path = fileURLToPath(key);
     const manifest = resolver.manifests.scopeOfFile(path);
-    const text = manifest && loaderIn(manifest)(relative(manifest.folder, path));
-    if (text) {
-      yield { keys: [key], kind: "convention", module: urlOfPath(manifest.path), text };
+    const from = relative(manifest?.folder ?? "", path);
+    const loader = manifest && loadersIn(manifest).find(({ globs }) => globs.some((matches) => matches(from)));
+    if (loader) {
+      yield { keys: [key], kind: "convention", module: urlOfPath(manifest.path), text: loader.name };
     }
   }
 }
@@ -196,7 +196,9 @@ function* ofText(key: string, search: Search): Generator<Hint, void> {
   const isParsed = search.graph.module(key) !== undefined && !fault;
   const isScript = isPage(path) || isComponent(path) || extname(path) === "";
   const kind = fault ? "fault" : isScript ? "script" : "ignored";
-  const text = textOf(path);
+  const whole = unlessThrown(() => String(readRegularFile(path))) ?? "";
+  // The scripts of an earlier report are no part of the project.
+  const text = isReport(whole) ? "" : searchedText(whole, path);
   const positionOf = positionsIn(text);
   let isOther: ReturnType<typeof otherLiterals> | undefined;
   for (const loose of [...(isParsed ? looseCalls(text) : looseImports(text, kind)), ...literalsOf(text)]) {
@@ -218,34 +220,3 @@ function otherLiterals(text: string, references: Reference[]) {
 }
 
 const shown = (parts: Parts) => parts.map((each) => each ?? "${..}").join("");
-
-function textOf(path: string): string {
-  const text = unlessThrown(() => String(readRegularFile(path))) ?? "";
-  // The scripts of an earlier report are no part of the project.
-  return isReport(text) ? "" : searchedText(text, path);
-}
-
-/** Globs of paths from the folder of the package.json, by the names of packages. */
-const LOADED = new Map([
-  ["next", [
-    "{,src/}pages/**", "{,src/}{middleware,instrumentation,proxy}.*", "next.config.*",
-    "{,src/}app/**/{page,layout,template,loading,error,global-error,not-found,default}.*",
-    "{,src/}app/**/{route,sitemap,robots,icon}.*",
-  ]],
-  ["nuxt", [
-    "{,app/}{pages,layouts,middleware,plugins,components,composables,utils}/**", "server/**",
-    "{,app/}{app,error}.vue", "nuxt.config.*",
-  ]],
-  ["@sveltejs/kit", [
-    "src/routes/**/+*", "src/{hooks,hooks.server,hooks.client,service-worker}.*", "src/params/**",
-  ]],
-  ["astro", ["src/pages/**", "src/{middleware,content.config}.*", "src/content/**", "astro.config.*"]],
-  ["@remix-run/dev", ["app/{root,entry.client,entry.server}.*", "app/routes/**"]],
-  ["gatsby", ["src/pages/**", "gatsby-*"]],
-]);
-
-/** Returns which of the packages that a package.json lists loads the file at a path from its folder. */
-export function loaderOf(packages: string[]): (path: string) => string | undefined {
-  const loaders = packages.map((name) => ({ name, all: (LOADED.get(name) ?? []).map(globMatcher) }));
-  return (path) => loaders.find(({ all }) => all.some((matches) => matches(path)))?.name;
-}

@@ -4,8 +4,6 @@ import os from "node:os";
 
 import type { Signal } from "modinfo/internal/types/calls.cjs";
 
-export { checkKnown, readSignal } from "modinfo/internal/core/input.cjs";
-
 /** @throws {TypeError} */
 export function checkThat(isMet: unknown, message: string): asserts isMet {
   if (!isMet) {

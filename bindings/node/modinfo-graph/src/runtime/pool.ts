@@ -140,35 +140,31 @@ const LINE_FEED = 0x0a;
 /** `read` returns the answer on a line of the output; nothing where it is none. */
 type Command = { program: string, words: string[], read: (line: Buffer) => Answer | undefined };
 
-export function processesOf(command: Command): Kind {
-  return { name: command.program, start: (events) => startProcess(command, events) };
-}
-
-function startProcess({ program, words, read }: Command, { onAnswer, onEnd }: Events): Lane {
-  const child = spawn(program, words);
-  const { stdin, stdout, stderr } = child;
-  let errors = "";
-  child.on("error", ({ message }) => child.pid || onEnd(message, true));
-  child.once("close", (status, signal) => {
-    onEnd(`ended ${signal ? `by ${signal}` : `with status ${status}`}${errors.trim() && `: ${errors.trim()}`}`);
-  });
-  if (child.pid) {
-    // The error of a write is less helpful than how the process ends.
-    stdin.on("error", () => {});
-    stderr.setEncoding("utf8").on("data", (text) => (errors = (errors + text).slice(-KEPT_ERRORS)));
-    readLines(stdout, (line) => {
-      const answer = read(line);
-      if (!answer || !onAnswer(answer)) {
-        // Which answer belongs to which request isn't known any more.
-        child.kill("SIGKILL");
-        onEnd(`printed an invalid answer: ${line.toString().slice(0, 100)}`);
-      }
+export function processesOf({ program, words, read }: Command): Kind {
+  const start = ({ onAnswer, onEnd }: Events): Lane => {
+    const child = spawn(program, words);
+    const { stdin, stdout, stderr } = child;
+    let errors = "";
+    child.on("error", ({ message }) => child.pid || onEnd(message, true));
+    child.once("close", (status, signal) => {
+      onEnd(`ended ${signal ? `by ${signal}` : `with status ${status}`}${errors.trim() && `: ${errors.trim()}`}`);
     });
-  }
-  return {
-    send: (text) => stdin?.write(text),
-    kill: () => child.kill("SIGKILL"),
+    if (child.pid) {
+      // The error of a write is less helpful than how the process ends.
+      stdin.on("error", () => {});
+      stderr.setEncoding("utf8").on("data", (text) => (errors = (errors + text).slice(-KEPT_ERRORS)));
+      readLines(stdout, (line) => {
+        const answer = read(line);
+        if (!answer || !onAnswer(answer)) {
+          // Which answer belongs to which request isn't known any more.
+          child.kill("SIGKILL");
+          onEnd(`printed an invalid answer: ${line.toString().slice(0, 100)}`);
+        }
+      });
+    }
+    return { send: (text) => stdin?.write(text), kill: () => child.kill("SIGKILL") };
   };
+  return { name: program, start };
 }
 
 function readLines(stream: NodeJS.ReadableStream, onLine: (line: Buffer) => void) {

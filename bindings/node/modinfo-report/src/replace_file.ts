@@ -5,8 +5,9 @@ import { constants, statSync } from "node:fs";
 import { chmod, open, rename, rm, writeFile } from "node:fs/promises";
 import { basename, dirname, join, resolve as absolute } from "node:path";
 
-import { readBeginning } from "./regular_files.js";
-import { realPath } from "./urls.js";
+import { readBeginning } from "modinfo-graph/internal/files/regular_files.js";
+import { realPath } from "modinfo-graph/internal/files/urls.js";
+import { printable, systemMessage } from "modinfo-graph/internal/runtime/faults.js";
 
 const BEGINNING = 4096;
 
@@ -14,9 +15,15 @@ const BEGINNING = 4096;
  * Writes a file under another name in its folder, and renames it. A link stays, and the file that it leads to
  * is replaced. What is there and is no regular file, as a device or a FIFO, is written to; a FIFO that nobody
  * reads is an error.
- * @returns rejected with the system's error
+ * @returns rejected with an error for people
  */
 export async function replaceFile(path: string, text: string): Promise<void> {
+  await replace(path, text).catch((error) => {
+    throw new Error(`${printable(path)}: ${systemMessage(error)}`);
+  });
+}
+
+async function replace(path: string, text: string) {
   const status = statSync(path, { throwIfNoEntry: false });
   if (status && !status.isFile()) {
     // Opened so, a FIFO isn't waited for: without a reader there is an error.
