@@ -2,6 +2,7 @@ pub mod ClaimedPieces
 pub mod Walks
 pub mod Plains
 pub mod PlainBytes
+pub mod PlainElements
 pub mod Gaps
 pub mod Gone
 pub mod Ordinary

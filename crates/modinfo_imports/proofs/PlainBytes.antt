@@ -125,9 +125,10 @@ pub byte-turn : (text : List ℕ) (plain : Plain) (byte end : ℕ) (before : Bef
 unfolding sight_of duty_after
 byte-turn text plain byte end before in_element around new_around parentheses new_parentheses at kind_is in_is
     around_is before_is star method parentheses_is =
-    plain-turn text plain Punctuation end before asks.Nothing in_element around new_around parentheses
+    plain-turn false text plain Punctuation end before asks.Nothing in_element around new_around parentheses
     new_parentheses (omega (arith, at.end_is)) at.within refl refl (λ context so_far. refl) in_is kind_is
-    (ap Some at.end_is) (rw at.byte_is around_is) (rw at.byte_is before_is) refl (rw at.byte_is star)
+    (ap Some at.end_is) (λ outside. rw at.byte_is around_is) (λ outside. rw at.byte_is before_is) refl
+    (rw at.byte_is star)
     (λ is_typed watch unclaimed. rw (at.byte_is, method) refl) (rw at.byte_is parentheses_is)
 
 -- A byte that changes an opening or a parenthesis, or that a duty asks for.
@@ -451,11 +452,10 @@ pub string-turn : (text : List ℕ) (plain : Plain) (quote end : ℕ) (around : 
     parentheses parentheses
 unfolding sight_of duty_after
 string-turn text plain quote end around parentheses is less is_a_quote code closes on within =
-    plain-turn text plain kinds.String end Value asks.Nothing false around around parentheses parentheses on
+    plain-turn false text plain kinds.String end Value asks.Nothing false around around parentheses parentheses on
     within refl refl (λ context so_far. refl) (λ outside. sym outside)
     (λ outside past. kind-of_string text plain around quote is less is_a_quote code outside) (rw is closes)
-    refl
-    refl refl refl (λ is_typed watch unclaimed. refl) refl
+    (λ outside. refl) (λ outside. refl) refl refl (λ is_typed watch unclaimed. refl) refl
 
 -- White space is a piece.
 pub kind-of_space : (text : List ℕ) (plain : Plain) (around : List Opening)

@@ -9,6 +9,7 @@ pub mod find;
 pub mod keyword;
 pub mod nodes;
 pub mod plain;
+pub mod plain_element;
 pub mod plain_piece;
 mod spans;
 pub mod watch;

@@ -50,6 +50,7 @@ ghost use Rattle.modinfo_pieces.specs.declared.place.Opening.{Opening};
 use crate::duty::{Duty, Parentheses};
 use crate::keyword::{Keyword, keyword_of};
 use crate::plain::{Asked, Plain};
+use crate::plain_element::is_element;
 use crate::watch::{is_brace, is_member};
 use modinfo_pieces::befores::{
     before_after_bang, before_after_dot, before_after_gap, before_after_minus,
@@ -66,9 +67,9 @@ use modinfo_pieces::scan::words::word_end;
 use modinfo_pieces::word_classes::class_after;
 use std::alloc::AllocError;
 
-/// Returns the place after the plain piece at a place, if there is one.
+/// Returns the place after the plain piece at a place outside of an element's text, if there is one.
 #[inline(always)]
-pub fn next_plain(
+pub fn next_in_code(
     text: &[u8],
     plain: Plain,
     around: &mut Openings,
@@ -130,7 +131,7 @@ fn after_punctuation(
 
 /// Returns the place after a token that asks for this duty.
 #[inline(always)]
-fn after_token(
+pub fn after_token(
     plain: Plain,
     kind: PieceKind,
     end: usize,
@@ -461,17 +462,6 @@ fn is_parenthesis(inside: Opening) -> bool
 {
     match inside {
         Opening::Parenthesis | Opening::HeadParenthesis => true,
-        _ => false,
-    }
-}
-
-/// Returns whether an opening is that of an element's text.
-#[inline(always)]
-pub fn is_element(inside: Opening) -> bool
-    ensures { result ≡ is_element inside }
-{
-    match inside {
-        Opening::Element => true,
         _ => false,
     }
 }
