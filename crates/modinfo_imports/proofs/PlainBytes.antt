@@ -27,6 +27,7 @@ use Rattle.modinfo_pieces.specs.Spaces.{is_ascii_space, space_size}
 use Rattle.modinfo_pieces.specs.Words.{is_word_byte}
 use Rattle.modinfo_pieces.specs.Literals.{quote_close, string_step}
 use Rattle.modinfo_pieces.specs.Steps.{Closes}
+use Rattle.modinfo_pieces.specs.declared.piece.PieceKind.{PieceKind}
 use Rattle.modinfo_pieces.specs.declared.piece.PieceKind.TheVariants as kinds
 use Rattle.modinfo_pieces.specs.declared.piece.PieceKind.TheVariants.{Punctuation}
 use Rattle.modinfo_pieces.specs.declared.place.Before.{Before}
@@ -243,7 +244,7 @@ brace-of openings.Angle is = cc
 brace-of openings.Element is = cc
 
 -- What is taken away is the innermost opening.
-closed-popped : (test : Opening → Bool) (popped : Option Opening) (around rest : List Opening)
+pub closed-popped : (test : Opening → Bool) (popped : Option Opening) (around rest : List Opening)
     → MatchOption popped ((around ≡ []) × (rest ≡ [])) (λ opening. around ≡ opening ∷ rest)
     → test openings.Program ≡ false → test (innermost around) ≡ true → closed test around ≡ Some rest
 closed-popped test None around rest was outside is =
@@ -410,16 +411,15 @@ quote-code openings.ClosingTag before is = cc
 quote-code openings.Angle before is = cc
 quote-code openings.Element before is = cc
 
-abbrev is_quote : ℕ → Bool
+abbrev pub is_quote : ℕ → Bool
 is_quote byte = (byte == 34) || (byte == 39)
 
-kind-of_string : (text : List ℕ) (plain : Plain) (around : List Opening) (quote : ℕ)
-    → slice_index text plain.at ≡ quote → quote < 256 → is_quote quote ≡ true → is_code (innermost around) ≡
-    true
-    → is_element (innermost around) ≡ false → kinds.String ≡ kind_at text plain.at (plain_context plain
-    around)
+pub kind-of_string : (kind : PieceKind) (text : List ℕ) (plain : Plain) (around : List Opening) (quote : ℕ)
+    → slice_index text plain.at ≡ quote → quote < 256 → is_quote quote ≡ true
+    → kind_of_quote (innermost around) plain.before ≡ kind → is_element (innermost around) ≡ false
+    → kind ≡ kind_at text plain.at (plain_context plain around)
 unfolding kind_at kind_in_code kind_of_punctuation agree_below is_word_byte
-kind-of_string text plain around quote is less is_a_quote code outside =
+kind-of_string kind text plain around quote is less is_a_quote kind_is outside =
     let more = excludes is_quote (λ b. begins_more b || (b == 47)) refl quote less is_a_quote in
     let begins = neither (begins_more quote) (quote == 47) more in
     let word = neither (is_word_byte quote) ((quote == 92) || (is_ascii_space quote || nat_le 128 quote))
@@ -435,7 +435,7 @@ kind-of_string text plain around quote is less is_a_quote code outside =
       space.1,
       begins.1,
       is_a_quote,
-      quote-code (innermost around) plain.before code,
+      kind_is,
     ) refl
 
 pub quote-is : (byte : ℕ) → (byte ≡ 34) ⊎ (byte ≡ 39) → is_quote byte ≡ true
@@ -454,7 +454,8 @@ unfolding sight_of duty_after
 string-turn text plain quote end around parentheses is less is_a_quote code closes on within =
     plain-turn false text plain kinds.String end Value asks.Nothing false around around parentheses parentheses on
     within refl refl (λ context so_far. refl) (λ outside. sym outside)
-    (λ outside past. kind-of_string text plain around quote is less is_a_quote code outside) (rw is closes)
+    (λ outside past. kind-of_string kinds.String text plain around quote is less is_a_quote
+    (quote-code (innermost around) plain.before code) outside) (rw is closes)
     (λ outside. refl) (λ outside. refl) refl refl (λ is_typed watch unclaimed. refl) refl
 
 -- White space is a piece.

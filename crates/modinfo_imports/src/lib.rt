@@ -11,5 +11,6 @@ pub mod nodes;
 pub mod plain;
 pub mod plain_element;
 pub mod plain_piece;
+pub mod plain_tag;
 mod spans;
 pub mod watch;
