@@ -1,5 +1,5 @@
 -- What plain pieces lead to.
-use Rattle.std.proofs.Common.{◌≡◌, ℕ, ◌≤◌, Bool, true, false, not, List, ap, refl, ◌∙◌, arith}
+use Rattle.std.proofs.Common.{◌≡◌, ℕ, ◌≤◌, Bool, false, List, ap, refl, ◌∙◌, arith}
 use Rattle.modinfo_imports.specs.Sights.{watch_of}
 use Rattle.modinfo_imports.specs.declared.duty.Duty.{Duty}
 use Rattle.modinfo_imports.specs.declared.plain.Asked.{Asked}

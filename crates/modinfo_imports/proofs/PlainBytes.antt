@@ -452,8 +452,8 @@ pub string-turn : (text : List ℕ) (plain : Plain) (quote end : ℕ) (around : 
     parentheses parentheses
 unfolding sight_of duty_after
 string-turn text plain quote end around parentheses is less is_a_quote code closes on within =
-    plain-turn false text plain kinds.String end Value asks.Nothing false around around parentheses parentheses on
-    within refl refl (λ context so_far. refl) (λ outside. sym outside)
+    plain-turn false text plain kinds.String end Value asks.Nothing false around around parentheses
+    parentheses on within refl refl (λ context so_far. refl) (λ outside. sym outside)
     (λ outside past. kind-of_string kinds.String text plain around quote is less is_a_quote
     (quote-code (innermost around) plain.before code) outside) (rw is closes)
     (λ outside. refl) (λ outside. refl) refl refl (λ is_typed watch unclaimed. refl) refl

@@ -38,7 +38,8 @@ unfolding sight_of duty_after kind_at around_after_punctuation before_after_punc
 code-turn text plain end around parentheses here =
     plain-turn true text plain Punctuation end Free asks.Nothing false around
     (openings.Brace ∷ around) parentheses parentheses (omega (arith, here.end_is)) here.within refl refl
-    (λ context so_far. refl) (λ inside. refl) (λ inside past. rw (inside, here.byte_is) refl) (ap Some here.end_is)
+    (λ context so_far. refl) (λ inside. refl) (λ inside past. rw (inside, here.byte_is) refl)
+    (ap Some here.end_is)
     (λ inside. rw here.byte_is refl) (λ inside. rw here.byte_is refl) refl (rw here.byte_is refl)
     (λ is_typed watch unclaimed. rw here.byte_is refl) (rw here.byte_is refl)
 
@@ -51,7 +52,8 @@ unfolding sight_of duty_after kind_at around_after_punctuation before_after_punc
 tag-turn text plain end around parentheses here =
     plain-turn true text plain Punctuation end TagOpen asks.Nothing false around
     (openings.Tag ∷ around) parentheses parentheses (omega (arith, here.end_is)) here.within refl refl
-    (λ context so_far. refl) (λ inside. refl) (λ inside past. rw (inside, here.byte_is) refl) (ap Some here.end_is)
+    (λ context so_far. refl) (λ inside. refl) (λ inside past. rw (inside, here.byte_is) refl)
+    (ap Some here.end_is)
     (λ inside. rw (here.byte_is, element-of (innermost around) inside) refl)
     (λ inside. rw (here.byte_is, element-of (innermost around) inside) refl) refl (rw here.byte_is refl)
     (λ is_typed watch unclaimed. rw here.byte_is refl) (rw here.byte_is refl)

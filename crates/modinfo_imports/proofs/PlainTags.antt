@@ -12,14 +12,13 @@ use Rattle.modinfo_imports.specs.declared.plain.Plain.{Plain}
 use Rattle.modinfo_imports.specs.internal.Plains.{IsByteAt, IsPlainTurn, after_token, plain_context}
 use Rattle.modinfo_pieces.specs.Befores.{before_after_punctuation}
 use Rattle.modinfo_pieces.specs.Jsx.{jsx_string_step}
-use Rattle.modinfo_pieces.specs.Kinds.{kind_at, kind_in_code, kind_of_punctuation, kind_of_quote}
+use Rattle.modinfo_pieces.specs.Kinds.{kind_at, kind_in_code, kind_of_punctuation}
 use Rattle.modinfo_pieces.specs.Literals.{quote_close}
 use Rattle.modinfo_pieces.specs.Openings.{around_after_greater, around_after_punctuation, around_after_slash}
 use Rattle.modinfo_pieces.specs.Openings.{innermost, is_element}
 use Rattle.modinfo_pieces.specs.Steps.{Closes}
 use Rattle.modinfo_pieces.specs.Words.{is_word_byte}
 use Rattle.modinfo_pieces.specs.declared.piece.PieceKind.TheVariants.{JsxString, Punctuation}
-use Rattle.modinfo_pieces.specs.declared.place.Before.{Before}
 use Rattle.modinfo_pieces.specs.declared.place.Before.TheVariants.{Equal, TagOpen, TagSlash, Value}
 use Rattle.modinfo_pieces.specs.declared.place.Opening.{Opening}
 use Rattle.modinfo_pieces.specs.declared.place.Opening.TheVariants as openings

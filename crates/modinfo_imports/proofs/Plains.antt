@@ -174,9 +174,9 @@ filed-plain text piece token so_far quiet =
     }) (sym (append-nil so_far.filed)))
 
 -- A turn over a plain token.
-pub plain-turn : (inside : Bool) (text : List ℕ) (plain : Plain) (kind : PieceKind) (end : ℕ) (before : Before) (asked :
-    Asked)
-    (in_element : Bool) (around new_around : List Opening) (parentheses new_parentheses : List Duty)
+pub plain-turn : (inside : Bool) (text : List ℕ) (plain : Plain) (kind : PieceKind) (end : ℕ)
+    (before : Before) (asked : Asked) (in_element : Bool) (around new_around : List Opening)
+    (parentheses new_parentheses : List Duty)
     → plain.at < end → end ≤ length text → is_gap kind ≡ false → is_token kind ≡ true
     → ((context : Context) (so_far : SoFar)
     → so_far_after text context (record { kind = kind; start = plain.at; end = end }) kind so_far
@@ -211,8 +211,8 @@ pub plain-turn : (inside : Bool) (text : List ℕ) (plain : Plain) (kind : Piece
     → IsPlainTurnIn inside text plain (after_token plain kind end before asked in_element) around new_around
     parentheses
     new_parentheses
-plain-turn inside text plain kind end before asked in_element around new_around parentheses new_parentheses on within
-    no_gap is_a_token filed in_is is_kind has_end around_is before_is after_is no_star duty_is
+plain-turn inside text plain kind end before asked in_element around new_around parentheses new_parentheses on
+    within no_gap is_a_token filed in_is is_kind has_end around_is before_is after_is no_star duty_is
     parentheses_is = record {
       goes_on = on;
       keeps = λ is_none. absurd (true≢false (sym is_a_token ∙ is_none));
@@ -275,9 +275,8 @@ pub word-turn : (text : List ℕ) (plain : Plain) (end : ℕ) (before : Before) 
     parentheses
 unfolding sight_of duty_after kind_at kind_in_code
 word-turn text plain end before asked around parentheses is_word ends on within before_is duty_is =
-    plain-turn false text plain kinds.Word end before asked false around around parentheses parentheses on within
-    refl
-    refl (λ context so_far. refl) (λ outside. sym outside)
+    plain-turn false text plain kinds.Word end before asked false around around parentheses parentheses on
+    within refl refl (λ context so_far. refl) (λ outside. sym outside)
     (λ outside past. rw (outside, is_word) refl) (record { inside = end; ends = ends; is = refl })
     (λ outside. refl) (λ outside. before_is) refl refl
     (λ is_typed watch unclaimed. rw unclaimed (duty_is _ _ _ _ _ _)) refl

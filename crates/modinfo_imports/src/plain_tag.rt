@@ -40,11 +40,7 @@ use std::alloc::AllocError;
 
 /// Returns the place after a `>` that ends a tag.
 #[inline(always)]
-pub fn end_tag(
-    plain: Plain,
-    end: usize,
-    around: &mut Openings,
-) -> Result<Option<Plain>, AllocError>
+pub fn end_tag(plain: Plain, end: usize, around: &mut Openings) -> Result<Option<Plain>, AllocError>
     ensures { (text : List ℕ) (parentheses : List Duty) → IsByteAt text plain 62 end → IfOk result (λ next.
         MatchOption next (around.new ≡ around.old) (λ next.
         IsPlainTurn text plain next around.old around.new parentheses parentheses)) }

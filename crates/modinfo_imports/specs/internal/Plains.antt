@@ -179,8 +179,8 @@ pub record IsPlainTurnIn (in_element : Bool) (text : List ℕ) (plain next : Pla
   pub keeps : is_token next.kind ≡ false → (is_token plain.kind ≡ false) × (next.asked ≡ plain.asked)
   pub is_plain : IsPlain plain around → plain.in_element ≡ in_element → IsPlain next new_around
   pub is_turn : (is_typed : Bool) (choices : List Choice) (watch : Watch) (so_far : SoFar)
-      → IsPlain plain around → plain.in_element ≡ in_element → IsUnmet plain.at choices watch.claims watch.marks
-      → IsQuiet so_far
+      → IsPlain plain around → plain.in_element ≡ in_element
+      → IsUnmet plain.at choices watch.claims watch.marks → IsQuiet so_far
       → IsTurn text is_typed (place_at plain around choices) (place_at next new_around choices)
       (watch_at text plain parentheses watch) (watch_at text next new_parentheses watch)
       (so_far_at plain so_far) (so_far_at next so_far)

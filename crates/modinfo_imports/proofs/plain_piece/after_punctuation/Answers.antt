@@ -1,4 +1,4 @@
-use Rattle.std.proofs.Common.{arith, ◌≡◌, ℕ, List, MatchOption, IfSome, None, Option, Some, refl, subst}
+use Rattle.std.proofs.Common.{arith, ◌≡◌, ℕ, List, refl, subst}
 use Rattle.modinfo_imports.proofs.PlainBytes.{free-bytes, more_free-bytes}
 use Rattle.modinfo_imports.proofs.PlainElements.{both_kept, some_kept}
 use Rattle.modinfo_imports.proofs.plain_piece.after_punctuation.Goals as goal

@@ -1,4 +1,3 @@
-use Rattle.std.proofs.Common.{◌∙◌}
 use Rattle.modinfo_imports.proofs.PlainTags.{first_tag-turn}
 use Rattle.modinfo_imports.proofs.plain_tag.end_first_tag.Goals as goal
 
