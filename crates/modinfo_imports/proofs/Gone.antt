@@ -1,11 +1,11 @@
 -- What plain pieces lead to.
-use Rattle.std.proofs.Common.{◌≡◌, ℕ, ◌≤◌, Bool, true, false, not, List, ap, refl, ◌∙◌, arith}
+use Rattle.std.proofs.Common.{◌≡◌, ℕ, ◌≤◌, Bool, false, List, ap, refl, ◌∙◌, arith}
 use Rattle.modinfo_imports.specs.Sights.{watch_of}
 use Rattle.modinfo_imports.specs.declared.duty.Duty.{Duty}
 use Rattle.modinfo_imports.specs.declared.plain.Asked.{Asked}
 use Rattle.modinfo_imports.specs.declared.plain.Plain.{Plain}
 use Rattle.modinfo_imports.specs.declared.watch.Seen.{Seen}
-use Rattle.modinfo_imports.specs.internal.Plains.{IsPlain, IsPlainTurn, IsUnmet, Turns, duty_of, place_at}
+use Rattle.modinfo_imports.specs.internal.Plains.{IsPlain, IsPlainTurnIn, IsUnmet, Turns, duty_of, place_at}
 use Rattle.modinfo_imports.specs.internal.Plains.{so_far_at, watch_at}
 use Rattle.modinfo_imports.specs.internal.Plains.Turns.{more, none}
 use Rattle.modinfo_pieces.specs.Filed.{is_token}
@@ -33,18 +33,16 @@ pub IsGone-more : (text : List ℕ) (spot : Spot) (seen : Seen) (around : List O
     (parentheses : List Duty) (so_far : SoFar) (plain next : Plain) (now_around new_around : List Opening)
     (now_parentheses new_parentheses : List Duty)
     → IsGone text spot seen around parentheses so_far plain now_around now_parentheses
-    → IsPlainTurn text plain next now_around new_around now_parentheses new_parentheses
-    → plain.in_element ≡ false → IsUnmet plain.at spot.choices.now seen.claims.now seen.marks.now → IsQuiet
-    so_far
+    → IsPlainTurnIn plain.in_element text plain next now_around new_around now_parentheses new_parentheses
+    → IsUnmet plain.at spot.choices.now seen.claims.now seen.marks.now → IsQuiet so_far
     → IsGone text spot seen around parentheses so_far next new_around new_parentheses
 IsGone-more text spot seen around parentheses so_far plain next now_around new_around now_parentheses
-    new_parentheses gone turn outside unmet quiet = record {
+    new_parentheses gone turn unmet quiet = record {
       on = omega (arith, gone.on, turn.goes_on);
-      is_plain = turn.is_plain gone.is_plain outside;
+      is_plain = turn.is_plain gone.is_plain refl;
       keeps = λ is_none. ap duty_of (turn.keeps is_none).1 ∙ gone.keeps (turn.keeps is_none).0;
       turns = λ is_typed. more (gone.turns is_typed)
-          (turn.is_turn is_typed spot.choices.now (watch_of seen parentheses) so_far gone.is_plain outside
-          unmet
+          (turn.is_turn is_typed spot.choices.now (watch_of seen parentheses) so_far gone.is_plain refl unmet
           quiet);
     }
 
@@ -81,7 +79,3 @@ pub Turns-gone : (text : List ℕ) (spot : Spot) (seen : Seen) (around : List Op
     (watch_of after now_parentheses) new
 Turns-gone text spot seen around parentheses so_far new plain now_around now_parentheses next after gone
     place_is watch_is filing_is is_typed = rw (place_is, watch_is gone.keeps, filing_is) (gone.turns is_typed)
-
-pub unset : (one : Bool) → not one ≡ true → one ≡ false
-unset false is = refl
-unset true is = cc

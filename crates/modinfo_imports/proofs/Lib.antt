@@ -2,6 +2,8 @@ pub mod ClaimedPieces
 pub mod Walks
 pub mod Plains
 pub mod PlainBytes
+pub mod PlainElements
+pub mod PlainTags
 pub mod Gaps
 pub mod Gone
 pub mod Ordinary

@@ -27,6 +27,7 @@ use Rattle.modinfo_pieces.specs.Spaces.{is_ascii_space, space_size}
 use Rattle.modinfo_pieces.specs.Words.{is_word_byte}
 use Rattle.modinfo_pieces.specs.Literals.{quote_close, string_step}
 use Rattle.modinfo_pieces.specs.Steps.{Closes}
+use Rattle.modinfo_pieces.specs.declared.piece.PieceKind.{PieceKind}
 use Rattle.modinfo_pieces.specs.declared.piece.PieceKind.TheVariants as kinds
 use Rattle.modinfo_pieces.specs.declared.piece.PieceKind.TheVariants.{Punctuation}
 use Rattle.modinfo_pieces.specs.declared.place.Before.{Before}
@@ -125,9 +126,10 @@ pub byte-turn : (text : List ℕ) (plain : Plain) (byte end : ℕ) (before : Bef
 unfolding sight_of duty_after
 byte-turn text plain byte end before in_element around new_around parentheses new_parentheses at kind_is in_is
     around_is before_is star method parentheses_is =
-    plain-turn text plain Punctuation end before asks.Nothing in_element around new_around parentheses
+    plain-turn false text plain Punctuation end before asks.Nothing in_element around new_around parentheses
     new_parentheses (omega (arith, at.end_is)) at.within refl refl (λ context so_far. refl) in_is kind_is
-    (ap Some at.end_is) (rw at.byte_is around_is) (rw at.byte_is before_is) refl (rw at.byte_is star)
+    (ap Some at.end_is) (λ outside. rw at.byte_is around_is) (λ outside. rw at.byte_is before_is) refl
+    (rw at.byte_is star)
     (λ is_typed watch unclaimed. rw (at.byte_is, method) refl) (rw at.byte_is parentheses_is)
 
 -- A byte that changes an opening or a parenthesis, or that a duty asks for.
@@ -242,7 +244,7 @@ brace-of openings.Angle is = cc
 brace-of openings.Element is = cc
 
 -- What is taken away is the innermost opening.
-closed-popped : (test : Opening → Bool) (popped : Option Opening) (around rest : List Opening)
+pub closed-popped : (test : Opening → Bool) (popped : Option Opening) (around rest : List Opening)
     → MatchOption popped ((around ≡ []) × (rest ≡ [])) (λ opening. around ≡ opening ∷ rest)
     → test openings.Program ≡ false → test (innermost around) ≡ true → closed test around ≡ Some rest
 closed-popped test None around rest was outside is =
@@ -409,16 +411,15 @@ quote-code openings.ClosingTag before is = cc
 quote-code openings.Angle before is = cc
 quote-code openings.Element before is = cc
 
-abbrev is_quote : ℕ → Bool
+abbrev pub is_quote : ℕ → Bool
 is_quote byte = (byte == 34) || (byte == 39)
 
-kind-of_string : (text : List ℕ) (plain : Plain) (around : List Opening) (quote : ℕ)
-    → slice_index text plain.at ≡ quote → quote < 256 → is_quote quote ≡ true → is_code (innermost around) ≡
-    true
-    → is_element (innermost around) ≡ false → kinds.String ≡ kind_at text plain.at (plain_context plain
-    around)
+pub kind-of_string : (kind : PieceKind) (text : List ℕ) (plain : Plain) (around : List Opening) (quote : ℕ)
+    → slice_index text plain.at ≡ quote → quote < 256 → is_quote quote ≡ true
+    → kind_of_quote (innermost around) plain.before ≡ kind → is_element (innermost around) ≡ false
+    → kind ≡ kind_at text plain.at (plain_context plain around)
 unfolding kind_at kind_in_code kind_of_punctuation agree_below is_word_byte
-kind-of_string text plain around quote is less is_a_quote code outside =
+kind-of_string kind text plain around quote is less is_a_quote kind_is outside =
     let more = excludes is_quote (λ b. begins_more b || (b == 47)) refl quote less is_a_quote in
     let begins = neither (begins_more quote) (quote == 47) more in
     let word = neither (is_word_byte quote) ((quote == 92) || (is_ascii_space quote || nat_le 128 quote))
@@ -434,7 +435,7 @@ kind-of_string text plain around quote is less is_a_quote code outside =
       space.1,
       begins.1,
       is_a_quote,
-      quote-code (innermost around) plain.before code,
+      kind_is,
     ) refl
 
 pub quote-is : (byte : ℕ) → (byte ≡ 34) ⊎ (byte ≡ 39) → is_quote byte ≡ true
@@ -451,11 +452,11 @@ pub string-turn : (text : List ℕ) (plain : Plain) (quote end : ℕ) (around : 
     parentheses parentheses
 unfolding sight_of duty_after
 string-turn text plain quote end around parentheses is less is_a_quote code closes on within =
-    plain-turn text plain kinds.String end Value asks.Nothing false around around parentheses parentheses on
-    within refl refl (λ context so_far. refl) (λ outside. sym outside)
-    (λ outside past. kind-of_string text plain around quote is less is_a_quote code outside) (rw is closes)
-    refl
-    refl refl refl (λ is_typed watch unclaimed. refl) refl
+    plain-turn false text plain kinds.String end Value asks.Nothing false around around parentheses
+    parentheses on within refl refl (λ context so_far. refl) (λ outside. sym outside)
+    (λ outside past. kind-of_string kinds.String text plain around quote is less is_a_quote
+    (quote-code (innermost around) plain.before code) outside) (rw is closes)
+    (λ outside. refl) (λ outside. refl) refl refl (λ is_typed watch unclaimed. refl) refl
 
 -- White space is a piece.
 pub kind-of_space : (text : List ℕ) (plain : Plain) (around : List Opening)

@@ -18,8 +18,8 @@ use Rattle.modinfo_imports.specs.declared.keyword.Keyword.TheVariants as keyword
 use Rattle.modinfo_imports.specs.declared.plain.Asked.{Asked}
 use Rattle.modinfo_imports.specs.declared.plain.Asked.TheVariants as asks
 use Rattle.modinfo_imports.specs.declared.plain.Plain.{Plain}
-use Rattle.modinfo_imports.specs.internal.Plains.{IsPlainTurn, after_token, duty_of, place_at, plain_context}
-use Rattle.modinfo_imports.specs.internal.Plains.{Turns, so_far_at, token_at, watch_at}
+use Rattle.modinfo_imports.specs.internal.Plains.{IsPlainTurn, IsPlainTurnIn, after_token, duty_of, place_at}
+use Rattle.modinfo_imports.specs.internal.Plains.{Turns, plain_context, so_far_at, token_at, watch_at}
 use Rattle.modinfo_imports.specs.internal.Plains.Turns.{more, none}
 use Rattle.modinfo_pieces.specs.Ends.{HasEnd}
 use Rattle.modinfo_pieces.specs.Filed.{is_token}
@@ -174,23 +174,24 @@ filed-plain text piece token so_far quiet =
     }) (sym (append-nil so_far.filed)))
 
 -- A turn over a plain token.
-pub plain-turn : (text : List ℕ) (plain : Plain) (kind : PieceKind) (end : ℕ) (before : Before) (asked :
-    Asked)
-    (in_element : Bool) (around new_around : List Opening) (parentheses new_parentheses : List Duty)
+pub plain-turn : (inside : Bool) (text : List ℕ) (plain : Plain) (kind : PieceKind) (end : ℕ)
+    (before : Before) (asked : Asked) (in_element : Bool) (around new_around : List Opening)
+    (parentheses new_parentheses : List Duty)
     → plain.at < end → end ≤ length text → is_gap kind ≡ false → is_token kind ≡ true
     → ((context : Context) (so_far : SoFar)
     → so_far_after text context (record { kind = kind; start = plain.at; end = end }) kind so_far
     ≡ with_token text (record { kind = kind; start = plain.at; end = end }) so_far)
-    → (is_element (innermost around) ≡ false → in_element ≡ is_element (innermost new_around))
-    → (is_element (innermost around) ≡ false → 4 ≤ plain.at
+    → (is_element (innermost around) ≡ inside → in_element ≡ is_element (innermost new_around))
+    → (is_element (innermost around) ≡ inside → 4 ≤ plain.at
     → kind ≡ kind_at text plain.at (plain_context plain around))
     → HasEnd text plain.at kind (Some end)
+    → (is_element (innermost around) ≡ inside
     → around_after text (record { kind = kind; start = plain.at; end = end }) kind (plain_context plain
     around)
-    around ≡ Some new_around
-    → before
+    around ≡ Some new_around)
+    → (is_element (innermost around) ≡ inside → before
     ≡ before_after text (record { kind = kind; start = plain.at; end = end }) kind (plain_context plain
-    around)
+    around))
     → false ≡ line_end_after text (record { kind = kind; start = plain.at; end = end }) kind
     plain.is_after_line_end
     → is_byte (codes "*") (sight_of text (record { kind = kind; start = plain.at; end = end }) kind) ≡ false
@@ -207,11 +208,11 @@ pub plain-turn : (text : List ℕ) (plain : Plain) (kind : PieceKind) (end : ℕ
     → parentheses_after (sight_of text (record { kind = kind; start = plain.at; end = end }) kind)
     duties.Nothing
     parentheses ≡ new_parentheses
-    → IsPlainTurn text plain (after_token plain kind end before asked in_element) around new_around
+    → IsPlainTurnIn inside text plain (after_token plain kind end before asked in_element) around new_around
     parentheses
     new_parentheses
-plain-turn text plain kind end before asked in_element around new_around parentheses new_parentheses on within
-    no_gap is_a_token filed in_is is_kind has_end around_is before_is after_is no_star duty_is
+plain-turn inside text plain kind end before asked in_element around new_around parentheses new_parentheses on
+    within no_gap is_a_token filed in_is is_kind has_end around_is before_is after_is no_star duty_is
     parentheses_is = record {
       goes_on = on;
       keeps = λ is_none. absurd (true≢false (sym is_a_token ∙ is_none));
@@ -225,8 +226,9 @@ plain-turn text plain kind end before asked in_element around new_around parenth
           record {
             piece = piece;
             is_next = next-plain text plain around new_around choices kind end before false unmet.unchosen
-                (is_kind (sym right.in_element ∙ outside) right.is_past) has_end on within around_is
-                before_is after_is;
+                (is_kind (sym right.in_element ∙ outside) right.is_past) has_end on within
+                (around_is (sym right.in_element ∙ outside)) (before_is (sym right.in_element ∙ outside))
+                after_is;
             is_seen = rw (context-unchosen plain around choices unmet.unchosen)
                 (seen-plain text is_typed plain (after_token plain kind end before asked in_element)
                 (plain_context plain around) piece parentheses new_parentheses watch no_gap is_a_token refl
@@ -273,11 +275,10 @@ pub word-turn : (text : List ℕ) (plain : Plain) (end : ℕ) (before : Before) 
     parentheses
 unfolding sight_of duty_after kind_at kind_in_code
 word-turn text plain end before asked around parentheses is_word ends on within before_is duty_is =
-    plain-turn text plain kinds.Word end before asked false around around parentheses parentheses on within
-    refl
-    refl (λ context so_far. refl) (λ outside. sym outside)
-    (λ outside past. rw (outside, is_word) refl) (record { inside = end; ends = ends; is = refl }) refl
-    before_is refl refl
+    plain-turn false text plain kinds.Word end before asked false around around parentheses parentheses on
+    within refl refl (λ context so_far. refl) (λ outside. sym outside)
+    (λ outside past. rw (outside, is_word) refl) (record { inside = end; ends = ends; is = refl })
+    (λ outside. refl) (λ outside. before_is) refl refl
     (λ is_typed watch unclaimed. rw unclaimed (duty_is _ _ _ _ _ _)) refl
 
 -- A turn over white space.

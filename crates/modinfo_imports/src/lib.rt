@@ -9,6 +9,8 @@ pub mod find;
 pub mod keyword;
 pub mod nodes;
 pub mod plain;
+pub mod plain_element;
 pub mod plain_piece;
+pub mod plain_tag;
 mod spans;
 pub mod watch;

@@ -24,7 +24,8 @@ ghost use Rattle.modinfo_pieces.specs.declared.place.Opening.{Opening};
 
 use crate::claims::Mark;
 use crate::duty::{Duty, Parentheses};
-use crate::plain_piece::{is_element, line_end_after, next_plain};
+use crate::plain_element::{is_element, next_plain};
+use crate::plain_piece::line_end_after;
 use crate::watch::{Seen, last_of};
 use modinfo_pieces::befores::before_after_gap;
 use modinfo_pieces::bytes::byte_at;
@@ -160,7 +161,7 @@ fn go_over_quiet<'a>(
     };
     let until = quiet_end(text.len(), spot.choices, seen.claims, seen.marks);
     let mut plain = plain_at(spot, asked, around);
-    'plain: while plain.at < until && !plain.in_element {
+    'plain: while plain.at < until {
         let Some(next) = next_plain(text, plain, around, parentheses)? else {
             break;
         };

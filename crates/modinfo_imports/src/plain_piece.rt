@@ -50,6 +50,8 @@ ghost use Rattle.modinfo_pieces.specs.declared.place.Opening.{Opening};
 use crate::duty::{Duty, Parentheses};
 use crate::keyword::{Keyword, keyword_of};
 use crate::plain::{Asked, Plain};
+use crate::plain_element::is_element;
+use crate::plain_tag::{after_attribute, after_slash, end_tag};
 use crate::watch::{is_brace, is_member};
 use modinfo_pieces::befores::{
     before_after_bang, before_after_dot, before_after_gap, before_after_minus,
@@ -66,9 +68,9 @@ use modinfo_pieces::scan::words::word_end;
 use modinfo_pieces::word_classes::class_after;
 use std::alloc::AllocError;
 
-/// Returns the place after the plain piece at a place, if there is one.
+/// Returns the place after the plain piece at a place outside of an element's text, if there is one.
 #[inline(always)]
-pub fn next_plain(
+pub fn next_in_code(
     text: &[u8],
     plain: Plain,
     around: &mut Openings,
@@ -123,14 +125,15 @@ fn after_punctuation(
         b'{' => Ok(Some(open_brace(plain, end, around)?)),
         b'}' => Ok(close_brace(plain, end, around)),
         b'"' | b'\'' => Ok(after_string(text, plain, byte, around)),
-        b'<' | b'>' => Ok(after_angle(plain, byte, end, around)),
+        b'<' | b'>' => Ok(after_angle(plain, byte, end, around)?),
+        b'/' => Ok(after_slash(text, plain, end, around)?),
         _ => Ok(None),
     }
 }
 
 /// Returns the place after a token that asks for this duty.
 #[inline(always)]
-fn after_token(
+pub fn after_token(
     plain: Plain,
     kind: PieceKind,
     end: usize,
@@ -301,7 +304,7 @@ pub fn line_end_after(text: &[u8], from: usize, end: usize, is_after_line_end: b
     is_after_line_end || has_line_end(text, from, end)
 }
 
-/// Returns the place after the string at a place, outside of tags.
+/// Returns the place after the string at a place.
 #[inline(always)]
 fn after_string(text: &[u8], plain: Plain, quote: u8, around: &Openings) -> Option<Plain>
     ensures { slice_index text.now plain.at ≡ quote → (quote ≡ 34) ⊎ (quote ≡ 39)
@@ -309,8 +312,12 @@ fn after_string(text: &[u8], plain: Plain, quote: u8, around: &Openings) -> Opti
         → IfSome result (λ next.
         IsPlainTurn text.now plain next around.now around.now parentheses parentheses) }
 {
-    if plain.at >= text.len() || !is_code(around.innermost()) {
+    if plain.at >= text.len() {
         return None;
+    }
+    let inside = around.innermost();
+    if !is_code(inside) {
+        return after_attribute(text, plain, quote, inside);
     }
     let end = string_end(text, plain.at + 1, quote)?;
     if end <= plain.at || end > text.len() {
@@ -344,24 +351,32 @@ fn after_byte(plain: Plain, end: usize, before: Before) -> Plain
     )
 }
 
-/// Returns the place after a `<` or a `>` outside of tags.
+/// Returns the place after a `<` or a `>` outside of tags, or after a `>` that ends a tag.
 #[inline(always)]
-fn after_angle(plain: Plain, byte: u8, end: usize, around: &Openings) -> Option<Plain>
+fn after_angle(
+    plain: Plain,
+    byte: u8,
+    end: usize,
+    around: &mut Openings,
+) -> Result<Option<Plain>, AllocError>
     ensures { (text : List ℕ) (parentheses : List Duty) → IsByteAt text plain byte end
-        → (byte ≡ 60) ⊎ (byte ≡ 62)
-        → IfSome result (λ next. IsPlainTurn text plain next around.now around.now parentheses parentheses) }
+        → (byte ≡ 60) ⊎ (byte ≡ 62) → IfOk result (λ next. MatchOption next (around.new ≡ around.old) (λ next.
+        IsPlainTurn text plain next around.old around.new parentheses parentheses)) }
 {
-    if !is_code(around.innermost()) {
-        return None;
+    if is_code(around.innermost()) {
+        return Ok(Some(after_token(
+            plain,
+            PieceKind::Punctuation,
+            end,
+            Before::Free,
+            Asked::Nothing,
+            false,
+        )));
     }
-    Some(after_token(
-        plain,
-        PieceKind::Punctuation,
-        end,
-        Before::Free,
-        Asked::Nothing,
-        false,
-    ))
+    if byte == b'>' {
+        return end_tag(plain, end, around);
+    }
+    Ok(None)
 }
 
 /// Returns the place after a `(`.
@@ -461,17 +476,6 @@ fn is_parenthesis(inside: Opening) -> bool
 {
     match inside {
         Opening::Parenthesis | Opening::HeadParenthesis => true,
-        _ => false,
-    }
-}
-
-/// Returns whether an opening is that of an element's text.
-#[inline(always)]
-pub fn is_element(inside: Opening) -> bool
-    ensures { result ≡ is_element inside }
-{
-    match inside {
-        Opening::Element => true,
         _ => false,
     }
 }

@@ -172,18 +172,22 @@ pub record IsPlain (plain : Plain) (around : List Opening) : Type 0 where
   pub is_past : 4 ≤ plain.at
   pub in_element : plain.in_element ≡ is_element (innermost around)
 
--- A plain piece leads from a place outside of an element's text to another.
-pub record IsPlainTurn (text : List ℕ) (plain next : Plain) (around new_around : List Opening)
-    (parentheses new_parentheses : List Duty) : Type 0 where
+-- A plain piece leads from a place, inside or outside of an element's text, to another.
+pub record IsPlainTurnIn (in_element : Bool) (text : List ℕ) (plain next : Plain)
+    (around new_around : List Opening) (parentheses new_parentheses : List Duty) : Type 0 where
   pub goes_on : plain.at < next.at
   pub keeps : is_token next.kind ≡ false → (is_token plain.kind ≡ false) × (next.asked ≡ plain.asked)
-  pub is_plain : IsPlain plain around → plain.in_element ≡ false → IsPlain next new_around
+  pub is_plain : IsPlain plain around → plain.in_element ≡ in_element → IsPlain next new_around
   pub is_turn : (is_typed : Bool) (choices : List Choice) (watch : Watch) (so_far : SoFar)
-      → IsPlain plain around → plain.in_element ≡ false → IsUnmet plain.at choices watch.claims watch.marks
-      → IsQuiet so_far
+      → IsPlain plain around → plain.in_element ≡ in_element
+      → IsUnmet plain.at choices watch.claims watch.marks → IsQuiet so_far
       → IsTurn text is_typed (place_at plain around choices) (place_at next new_around choices)
       (watch_at text plain parentheses watch) (watch_at text next new_parentheses watch)
       (so_far_at plain so_far) (so_far_at next so_far)
+
+-- A plain piece leads from a place outside of an element's text to another.
+abbrev pub IsPlainTurn : List ℕ → Plain → Plain → List Opening → List Opening → List Duty → List Duty → Type 0
+IsPlainTurn = IsPlainTurnIn false
 
 -- A byte is at a place, and the text doesn't end before it.
 pub record IsByteAt (text : List ℕ) (plain : Plain) (byte end : ℕ) : Type 0 where

@@ -1,8 +1,8 @@
 use Rattle.std.proofs.Common.{◌≤◌, ℕ, ap, subst, sym}
-use Rattle.modinfo_imports.proofs.Gone.{IsGone, IsGone-more, IsGone-none, Turns-gone, unset}
+use Rattle.modinfo_imports.proofs.Gone.{IsGone, IsGone-more, IsGone-none, Turns-gone}
 use Rattle.modinfo_imports.proofs.plain.go_over_quiet.Goals as goal
-use Rattle.modinfo_imports.proofs.plain.go_over_quiet.Goals.{else-plain-test, then-plain-test+else-not-plain}
-use Rattle.modinfo_imports.proofs.plain.go_over_quiet.Goals.{then-plain-test+then-not-plain+in_ok-next+in_default-2}
+use Rattle.modinfo_imports.proofs.plain.go_over_quiet.Goals.{else-plain-test}
+use Rattle.modinfo_imports.proofs.plain.go_over_quiet.Goals.{then-plain-test+in_ok-next+in_default-2}
 use Rattle.modinfo_imports.specs.internal.Plains.Turns.{none}
 use Rattle.modinfo_pieces.specs.Places.{Place}
 
@@ -19,7 +19,7 @@ pub plain-preserved : goal.plain-preserved
 plain-preserved c =
     IsGone-more c.args.text.now c.args.spot c.args.seen c.args.around.now c.args.parentheses.now
     c.args.filing.now c.plain.plain c.in-Some-2.next c.plain.around _ c.plain.parentheses _ c.plain.invariant
-    (rw c.in-Some-2.is at c.in_ok-next.ensures) (unset c.plain.plain.in_element c.if-not-plain.true)
+    (rw c.in-Some-2.is at c.in_ok-next.ensures)
     (c.quiet_end-until.ensures.unmet c.plain.plain.at c.plain-test.true)
     (c.is_quiet.ensures c.if-not-is_quiet.false)
 
@@ -27,9 +27,8 @@ gone : (c : goal.After-leave)
     → IsGone c.args.text.now c.args.spot c.args.seen c.args.around.now c.args.parentheses.now
     c.args.filing.now c.plain.plain c.plain-test.around c.plain-test.parentheses
 gone c = elim c.plain-test.branch [
-  | then-plain-test+else-not-plain w ↦ rw (w.around-is, w.parentheses-is) c.plain.invariant
   | else-plain-test w ↦ rw (w.around-is, w.parentheses-is) c.plain.invariant
-  | then-plain-test+then-not-plain+in_ok-next+in_default-2 w ↦
+  | then-plain-test+in_ok-next+in_default-2 w ↦
       let kept = rw w.in_default-2.is at w.in_ok-next.ensures in
       rw (w.around-is, w.parentheses-is, kept.0, kept.1) c.plain.invariant
 ]

@@ -1,19 +1,10 @@
-use Rattle.std.proofs.Common.{arith, ◌≡◌, ℕ, List, MatchOption, IfSome, None, Option, Some, refl, subst}
+use Rattle.std.proofs.Common.{arith, ◌≡◌, ℕ, List, refl, subst}
 use Rattle.modinfo_imports.proofs.PlainBytes.{free-bytes, more_free-bytes}
+use Rattle.modinfo_imports.proofs.PlainElements.{both_kept, some_kept}
 use Rattle.modinfo_imports.proofs.plain_piece.after_punctuation.Goals as goal
 use Rattle.modinfo_imports.specs.declared.plain.Plain.{Plain}
 use Rattle.modinfo_imports.specs.internal.Plains.{IsByteAt, plain_context}
 use Rattle.modinfo_pieces.specs.Befores.{before_after_punctuation}
-
-some_kept : {A : Type 0} (found : Option A) (Kept : Type 0) (Is : A → Type 0) → Kept → IfSome found Is
-    → MatchOption found Kept Is
-some_kept None Kept Is kept is = kept
-some_kept (Some found) Kept Is kept is = is
-
-both_kept : {A : Type 0} (found : Option A) (Kept Also : Type 0) (Is : A → Type 0) → Also
-    → MatchOption found Kept Is → MatchOption found (Kept × Also) Is
-both_kept None Kept Also Is also is = (is, also)
-both_kept (Some found) Kept Also Is also is = is
 
 at_byte : (text : List ℕ) (plain : Plain) (byte other end : ℕ) → byte ≡ other → IsByteAt text plain byte end
     → IsByteAt text plain other end
@@ -72,10 +63,16 @@ returns-in-58 c at =
     arith)
     free.0 free.1
 
-pub returns-in-60 : goal.returns-in-60
-returns-in-60 c at =
-    some_kept c.after_angle.result _ _ (refl, refl) (c.after_angle.ensures c.args.text.now
+pub returns-in_ok-after_angle-in-60 : goal.returns-in_ok-after_angle-in-60
+returns-in_ok-after_angle-in-60 c at =
+    both_kept c.in_ok-after_angle-in-60.field-0 _ _ _ refl (c.in_ok-after_angle-in-60.ensures c.args.text.now
     c.args.parentheses.now at c.in-60.is)
+
+pub returns-in_ok-after_slash-in-47 : goal.returns-in_ok-after_slash-in-47
+returns-in_ok-after_slash-in-47 c at =
+    both_kept c.in_ok-after_slash-in-47.field-0 _ _ _ refl
+    (c.in_ok-after_slash-in-47.ensures c.args.parentheses.now
+    (at_byte c.args.text.now c.args.plain c.args.byte 47 c.args.end c.in-47.is at))
 
 pub returns-in-34 : goal.returns-in-34
 returns-in-34 c at =

@@ -1,5 +1,5 @@
 use Rattle.std.proofs.Common.{arith, ◌∙◌, MatchOption, IfSome, None, Option, Some, refl, sym}
-use Rattle.modinfo_imports.proofs.plain_piece.next_plain.Goals as goal
+use Rattle.modinfo_imports.proofs.plain_piece.next_in_code.Goals as goal
 
 some_kept : {A : Type 0} (found : Option A) (Kept : Type 0) (Is : A → Type 0) → Kept → IfSome found Is
     → MatchOption found Kept Is
