@@ -131,9 +131,10 @@ is_of_types (Some forms.Types) = true
 is_of_types _ = false
 
 -- An item begins at an `export` outside of everything, at which a node begins, or at the decorators before.
-abbrev pub begins_item : Opening → Bool → Bool
-begins_item Program is_decorated = not is_decorated
-begins_item inside is_decorated = false
+-- In TypeScript's `[export: string, export: number]` it is a name.
+abbrev pub begins_item : Opening → Bool → ℕ → Bool
+begins_item Program is_decorated last = not (is_decorated || is_one_of (codes "[,") last)
+begins_item inside is_decorated last = false
 
 -- The duty after a word: whether the word is the first of the claims, what the tree says of the word, whether
 -- an item begins if the word is `export`, whether the word is in braces, and may name a method, the duty
@@ -168,8 +169,8 @@ unfoldable pub duty_after : List ℕ → Bool → Context → Piece → PieceKin
 duty_after text is_typed context piece Word watch sight met =
     (if is_listed met then met
     else duty_after_word (keyword_at text context piece watch.last) (is_claimed piece watch.claims)
-    (form_of piece watch.marks) (begins_item context.inside watch.is_decorated) (is_brace context.inside)
-    (may_be_method is_typed context watch.last) watch.duty met)
+    (form_of piece watch.marks) (begins_item context.inside watch.is_decorated watch.last)
+    (is_brace context.inside) (may_be_method is_typed context watch.last) watch.duty met)
 duty_after text is_typed context piece kind watch sight met =
     (if is_byte (codes ")") sight && is_method watch.parentheses then duties.Parameters else met)
 

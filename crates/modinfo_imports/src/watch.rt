@@ -183,7 +183,7 @@ fn duty_after(
                     keyword_at(text, context, piece, seen.last),
                     is_claimed(piece, seen.claims),
                     form_of(piece, seen.marks),
-                    begins_item(context.inside, seen.is_decorated),
+                    begins_item(context.inside, seen.is_decorated, seen.last),
                     is_brace(context.inside),
                     may_be_method(is_typed, context, seen.last),
                     seen.duty,
@@ -276,11 +276,11 @@ fn duty_after_word(
 
 /// Returns whether an item begins at an `export`.
 #[inline(always)]
-fn begins_item(inside: Opening, is_decorated: bool) -> bool
-    ensures { result ≡ begins_item inside is_decorated }
+fn begins_item(inside: Opening, is_decorated: bool, last: u8) -> bool
+    ensures { result ≡ begins_item inside is_decorated last }
 {
     match inside {
-        Opening::Program => !is_decorated,
+        Opening::Program => !(is_decorated || matches!(last, b'[' | b',')),
         _ => false,
     }
 }
