@@ -33,7 +33,7 @@ def files() -> dict[str, str]:
         *("", "/** The kinds of the options in the member `modinfo` of a package.json. */"),
         *("export const PROJECT_OPTIONS: Record<string, string> = {", *of_project, "};"),
         *("", *help_text("FILES_HELP", found["commands"]["files"], groups)),
-        *("", "/** What each help ends with, in which PACKAGE stands for the package of the program. */"),
+        *("", "/** The end of each help. PACKAGE is replaced by the name of the program's package. */"),
         *help_text("PROGRAM_HELP", found["program"], groups),
     ]
     report = [

@@ -91,7 +91,7 @@ file that can't be read or parsed; 2 for a usage error, an entry that can't be r
 
 `;
 
-/** What each help ends with, in which PACKAGE stands for the package of the program. */
+/** The end of each help. PACKAGE is replaced by the name of the program's package. */
 export const PROGRAM_HELP = `The program is that of the package PACKAGE; else what the environment variable MODINFO
 names; else, in the repository, the proved one; else WebAssembly, in threads: --version prints which.
 `;
